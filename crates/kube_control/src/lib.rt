@@ -1,0 +1,19 @@
+//! The controller: it lists and watches objects turn by turn and hands those that are due to a reconciler.
+#![tactic(auto)]
+
+pub mod exchange;
+pub mod reconciler;
+pub mod record;
+pub mod request;
+pub mod turn;
+
+pub use exchange::SourceExchange;
+pub use kube_meta::Action;
+pub use kube_model::call::{Answer, Call};
+pub use kube_model::error::{RunnerError, WriterDropped};
+pub use kube_model::reason::ReconcileReason;
+pub use kube_model::turn::{Shutdown, Stop};
+pub use reconciler::{Handed, Reconciler, Recorder};
+pub use record::{Finished, Taken, Trace, TurnRecord};
+pub use request::ReconcileRequest;
+pub use turn::{Finish, Turn};

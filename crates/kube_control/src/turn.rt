@@ -1,0 +1,29 @@
+//! What a turn is told.
+
+use kube_meta::{Action, List, Moment, ObjectRef, Resource};
+use kube_model::turn::Shutdown;
+
+/// A turn of a controller.
+#[derive(Drop)]
+pub struct Turn<K: Resource, E: Drop> {
+    /// Its moment, at which all its steps are made. It is below 2^63 and never falls.
+    pub at: Moment,
+    /// How often each source may be asked, the root first. A missing budget is 0.
+    pub budget: List<u32>,
+    /// The reconciles that ended, in order.
+    pub finishes: List<Finish<K, E>>,
+    /// Whether every stored object is to be reconciled.
+    pub reload: bool,
+    /// References that are to be reconciled.
+    pub on: List<ObjectRef<K>>,
+    pub shutdown: Shutdown,
+    /// Whether the record shows the store.
+    pub show: bool,
+}
+
+/// A reconcile that ended.
+#[derive(Drop)]
+pub struct Finish<K: Resource, E: Drop> {
+    pub reference: ObjectRef<K>,
+    pub outcome: Result<Action, E>,
+}

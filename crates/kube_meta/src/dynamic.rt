@@ -1,0 +1,74 @@
+//! Objects whose type is known only as the program runs (`kube::core::dynamic`).
+
+ghost use Rattle.std.specs.Prelude.{◌≡◌, refl};
+
+use crate::memory::NoMemory;
+use crate::metadata::ObjectMeta;
+use crate::resource::{Resource, TypeInfo};
+use crate::text::Text;
+use std::alloc::Global;
+use std::sync::Arc;
+
+/// A type of objects (`kube::core::ApiResource`).
+#[derive(Debug, Drop, PartialEq, Eq, Hash)]
+pub struct ApiResource {
+    pub group: Text,
+    pub version: Text,
+    /// The group and the version as an object's `apiVersion` has them.
+    pub api_version: Text,
+    pub kind: Text,
+    pub plural: Text,
+}
+
+impl TypeInfo for Arc<ApiResource> {
+    fn share(&self, _alloc: Global) -> Result<Arc<ApiResource>, NoMemory> {
+        Ok(self.clone()?)
+    }
+}
+
+/// An object of a type that is known only as the program runs.
+#[derive(Debug, Drop)]
+pub struct DynamicObject {
+    pub metadata: ObjectMeta,
+}
+
+impl Resource for DynamicObject {
+    ghost use Rattle.kube_meta.specs.Resources.{resource_type};
+    ghost use Rattle.std.proofs.Common.{rules};
+
+    type DynamicType = Arc<ApiResource>;
+
+    ghost type_of = { λ t. resource_type t.value };
+
+    ghost meta_of = { λ o. o.metadata };
+
+    ghost with_meta = { λ o m. record o { metadata = m } };
+
+    ghost one_type = { Prim.search rules };
+
+    ghost written = { λ o m. refl };
+
+    fn kind(t: &Arc<ApiResource>) -> &str {
+        t.kind.as_str()
+    }
+
+    fn group(t: &Arc<ApiResource>) -> &str {
+        t.group.as_str()
+    }
+
+    fn version(t: &Arc<ApiResource>) -> &str {
+        t.version.as_str()
+    }
+
+    fn plural(t: &Arc<ApiResource>) -> &str {
+        t.plural.as_str()
+    }
+
+    fn meta(&self) -> &ObjectMeta {
+        &self.metadata
+    }
+
+    fn meta_mut(&mut self) -> &mut ObjectMeta {
+        &mut self.metadata
+    }
+}

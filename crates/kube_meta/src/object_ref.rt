@@ -1,0 +1,281 @@
+//! References to objects (kube-runtime's `reflector::object_ref`).
+
+ghost use Rattle.std.specs.Prelude.{◌≡◌, Some, None, IfOk, IfErr, IsErrOf, ◌↔◌, false, true, option_copied};
+ghost use Rattle.kube_meta.specs.Keys.{reference_of, is_named, key_of, extra_of};
+
+use crate::memory::NoMemory;
+use crate::resource::{Resource, TypeInfo};
+use crate::text::{Text, copy_option};
+use std::alloc::Global;
+use std::fmt;
+use std::hash::{Hash, Hasher};
+use thiserror::Error;
+
+/// Why no reference can be made to an object.
+#[derive(Clone, Copy, Debug, PartialEq, Eq, Error)]
+pub enum RefError {
+    #[error("object has no name")]
+    Unnamed,
+    #[error("out of memory")]
+    NoMemory,
+}
+
+impl From<NoMemory> for RefError {
+    ghost use Rattle.std.specs.Prelude.{◌≡◌};
+    ghost use Rattle.kube_meta.specs.declared.object_ref.RefError.TheVariants.{NoMemory};
+
+    ghost from_gives = { λ _ e. e ≡ NoMemory };
+
+    fn from(_error: NoMemory) -> RefError {
+        RefError::NoMemory
+    }
+}
+
+/// What a reference keeps of its object besides, for information: it is not compared.
+#[derive(Debug, Drop)]
+pub struct Extra {
+    pub resource_version: Option<Text>,
+    pub uid: Option<Text>,
+}
+
+impl Extra {
+    /// Nothing.
+    pub fn empty() -> Extra
+        ensures resource_version { result.resource_version ≡ None }
+        ensures uid { result.uid ≡ None }
+    {
+        Extra {
+            resource_version: None,
+            uid: None,
+        }
+    }
+
+    /// Equal texts in memory of their own.
+    pub fn copy(&self, alloc: Global) -> Result<Extra, NoMemory>
+        ensures { IfOk result (λ e. e ≡ self.now) }
+    {
+        Ok(Extra {
+            resource_version: copy_option(alloc, &self.resource_version)?,
+            uid: copy_option(alloc, &self.uid)?,
+        })
+    }
+}
+
+/// A reference to an object, which may be there or not.
+///
+/// Two references are equal where the names of their types, their names and their namespaces are.
+#[derive(Drop)]
+#[derive_where(Debug; K::DynamicType)]
+pub struct ObjectRef<K: Resource> {
+    pub dyntype: K::DynamicType,
+    pub name: Text,
+    pub namespace: Option<Text>,
+    pub extra: Extra,
+}
+
+impl<K: Resource> PartialEq for ObjectRef<K> {
+    ghost use Rattle.std.specs.Cmp.{partial_equiv_from_equiv};
+    ghost use Rattle.kube_meta.specs.Reference.{same_reference};
+    ghost use Rattle.kube_meta.specs.ReferenceLaws.{seen_equiv};
+    ghost use Rattle.kube_meta.specs.Keys.{reference_of};
+
+    ghost eq = { λ a b. same_reference (reference_of K.type_of a) (reference_of K.type_of b) };
+
+    ghost laws = { partial_equiv_from_equiv (seen_equiv (reference_of K.type_of)) };
+
+    fn eq(&self, other: &ObjectRef<K>) -> bool {
+        self.name == other.name
+            && self.namespace == other.namespace
+            && K::group(&self.dyntype) == K::group(&other.dyntype)
+            && K::version(&self.dyntype) == K::version(&other.dyntype)
+            && K::kind(&self.dyntype) == K::kind(&other.dyntype)
+            && K::plural(&self.dyntype) == K::plural(&other.dyntype)
+    }
+}
+
+impl<K: Resource> Eq for ObjectRef<K> {
+    ghost use Rattle.kube_meta.specs.ReferenceLaws.{seen_equiv};
+    ghost use Rattle.kube_meta.specs.Keys.{reference_of};
+
+    ghost laws = { seen_equiv (reference_of K.type_of) };
+}
+
+impl<K: Resource> Hash for ObjectRef<K> {
+    ghost use Rattle.std.specs.Cmp.Rules.{hashing};
+    ghost use Rattle.std.proofs.Common.{rules};
+    ghost use Rattle.kube_meta.specs.Keys.{reference_of, hashed};
+
+    ghost hash_input = { λ r. hashed (reference_of K.type_of r) };
+
+    ghost respects_eq = { Prim.search (hashing, rules) };
+
+    fn hash<H: Hasher>(&self, state: &mut H) {
+        self.name.hash(state);
+        self.namespace.hash(state);
+        K::group(&self.dyntype).hash(state);
+        K::version(&self.dyntype).hash(state);
+        K::kind(&self.dyntype).hash(state);
+        K::plural(&self.dyntype).hash(state);
+    }
+}
+
+impl<K: Resource> fmt::Display for ObjectRef<K> {
+    ghost use Rattle.std.specs.Prelude.{Some};
+    ghost use Rattle.kube_meta.specs.Keys.{reference_of};
+    ghost use Rattle.kube_meta.specs.Reference.{shown};
+
+    ghost output = { λ r. Some (shown (reference_of K.type_of r)) };
+
+    fn fmt<W: fmt::Write>(&self, f: &mut fmt::Formatter<W>) -> fmt::Result {
+        let kind = K::kind(&self.dyntype);
+        let version = K::version(&self.dyntype);
+        let group = K::group(&self.dyntype);
+        let name = self.name.as_str();
+        match &self.namespace {
+            None => write!(f, "{kind}.{version}.{group}/{name}"),
+            Some(namespace) => write!(f, "{kind}.{version}.{group}/{name}.{namespace}"),
+        }
+    }
+}
+
+impl<K: Resource> ObjectRef<K> {
+    /// A reference without a namespace.
+    pub fn new_with(alloc: Global, name: &str, t: K::DynamicType) -> Result<ObjectRef<K>, NoMemory>
+        ensures { IfOk result (λ r. r ≡ record { dyntype = t; name = name.now; namespace = None; extra = record { resource_version = None; uid = None } }) }
+    {
+        Ok(ObjectRef {
+            dyntype: t,
+            name: Text::new(alloc, name)?,
+            namespace: None,
+            extra: Extra::empty(),
+        })
+    }
+
+    /// The reference in this namespace. It is consumed where memory can't be had.
+    pub fn within(self, alloc: Global, namespace: &str) -> Result<ObjectRef<K>, NoMemory>
+        ensures { IfOk result (λ r. r ≡ record self { namespace = Some namespace.now }) }
+    {
+        let ObjectRef {
+            dyntype,
+            name,
+            namespace: _,
+            extra,
+        } = self;
+        Ok(ObjectRef {
+            dyntype,
+            name,
+            namespace: Some(Text::new(alloc, namespace)?),
+            extra,
+        })
+    }
+
+    /// An equal reference in memory of its own.
+    pub fn copy(&self, alloc: Global) -> Result<ObjectRef<K>, NoMemory>
+        ensures reference { IfOk result (λ r. reference_of K.type_of r ≡ reference_of K.type_of self.now) }
+        ensures extra { IfOk result (λ r. r.extra ≡ self.now.extra) }
+    {
+        Ok(ObjectRef {
+            dyntype: self.dyntype.share(alloc)?,
+            name: self.name.copy(alloc)?,
+            namespace: copy_option(alloc, &self.namespace)?,
+            extra: self.extra.copy(alloc)?,
+        })
+    }
+
+    /// The reference of an object, or `Unnamed` where it has no name.
+    pub fn from_obj_with(
+        alloc: Global,
+        object: &K,
+        t: K::DynamicType,
+    ) -> Result<ObjectRef<K>, RefError>
+        ensures named { IfOk result (λ r. is_named (K.meta_of object.now) ≡ true) }
+        ensures reference { IfOk result (λ r. reference_of K.type_of r ≡ key_of (K.type_of t) (K.meta_of object.now)) }
+        ensures extra { IfOk result (λ r. r.extra ≡ extra_of (K.meta_of object.now)) }
+        ensures unnamed { IsErrOf result RefError.Unnamed → is_named (K.meta_of object.now) ≡ false }
+    {
+        object.to_object_ref(alloc, t)
+    }
+}
+
+/// Whether the first is the second without its namespace.
+pub fn is_without_namespace<K: Resource>(a: &ObjectRef<K>, b: &ObjectRef<K>) -> bool {
+    a.namespace == None && a.name == b.name
+}
+
+/// What can be looked up by a reference (kube-runtime's `Lookup`).
+pub trait Lookup: Resource {
+    /// The object's name.
+    fn name(&self) -> Option<&str>
+        ensures { option_copied result ≡ (Self.meta_of self.now).name };
+
+    /// The object's namespace, absent where it is cluster-scoped.
+    fn namespace(&self) -> Option<&str>
+        ensures { option_copied result ≡ (Self.meta_of self.now).namespace };
+
+    /// The version of the object in the API server's store.
+    fn resource_version(&self) -> Option<&str>
+        ensures { option_copied result ≡ (Self.meta_of self.now).resource_version };
+
+    /// The object's unique identifier.
+    fn uid(&self) -> Option<&str>
+        ensures { option_copied result ≡ (Self.meta_of self.now).uid };
+
+    /// The reference of the object, or `Unnamed` where it has no name.
+    fn to_object_ref(
+        &self,
+        alloc: Global,
+        t: Self::DynamicType,
+    ) -> Result<ObjectRef<Self>, RefError>
+        ensures named { IfOk result (λ r. is_named (Self.meta_of self.now) ≡ true) }
+        ensures reference { IfOk result (λ r. reference_of Self.type_of r ≡ key_of (Self.type_of t) (Self.meta_of self.now)) }
+        ensures extra { IfOk result (λ r. r.extra ≡ extra_of (Self.meta_of self.now)) }
+        ensures unnamed { IsErrOf result RefError.Unnamed → is_named (Self.meta_of self.now) ≡ false };
+}
+
+/// A text that may be absent, lent.
+fn lent(text: &Option<Text>) -> Option<&str>
+    ensures { option_copied result ≡ text.now }
+{
+    match text {
+        Some(text) => Some(text.as_str()),
+        None => None,
+    }
+}
+
+impl<K: Resource> Lookup for K {
+    fn name(&self) -> Option<&str> {
+        lent(&self.meta().name)
+    }
+
+    fn namespace(&self) -> Option<&str> {
+        lent(&self.meta().namespace)
+    }
+
+    fn resource_version(&self) -> Option<&str> {
+        lent(&self.meta().resource_version)
+    }
+
+    fn uid(&self) -> Option<&str> {
+        lent(&self.meta().uid)
+    }
+
+    fn to_object_ref(
+        &self,
+        alloc: Global,
+        t: Self::DynamicType,
+    ) -> Result<ObjectRef<Self>, RefError> {
+        let meta = self.meta();
+        match &meta.name {
+            Some(name) => Ok(ObjectRef {
+                dyntype: t,
+                name: name.copy(alloc)?,
+                namespace: copy_option(alloc, &meta.namespace)?,
+                extra: Extra {
+                    resource_version: copy_option(alloc, &meta.resource_version)?,
+                    uid: copy_option(alloc, &meta.uid)?,
+                },
+            }),
+            None => Err(RefError::Unnamed),
+        }
+    }
+}

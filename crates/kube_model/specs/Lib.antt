@@ -1,0 +1,5 @@
+-- the definitions that the contracts cite
+pub mod ErrorTexts
+pub mod Raw
+pub mod Reason
+pub mod ReasonView
