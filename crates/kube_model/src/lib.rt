@@ -5,6 +5,7 @@ pub mod call;
 pub mod error;
 pub mod params;
 pub mod reason;
+pub mod rows;
 pub mod turn;
 
 pub use call::{Answer, Call};
