@@ -19,3 +19,4 @@ pub mod Traces
 pub mod Settled
 pub mod Plays
 pub mod Rows
+pub mod Refused

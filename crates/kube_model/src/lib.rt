@@ -5,6 +5,7 @@ pub mod call;
 pub mod error;
 pub mod params;
 pub mod reason;
+pub mod refused;
 pub mod rows;
 pub mod turn;
 
