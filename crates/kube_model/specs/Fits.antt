@@ -3,7 +3,6 @@ use Rattle.std.specs.Prelude.{◌≡◌, ◌⊎◌, ℕ, ◌+◌, nat_le, Bool, 
 use Rattle.std.specs.List.{find, flat_map}
 use Rattle.std.specs.List.{AllByRecursion}
 use Rattle.std.specs.Option.{option_map}
-use Rattle.kube_meta.specs.Reference.{Reference}
 use Rattle.kube_model.specs.declared.call.Call.{Call}
 use Rattle.kube_model.specs.declared.call.Call.TheVariants.{List as ListCall, Watch, Next, Stream}
 use Rattle.kube_model.specs.declared.call.Answer.{Answer}
@@ -11,8 +10,8 @@ use Rattle.kube_model.specs.declared.call.Answer.TheVariants.{Page, Opened, Adde
 use Rattle.kube_model.specs.declared.error.ApiError.{ApiError}
 use Rattle.kube_model.specs.declared.error.Error.{Error}
 use Rattle.kube_model.specs.declared.error.Error.TheVariants.{InitialListFailed, WatchStartFailed, WatchError, WatchFailed, NoResourceVersion}
-use Rattle.kube_model.specs.Reason.{Reason, Unknown, ObjectUpdated, RelatedObjectUpdated, ReconcilerRequestedRetry, ErrorPolicyRequestedRetry, BulkReconcile, Custom}
-use Rattle.kube_model.specs.World.{World, Feed, Watched, Streamed, Queued, feed_of, window_of, is_queue}
+use Rattle.kube_model.specs.Reason.{Reason, ObjectUpdated, RelatedObjectUpdated}
+use Rattle.kube_model.specs.World.{World, Feed, Watched, Streamed, Queued, feed_of, window_of}
 use Rattle.kube_model.specs.History.{Message, Exchange, Dated, dated_of, exchanges_of}
 use Rattle.kube_model.specs.Cuts.{after_last}
 use Rattle.kube_model.specs.Owed.{Marked, mark, owed, is_next, is_not_ready}

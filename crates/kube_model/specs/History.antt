@@ -1,5 +1,5 @@
 -- The turns of a controller and their records, as plain data. O is the type of objects.
-use Rattle.std.specs.Prelude.{ℕ, Bool, List, [], ◌∷◌, ◌++◌, map, ◌==◌, Option}
+use Rattle.std.specs.Prelude.{ℕ, Bool, List, ◌++◌, map, ◌==◌, Option}
 use Rattle.std.specs.List.{filter, flat_map}
 use Rattle.kube_meta.specs.Reference.{Reference, same_reference}
 use Rattle.kube_model.specs.declared.call.Call.{Call}

@@ -20,3 +20,5 @@ pub mod Settled
 pub mod Plays
 pub mod Rows
 pub mod Refused
+pub mod SecondForms
+pub mod WaitingOnce

@@ -1,15 +1,15 @@
 -- All requests of a turn, and what happens to the queue over a history.
-use Rattle.std.specs.Prelude.{ℕ, ◌+◌, Bool, true, false, not, ◌||◌, List, [], ◌∷◌, ◌++◌, map, length, Option, Some, None, if◌then◌else◌, slice_get, unwrap_or}
+use Rattle.std.specs.Prelude.{ℕ, ◌+◌, Bool, true, false, ◌||◌, List, [], ◌∷◌, ◌++◌, map, length, Option, Some, None, if◌then◌else◌, slice_get, unwrap_or}
 use Rattle.std.specs.List.{flat_map, list_any, count_by}
-use Rattle.kube_meta.specs.Reference.{Reference, reference_before}
+use Rattle.kube_meta.specs.Reference.{reference_before}
 use Rattle.kube_model.specs.declared.turn.Shutdown.{Shutdown}
 use Rattle.kube_model.specs.declared.turn.Shutdown.TheVariants.{No, Graceful, Forced}
 use Rattle.kube_model.specs.Reason.{Reason, Unknown, ReconcilerRequestedRetry, ErrorPolicyRequestedRetry, BulkReconcile}
 use Rattle.kube_model.specs.World.{World, Reads, Feed, Watched, Streamed, Queued, feed_of}
-use Rattle.kube_model.specs.History.{Message, same_message, Exchange, Outcome, Succeeded, Failed, Turn, Finished, TurnRecord, Step, Taken, exchanges, exchanges_with, exchanges_of}
+use Rattle.kube_model.specs.History.{Message, same_message, Exchange, Outcome, Succeeded, Failed, Turn, Finished, Step, Taken, exchanges, exchanges_with, exchanges_of}
 use Rattle.kube_model.specs.Store.{is_ready, store_of}
 use Rattle.kube_model.specs.Pause.{gave_up}
-use Rattle.kube_model.specs.Queue.{Request, QueueEvent, Requested, Settled, Took, is_request, is_settle, plus, sorted_by, Entry, Frozen, entry, waiting}
+use Rattle.kube_model.specs.Queue.{QueueEvent, Requested, Settled, Took, is_request, is_settle, plus, sorted_by, Entry, Frozen, entry, waiting}
 
 abbrev pub asks_shutdown : Shutdown → Bool
 asks_shutdown No = false

@@ -1,9 +1,9 @@
 -- Which references run, and which of the waiting messages a turn takes. (Crate: `Runner`, `applier`.)
-use Rattle.std.specs.Prelude.{ℕ, ◌+◌, ◌-◌, Bool, true, false, not, ◌||◌, ◌==◌, nat_lt, List, [], ◌∷◌, ◌++◌, length, Option, Some, None, if◌then◌else◌, is_some}
+use Rattle.std.specs.Prelude.{ℕ, ◌+◌, ◌-◌, Bool, not, ◌||◌, ◌==◌, nat_lt, List, [], ◌∷◌, ◌++◌, length, Option, if◌then◌else◌, is_some}
 use Rattle.std.specs.List.{filter, filter_map, flat_map, list_any}
 use Rattle.std.specs.Option.{option_map}
 use Rattle.kube_meta.specs.Reference.{Reference, same_reference}
-use Rattle.kube_model.specs.History.{Message, Taken, Finish, Turn, Step}
+use Rattle.kube_model.specs.History.{Message, Taken, Finish, Step}
 use Rattle.kube_model.specs.Queue.{Frozen}
 use Rattle.kube_model.specs.Store.{found}
 

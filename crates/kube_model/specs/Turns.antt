@@ -1,10 +1,10 @@
 -- The turn: who is asked next, why no more is asked, and the record that a turn's exchanges make.
-use Rattle.std.specs.Prelude.{ℕ, ◌+◌, ◌-◌, Bool, true, false, not, ◌&&◌, ◌||◌, ◌==◌, nat_lt, List, [], ◌∷◌, ◌++◌, length, map, Option, Some, None, if◌then◌else◌, is_some, slice_index}
+use Rattle.std.specs.Prelude.{ℕ, ◌+◌, ◌-◌, Bool, not, ◌&&◌, ◌||◌, ◌==◌, nat_lt, List, [], ◌++◌, length, map, Option, Some, None, if◌then◌else◌, is_some, slice_index}
 use Rattle.std.specs.List.{filter, filter_map, list_any, find, range_with_len}
 use Rattle.kube_model.specs.declared.turn.Stop.{Stop}
 use Rattle.kube_model.specs.declared.turn.Stop.TheVariants as stops
-use Rattle.kube_model.specs.World.{World, Reads, is_watched, feed_of}
-use Rattle.kube_model.specs.History.{Exchange, Dated, Turn, Finished, Taken, TurnRecord, Step, exchanges, exchanges_with, exchanges_of}
+use Rattle.kube_model.specs.World.{World, is_watched, feed_of}
+use Rattle.kube_model.specs.History.{Exchange, Dated, Turn, Finished, Taken, TurnRecord, Step, exchanges_with, exchanges_of}
 use Rattle.kube_model.specs.Cuts.{last}
 use Rattle.kube_model.specs.Owed.{is_not_ready, is_end}
 use Rattle.kube_model.specs.Pause.{gave_up, is_paused}

@@ -2,7 +2,7 @@
 use Rattle.std.specs.Prelude.{ℕ, ◌+◌, ◌*◌, Bool, true, false, ◌==◌, if◌then◌else◌, List, [], ◌∷◌, Option, Some, None, unwrap_or, slice_get}
 use Rattle.kube_meta.specs.Reference.{Reference}
 use Rattle.kube_model.specs.declared.call.Call.{Call}
-use Rattle.kube_model.specs.declared.call.Call.TheVariants.{List as ListCall, Watch, Next, Stream}
+use Rattle.kube_model.specs.declared.call.Call.TheVariants.{List as ListCall, Watch}
 use Rattle.kube_model.specs.declared.error.RunnerError.{RunnerError}
 use Rattle.kube_model.specs.declared.params.ListParams.{ListParams}
 use Rattle.kube_model.specs.declared.params.WatchParams.{WatchParams}
