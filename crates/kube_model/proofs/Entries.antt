@@ -4,10 +4,9 @@ use Rattle.std.specs.List.{fold, list_any}
 use Rattle.std.proofs.lemmas.Bool.{false≢true}
 use Rattle.std.proofs.lemmas.List.Sums.{fold-append}
 use Rattle.kube_model.specs.History.{Message, same_message, Taken}
-use Rattle.kube_model.specs.Queue.{Request, QueueEvent, Requested, Settled, Took, Entry, entry, entry_after, entry_requested, entry_settled, entry_of}
+use Rattle.kube_model.specs.Queue.{Request, QueueEvent, Settled, Entry, entry, entry_after, entry_requested, entry_settled, entry_of}
 use Rattle.kube_model.specs.Requests.{Timed, numbered, took}
 use Rattle.kube_model.proofs.Alls.{or-left, or-right}
-use Rattle.kube_model.proofs.Stores.{alike}
 
 module _ (debounce : ℕ) where
   abbrev pub entry_by : List (QueueEvent Message) → Message → Option (Entry Message)
@@ -74,16 +73,3 @@ module _ (debounce : ℕ) where
   kept-takes m e (t ∷ ts) h =
       ap (λ b. on_from m (if b then None else e) (took ts)) (or-left (same_message t.message m) (list_any (λ t. same_message t.message m) ts) h)
       ∙ kept-takes m e ts (or-right (same_message t.message m) (list_any (λ t. same_message t.message m) ts) h)
-
-  -- entries of equal references are equal
-  pub entry-alike : (es : List (QueueEvent Message)) (m n : Message) → same_message m n ≡ true → entry_by es m ≡ entry_by es n
-  entry-alike es m n h = from None es
-    where
-      after : (e : Option (Entry Message)) (ev : QueueEvent Message) → entry_after same_message debounce m e ev ≡ entry_after same_message debounce n e ev
-      after e (Requested q) = ap (λ b. if b then entry_requested debounce q e else e) (alike m.reference n.reference q.message.reference h)
-      after e (Settled now number) = refl
-      after e (Took taken) = ap (λ b. if b then None else e) (alike m.reference n.reference taken.reference h)
-
-      from : (e : Option (Entry Message)) (es : List (QueueEvent Message)) → on_from m e es ≡ on_from n e es
-      from e [] = refl
-      from e (ev ∷ es) = ap (λ e. on_from m e es) (after e ev) ∙ from (entry_after same_message debounce n e ev) es

@@ -6,6 +6,7 @@ use Rattle.std.proofs.lemmas.List.Elements.{filter_map-append}
 use Rattle.std.proofs.lemmas.List.Folds.{list_any-append}
 use Rattle.std.proofs.lemmas.Grind.{flat_map-append}
 use Rattle.std.proofs.Math.Bool.{or-true}
+use Rattle.std.specs.Cmp.{on_equiv}
 use Rattle.kube_meta.specs.ReferenceLaws.{same_reference_equiv}
 use Rattle.kube_model.specs.World.{World, Settings, Watched, feed_of}
 use Rattle.kube_model.specs.History.{Message, same_message, Exchange, Turn, TurnRecord, Step, Taken, dated, exchanges, exchanges_with, exchanges_of}
@@ -21,7 +22,8 @@ use Rattle.kube_model.specs.Traces.{step, steps, EachIsNext, IsRecord, IsTrace}
 use Rattle.kube_model.specs.Settled.{about, if_keyed, last_handed, IsSettledAt, IsSettled}
 use Rattle.kube_model.proofs.Alls.{all-both, all-map, all-left, all-right, all-of_map}
 use Rattle.kube_model.proofs.Stores.{IsFoundIn, each-found, distinct-store, requested, all-store}
-use Rattle.kube_model.proofs.Entries.{entry-append, entry-alike, entry_by, on_from, kept-requests, made-requests, kept-takes}
+use Rattle.kube_model.proofs.Entries.{entry-append, entry_by, on_from, kept-requests, made-requests, kept-takes}
+use Rattle.kube_model.proofs.Waits.{entry-alike}
 use Rattle.kube_model.proofs.HandedOver.{IsLookUp, taken-looks, last_or-append, last-stays, last-taken}
 use Rattle.kube_model.proofs.Histories.{exchanges-push, exchanges_with-push, exchanges_of-own, exchanges_of-other, shut-before, shut-after, gave_up-before, events-push}
 
@@ -130,7 +132,7 @@ module _ {O B : Type 0} (w : World O B) (settings : Settings) (watched : feed_of
     each-due : EachIsNext w h t [] r.exchanges → IsSettled w h → AllByRecursion IsDue stored
     each-due n s =
         walk h t IsDue Waits
-        (λ o k. inr (ap is_some (sym (entry-alike w.debounce queue (updated w o) (about (w.key o)) (same_reference_equiv.refl (w.key o)))) ∙ k))
+        (λ o k. inr (ap is_some (sym (entry-alike same_message (on_equiv (λ (m : Message). m.reference) same_reference_equiv) w.debounce queue (updated w o) (about (w.key o)) (same_reference_equiv.refl (w.key o)))) ∙ k))
         [] r.exchanges n
         (subst (λ ds. AllByRecursion IsDue (store_of w.key (exchanges_of 0 ds))) (sym (append-nil (exchanges h)))
         (all-map (IsSettledAt w h) IsDue still-due (store_after w h) s)) each-waits

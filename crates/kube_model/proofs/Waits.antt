@@ -36,7 +36,7 @@ module _ {M : Type 0} (same : M → M → Bool) (equiv : IsEquivalence same) (de
   on_from m e events = fold (entry_after same debounce m) e events
 
   -- entries of messages that are the same are equal
-  entry-alike : (es : List (QueueEvent M)) (m n : M) → same m n ≡ true → entry same debounce es m ≡ entry same debounce es n
+  pub entry-alike : (es : List (QueueEvent M)) (m n : M) → same m n ≡ true → entry same debounce es m ≡ entry same debounce es n
   entry-alike es m n h = from None es
     where
       after : (e : Option (Entry M)) (ev : QueueEvent M) → entry_after same debounce m e ev ≡ entry_after same debounce n e ev
