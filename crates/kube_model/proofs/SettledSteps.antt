@@ -1,7 +1,6 @@
 -- Nothing stays unreconciled: one more turn, and a whole trace.
 use Rattle.std.proofs.Common.{◌≡◌, ℕ, Bool, true, false, not, ◌&&◌, ◌||◌, ◌==◌, List, [], ◌∷◌, ◌++◌, map, Some, None, if◌then◌else◌, is_some, refl, sym, ap, subst, ◌∙◌, ◌⊎◌, inl, inr, append_assoc, append-nil}
 use Rattle.std.specs.List.{filter_map, flat_map, list_any, last_or, AllByRecursion, count_by}
-use Rattle.std.proofs.lemmas.Bool.{eqb-true}
 use Rattle.std.proofs.lemmas.List.Elements.{filter_map-append}
 use Rattle.std.proofs.lemmas.List.Folds.{list_any-append}
 use Rattle.std.proofs.lemmas.Grind.{flat_map-append}
@@ -12,12 +11,12 @@ use Rattle.kube_model.specs.World.{World, Settings, Watched, feed_of}
 use Rattle.kube_model.specs.History.{Message, same_message, Exchange, Turn, TurnRecord, Step, Taken, dated, exchanges, exchanges_with, exchanges_of}
 use Rattle.kube_model.specs.Owed.{mark}
 use Rattle.kube_model.specs.Store.{completes, listed, store_of, changes_of}
-use Rattle.kube_model.specs.Fits.{RootRequestsFit, requests_of_watch, updated, put_of}
+use Rattle.kube_model.specs.Fits.{ContentFits, RootRequestsFit, requests_of_watch, updated, put_of}
 use Rattle.kube_model.specs.Queue.{QueueEvent, is_request, is_settle}
-use Rattle.kube_model.specs.Requests.{Timed, requested_at, requests_of_exchanges, requests_of_turn, requested_and_settled, is_closed, is_shut, asks_shutdown, turn_events, events_of, took, store_after, reads_of, reads_by, entry_in, waiting_in, requests_of_finish, reload_requests, named_requests}
+use Rattle.kube_model.specs.Requests.{is_over, Timed, requested_at, requests_of_exchanges, requests_of_turn, requested_and_settled, is_closed, is_shut, asks_shutdown, turn_events, events_of, took, store_after, reads_of, reads_by, entry_in, waiting_in, requests_of_finish, reload_requests, named_requests}
 use Rattle.kube_model.specs.Takes.{taken_of}
 use Rattle.kube_model.specs.Pause.{gave_up}
-use Rattle.kube_model.specs.Turns.{running_in, is_over, record_with}
+use Rattle.kube_model.specs.Turns.{running_in, record_with}
 use Rattle.kube_model.specs.Traces.{step, steps, EachIsNext, IsRecord, IsTrace}
 use Rattle.kube_model.specs.Settled.{about, if_keyed, last_handed, IsSettledAt, IsSettled}
 use Rattle.kube_model.proofs.Alls.{all-both, all-map, all-left, all-right, all-of_map}
@@ -73,7 +72,7 @@ module _ {O B : Type 0} (w : World O B) (settings : Settings) (watched : feed_of
             (all-store w.key P (exchanges_of 0 (exchanges_with h t before)) x p
             (all-map (λ o. Q (updated w o)) P f (requested w.key (exchanges_of 0 (exchanges_with h t before)) x)
             (all-of_map Q (updated w) (requested w.key (exchanges_of 0 (exchanges_with h t before)) x)
-            (subst (AllByRecursion Q) (fits (n.0.fits.root_requests (eqb-true x.source 0 e)) ∙ requests-brought (exchanges_of 0 (exchanges_with h t before)) x)
+            (subst (AllByRecursion Q) (fits (subst (λ b. ContentFits w b (exchanges_with h t before) x) e n.0.fits.content).1 ∙ requests-brought (exchanges_of 0 (exchanges_with h t before)) x)
             (all-left Q x.requests (flat_map (λ x. x.requests) xs) q)))))
         go false e = subst (λ ys. AllByRecursion P (store_of w.key ys)) (sym (exchanges_of-other 0 (exchanges_with h t before) (record { at = t.at; exchange = x }) e)) p
 

@@ -26,7 +26,7 @@ pub record Exchange (O : Type 0) : Type 0 where
   pub answer : Answer
   pub items : List O
   pub requests : List Message
-  pub error : Option Error  -- the watcher's
+  pub error : Option Error  -- the watcher's, or the one that a stream gave
 
 -- an exchange with its moment
 pub record Dated (O : Type 0) : Type 0 where

@@ -22,3 +22,4 @@ pub mod Rows
 pub mod Refused
 pub mod SecondForms
 pub mod WaitingOnce
+pub mod Streams

@@ -42,7 +42,7 @@ abbrev pub entry_of : {M : Type 0} → ℕ → Request M → Entry M
 entry_of debounce q =
     record { message = q.message; time = min (plus q.run_at debounce) (plus q.now longest_wait); number = q.number; settle = None }
 
--- a request makes an entry, or sets it anew where the entry isn't frozen and its time is not earlier than the request's
+-- a request makes an entry, or sets it anew where the entry isn't frozen and its time is not earlier than the request's `run_at`, which is without the debounce
 abbrev pub entry_requested : {M : Type 0} → ℕ → Request M → Option (Entry M) → Option (Entry M)
 entry_requested debounce q None = Some (entry_of debounce q)
 entry_requested debounce q (Some e) =

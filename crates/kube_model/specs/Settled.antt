@@ -1,4 +1,4 @@
--- Nothing stays unreconciled: every stored object was last handed over as it stands, or waits.
+-- Nothing stays unreconciled: every object that a watched root stores was last handed over as it stands, or its key has an entry.
 use Rattle.std.specs.Prelude.{◌≡◌, ◌⊎◌, true, List, Option, Some, None, if◌then◌else◌, is_some}
 use Rattle.std.specs.List.{filter_map, flat_map, AllByRecursion}
 use Rattle.kube_meta.specs.Reference.{Reference, same_reference}

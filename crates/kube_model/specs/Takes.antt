@@ -40,7 +40,7 @@ abbrev pub has_room : ℕ → ℕ → ℕ → Bool
 has_room limit running n = (limit == 0) || nat_lt n (limit - running)
 
 module _ {O : Type 0} (key : O → Reference) where
-  -- of a candidate and those after it, which are taken, where n of the k candidates before are found
+  -- which of these candidates are taken, where k candidates stand before them, of which n are found
   abbrev pub taken_from : (ℕ → Bool) → (ℕ → List O) → ℕ → ℕ → List (Frozen Message) → List (Taken O)
   taken_from room look n k [] = []
   taken_from room look n k (e ∷ es) =

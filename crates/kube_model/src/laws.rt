@@ -46,7 +46,7 @@ pub fn joined_turns_join_traces<O, B>()
 {}
 
 /// Nothing stays unreconciled: where the root lists and watches, after each turn of each trace, until shutdown is
-/// asked or the backoff gives up, every stored object was last handed over as it stands, or waits.
+/// asked or the backoff gives up, every stored object was last handed over as it stands, or its key has an entry.
 pub fn nothing_stays_unreconciled<O, B>()
     ensures { (w : World O B) (settings : Settings) → feed_of w 0 ≡ Watched settings → (ts : List Turn) (rs : List (TurnRecord O)) → IsTrace w [] ts rs
         → is_shut (steps ts rs) ≡ false → gave_up w (exchanges (steps ts rs)) ≡ false → IsSettled w (steps ts rs) }
