@@ -1,2 +1,9 @@
 -- the definitions that the contracts cite
+pub mod Asks
+pub mod Controllers
+pub mod Faults
 pub mod HandOvers
+pub mod Messages
+pub mod Stores
+pub mod Unbuilt
+pub mod Views

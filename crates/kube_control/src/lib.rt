@@ -1,12 +1,27 @@
 //! The controller: it lists and watches objects turn by turn and hands those that are due to a reconciler.
 #![tactic(auto)]
 
+pub mod controller;
+pub mod error;
 pub mod exchange;
 pub mod reconciler;
 pub mod record;
 pub mod request;
+pub mod source;
 pub mod turn;
 
+mod asks;
+mod cache;
+mod calls;
+mod fault;
+mod items;
+mod listed;
+mod schedule;
+mod takes;
+mod watcher;
+
+pub use controller::Controller;
+pub use error::RunError;
 pub use exchange::SourceExchange;
 pub use kube_meta::Action;
 pub use kube_model::call::{Answer, Call};
@@ -16,4 +31,5 @@ pub use kube_model::turn::{Shutdown, Stop};
 pub use reconciler::{Handed, Reconciler, Recorder};
 pub use record::{Finished, Taken, Trace, TurnRecord};
 pub use request::ReconcileRequest;
+pub use source::{NoRelated, WatchRoot};
 pub use turn::{Finish, Turn};

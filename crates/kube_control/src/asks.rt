@@ -1,0 +1,52 @@
+//! The asks of a turn.
+
+ghost use Rattle.std.specs.Prelude.{◌≡◌, if◌then◌else◌};
+ghost use Rattle.std.specs.List.{list_any};
+ghost use Rattle.kube_control.specs.Asks.{is_not_ready as answered_not_ready};
+
+use crate::exchange::SourceExchange;
+use crate::fault::Fault;
+use crate::watcher::{Root, ask};
+use kube_api::ApiMode;
+use kube_meta::{List, Moment, Resource};
+use kube_model::call::Answer;
+use kube_model::turn::Stop;
+use std::alloc::Global;
+
+/// Whether the answer was that it is not ready.
+fn is_not_ready(answer: &Answer) -> bool
+    ensures { result ≡ answered_not_ready answer.now }
+{
+    matches!(answer, Answer::NotReady)
+}
+
+/// Asks until the root tells not ready, or the budget is used up.
+pub fn ask_all<A: ApiMode>(
+    api: &mut A,
+    root: &mut Root<A::Value>,
+    alloc: Global,
+    now: Moment,
+    budget: u32,
+) -> Result<List<SourceExchange<A::Value>>, Fault> {
+    let mut made = List::new(alloc);
+    for n in 0..budget {
+        let exchange = ask(api, root, alloc, now)?;
+        let ended = is_not_ready(&exchange.answer);
+        made.push(exchange)?;
+        if ended {
+            return Ok(made);
+        }
+    }
+    Ok(made)
+}
+
+/// Why the root was asked no more.
+pub fn stop_of<K: Resource>(exchanges: &[SourceExchange<K>]) -> Stop
+    ensures { result ≡ (if list_any (λ x. answered_not_ready x.answer) exchanges.now then Stop.NotReady else Stop.Budget) }
+{
+    if exchanges.iter().any(|x| is_not_ready(&x.answer)) {
+        Stop::NotReady
+    } else {
+        Stop::Budget
+    }
+}
