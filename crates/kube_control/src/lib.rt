@@ -20,6 +20,9 @@ mod schedule;
 mod takes;
 mod watcher;
 
+#[cfg(test)]
+mod tests;
+
 pub use controller::Controller;
 pub use error::RunError;
 pub use exchange::SourceExchange;
