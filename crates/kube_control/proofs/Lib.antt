@@ -1,0 +1,5 @@
+-- lemmas that the proofs cite
+mod Put
+mod Finds
+mod LastOfEach
+mod ListedSteps

@@ -40,11 +40,18 @@ pub fn ask_all<A: ApiMode>(
     Ok(made)
 }
 
+/// Whether one of the exchanges told not ready.
+fn told_not_ready<K: Resource>(exchanges: &[SourceExchange<K>]) -> bool
+    ensures { result ≡ list_any (λ x. answered_not_ready x.answer) exchanges.now }
+{
+    exchanges.iter().any(|x| is_not_ready(&x.answer))
+}
+
 /// Why the root was asked no more.
 pub fn stop_of<K: Resource>(exchanges: &[SourceExchange<K>]) -> Stop
     ensures { result ≡ (if list_any (λ x. answered_not_ready x.answer) exchanges.now then Stop.NotReady else Stop.Budget) }
 {
-    if exchanges.iter().any(|x| is_not_ready(&x.answer)) {
+    if told_not_ready(exchanges) {
         Stop::NotReady
     } else {
         Stop::Budget

@@ -1,8 +1,7 @@
 //! What a turn takes.
 
-ghost use Rattle.std.specs.Prelude.{◌≡◌, Some, IfOk, OnErr, map};
-ghost use Rattle.std.specs.List.{filter_map};
-ghost use Rattle.std.specs.Option.{option_map};
+ghost use Rattle.std.specs.Prelude.{◌≡◌, [], Some, IfOk, OnOk, OnErr, map};
+ghost use Rattle.std.specs.List.{cons_option, filter_map};
 ghost use Rattle.kube_model.specs.Raw.{grown_by};
 ghost use Rattle.kube_control.specs.Messages.{take_of, handed};
 ghost use Rattle.kube_control.specs.Views.{message_of, stored_of, taken_of};
@@ -23,6 +22,11 @@ fn take_one<K: Resource, Ctx: Drop, Rc: Reconciler<K, Ctx>>(
     cache: &[Stored<K>],
     request: ReconcileRequest<K>,
 ) -> Result<Taken<K>, NoMemory>
+    ensures taken { IfOk result (λ t. taken_of K.type_of t
+        ≡ Some (take_of (map (stored_of K.type_of) cache.now) (message_of K.type_of request))) }
+    ensures handed { OnOk result (Rc.handed reconciler.new ≡ grown_by (Rc.handed reconciler.old)
+        (cons_option (handed (take_of (map (stored_of K.type_of) cache.now) (message_of K.type_of request))) [])) }
+    ensures err { OnErr result (Rc.handed reconciler.new ≡ Rc.handed reconciler.old) }
 {
     let ReconcileRequest { obj_ref, reason } = request;
     match get(cache, &obj_ref)? {
@@ -51,6 +55,10 @@ pub fn take_all<K: Resource, Ctx: Drop, Rc: Reconciler<K, Ctx>>(
     cache: &[Stored<K>],
     requests: Vec<ReconcileRequest<K>>,
 ) -> Result<List<Taken<K>>, NoMemory>
+    ensures taken { IfOk result (λ ts. map (taken_of K.type_of) ts
+        ≡ map (λ m. Some (take_of (map (stored_of K.type_of) cache.now) m)) (map (message_of K.type_of) requests.items)) }
+    ensures handed { OnOk result (Rc.handed reconciler.new ≡ grown_by (Rc.handed reconciler.old)
+        (filter_map handed (map (take_of (map (stored_of K.type_of) cache.now)) (map (message_of K.type_of) requests.items)))) }
 {
     let mut taken = List::new(alloc);
     for request in requests {
