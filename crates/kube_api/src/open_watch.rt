@@ -46,13 +46,15 @@ fn answer_at<K: Drop>(
     requires { Stands now.0 place (drop place.step steps.now) }
     ensures { IfOk result (λ a. next_answer a ≡ (poll_watch now.0 (left_at steps.now place)).answer) }
 {
-    match steps.get(place.step) {
-        Some(SequenceStep::List(events)) => match events.get(place.given) {
-            Some(event) => Ok(Polled::Ready(Some(copy_given(alloc, event)?))),
-            None => unreachable!(),
-        },
-        Some(SequenceStep::Wait(_)) => Ok(Polled::NotReady),
-        None => Ok(Polled::Ready(None)),
+    if place.step >= steps.len() {
+        return Ok(Polled::Ready(None));
+    }
+    match &steps[place.step] {
+        SequenceStep::List(events) => {
+            let event = copy_given(alloc, &events[place.given])?;
+            Ok(Polled::Ready(Some(event)))
+        }
+        SequenceStep::Wait(_) => Ok(Polled::NotReady),
     }
 }
 
@@ -61,16 +63,18 @@ fn place_after<K: Drop>(steps: &[SequenceStep<K>], place: Place, now: Moment) ->
     requires { Stands now.0 place (drop place.step steps.now) }
     ensures { left_at steps.now result ≡ (poll_watch now.0 (left_at steps.now place)).left }
 {
-    match steps.get(place.step) {
-        Some(SequenceStep::List(_)) => Place {
+    if place.step >= steps.len() {
+        return place;
+    }
+    match &steps[place.step] {
+        SequenceStep::List(_) => Place {
             given: place.given + 1,
             ..place
         },
-        Some(SequenceStep::Wait(_)) => Place {
+        SequenceStep::Wait(_) => Place {
             since: Some(place.since.unwrap_or(now.0)),
             ..place
         },
-        None => place,
     }
 }
 

@@ -12,8 +12,12 @@ pub struct Place {
 }
 
 impl Place {
+    ghost use Rattle.std.specs.Prelude.{◌≡◌, None};
+
     /// Before the first event of a step.
-    pub fn before(step: usize) -> Place {
+    pub fn before(step: usize) -> Place
+        ensures { result ≡ record { step = step; given = 0; since = None } }
+    {
         Place {
             step,
             given: 0,

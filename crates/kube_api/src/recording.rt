@@ -1,6 +1,7 @@
 //! The calls to a scripted API, with their answers.
 
 ghost use Rattle.std.specs.Prelude.{◌≡◌, [], ◌∷◌, ◌++◌, OnOk, OnErr};
+ghost use Rattle.kube_model.specs.Raw.{is_fault};
 ghost use Rattle.kube_api.specs.Recordings.{call_of, answer_of};
 
 use crate::event::{Page, WatchEvent};
@@ -25,6 +26,20 @@ pub enum Answered<K: Drop> {
     List(Result<Page<K>, ApiError>),
     Watch(Result<(), ApiError>),
     Next(Polled<Option<Result<WatchEvent<K>, ApiError>>>),
+}
+
+impl<K: Drop> Answered<K> {
+    /// Whether the call failed.
+    pub fn is_fault(&self) -> bool
+        ensures { result ≡ is_fault (answer_of self.now) }
+    {
+        match self {
+            Answered::List(page) => page.is_err(),
+            Answered::Watch(opened) => opened.is_err(),
+            Answered::Next(Polled::Ready(Some(event))) => event.is_err(),
+            Answered::Next(_) => false,
+        }
+    }
 }
 
 /// The calls so far with their answers.
@@ -63,11 +78,10 @@ impl<K: Drop> Talk<K> {
         ensures ok { OnOk result (self.new ≡ self.old ++ record { call = call_of call; answer = answer_of answer } ∷ []) }
         ensures err { OnErr result (self.new ≡ self.old) }
     {
-        self.calls.push(call)?;
-        if self.answers.push(answer).is_err() {
-            self.calls.pop();
-            return Err(NoMemory);
-        }
+        self.calls.reserve(1)?;
+        self.answers.reserve(1)?;
+        self.calls.push_reserved(call);
+        self.answers.push_reserved(answer);
         Ok(())
     }
 }
