@@ -3,3 +3,4 @@ mod Put
 mod Finds
 mod LastOfEach
 mod ListedSteps
+mod TakeSteps

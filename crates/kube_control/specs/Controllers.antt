@@ -1,5 +1,5 @@
 -- What can be seen of a controller, and the ways in which its runs end early.
-use Rattle.std.specs.Prelude.{ℕ, Bool, List, Result, Ok, Err, ⊤}
+use Rattle.std.specs.Prelude.{ℕ, Bool, List, ⊤}
 use Rattle.kube_control.specs.declared.controller.Controller.{Controller}
 use Rattle.kube_control.specs.declared.source.WatchRoot.{WatchRoot}
 use Rattle.kube_control.specs.declared.error.RunError.{RunError}

@@ -1,8 +1,8 @@
 -- Messages: references that are to be reconciled, each with the reason (crate: `ReconcileRequest`).
-use Rattle.std.specs.Prelude.{Bool, List, [], ◌∷◌, Option, Some, if◌then◌else◌}
-use Rattle.std.specs.List.{filter_map, list_any}
-use Rattle.std.specs.Option.{option_map, option_or}
-use Rattle.kube_meta.specs.Reference.{Reference, same_reference, without_namespace}
+use Rattle.std.specs.Prelude.{Bool, List, [], ◌∷◌, Option, if◌then◌else◌}
+use Rattle.std.specs.List.{list_any}
+use Rattle.std.specs.Option.{option_map}
+use Rattle.kube_meta.specs.Reference.{Reference, same_reference}
 use Rattle.kube_model.specs.Reason.{Reason}
 use Rattle.kube_control.specs.Stores.{found}
 

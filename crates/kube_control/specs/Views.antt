@@ -1,5 +1,5 @@
 -- What the controller keeps and records, as plain data. K is the type of objects, D that of their dynamic types.
-use Rattle.std.specs.Prelude.{List, [], ◌++◌, map, Option, Some, None}
+use Rattle.std.specs.Prelude.{List, map, Option, Some, None}
 use Rattle.std.specs.List.{flat_map}
 use Rattle.std.specs.Arc.{arc_value}
 use Rattle.std.specs.declared.sync.Arc.{Arc}

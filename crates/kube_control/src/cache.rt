@@ -69,7 +69,10 @@ fn find_without_namespace<K: Resource>(
     ensures { IfOk result (λ o. option_map arc_value o
         ≡ option_map object_of (find (λ s. same_reference (reference_of K.type_of s.reference) (without_namespace (reference_of K.type_of reference.now))) cache.now)) }
 {
-    match cache.iter().find(|s| is_without_namespace(&s.reference, reference)) {
+    match cache
+        .iter()
+        .find(|s| is_without_namespace(&s.reference, reference))
+    {
         Some(s) => Ok(Some(Arc::try_clone(&s.object)?)),
         None => Ok(None),
     }

@@ -3,7 +3,6 @@
 use kube_meta::Moment;
 
 pub mod run;
-
 mod turn;
 mod turns;
 

@@ -1,27 +1,25 @@
 //! The controller: it lists and watches objects turn by turn and hands those that are due to a reconciler.
 #![tactic(auto)]
 
-pub mod controller;
-pub mod error;
-pub mod exchange;
-pub mod reconciler;
-pub mod record;
-pub mod request;
-pub mod source;
-pub mod turn;
-
 mod asks;
 mod cache;
 mod calls;
+pub mod controller;
+pub mod error;
+pub mod exchange;
 mod fault;
 mod items;
 mod listed;
+pub mod reconciler;
+pub mod record;
+pub mod request;
 mod schedule;
+pub mod source;
 mod takes;
-mod watcher;
-
 #[cfg(test)]
 mod tests;
+pub mod turn;
+mod watcher;
 
 pub use controller::Controller;
 pub use error::RunError;

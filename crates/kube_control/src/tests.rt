@@ -7,9 +7,7 @@ use crate::{
     Shutdown, Stop, Taken, Trace, Turn, TurnRecord, WatchRoot,
 };
 use kube_api::{Page, Sequence, SequenceStep, TestMode};
-use kube_meta::{
-    ApiResource, DynamicObject, List, Moment, NoMemory, ObjectMeta, ObjectRef, Text,
-};
+use kube_meta::{ApiResource, DynamicObject, List, Moment, NoMemory, ObjectMeta, ObjectRef, Text};
 use std::alloc::{AllocError, Global};
 use std::sync::Arc;
 use std::test::Fail;
@@ -74,11 +72,7 @@ fn controller(
 }
 
 /// A turn that asks the root so often.
-fn turn(
-    alloc: Global,
-    at: u64,
-    budget: u32,
-) -> Result<Turn<DynamicObject, ()>, NoMemory> {
+fn turn(alloc: Global, at: u64, budget: u32) -> Result<Turn<DynamicObject, ()>, NoMemory> {
     let mut budgets = List::new(alloc);
     budgets.push(budget)?;
     Ok(Turn {
@@ -98,13 +92,19 @@ fn run(
     controller: &mut Controller<Root, NoRelated, ()>,
     recorder: &mut Recorder<DynamicObject>,
     turns: Vec<Turn<DynamicObject, ()>>,
-) -> Result<Trace<DynamicObject, ()>, RunError<DynamicObject, ()>> 
+) -> Result<Trace<DynamicObject, ()>, RunError<DynamicObject, ()>>
     requires { length turns.items < 2 ^ 32 }
 {
-    let policy = |_object: Arc<DynamicObject>, _error: &(), _context: Arc<()>| Action::await_change();
+    let policy = |_object: Arc<DynamicObject>, _error: &(), _context: Arc<
+        (),
+    >| Action::await_change();
     let context = match Arc::new(alloc, ()) {
         Ok(context) => context,
-        Err(_) => return Err(RunError::NoMemory { trace: Trace { records: List::new(alloc) } }),
+        Err(_) => return Err(RunError::NoMemory {
+            trace: Trace {
+                records: List::new(alloc),
+            },
+        }),
     };
     controller.run(alloc, recorder, &policy, context, turns)
 }
@@ -114,8 +114,20 @@ fn words(alloc: Global, record: &TurnRecord<DynamicObject, ()>) -> Result<String
     let mut words = String::new(alloc);
     for exchange in record.exchanges.as_slice() {
         words.push_str(match (&exchange.call, &exchange.answer) {
-            (Call::List { token: None }, Answer::Page { token: None, version: Some(_) }) => "page ",
-            (Call::Watch { version: _, initial: false }, Answer::Opened) => "opened ",
+            (
+                Call::List { token: None },
+                Answer::Page {
+                    token: None,
+                    version: Some(_),
+                },
+            ) => "page ",
+            (
+                Call::Watch {
+                    version: _,
+                    initial: false,
+                },
+                Answer::Opened,
+            ) => "opened ",
             (Call::Next, Answer::NotReady) => "waits ",
             _ => "other ",
         })?;
@@ -138,9 +150,21 @@ fn words(alloc: Global, record: &TurnRecord<DynamicObject, ()>) -> Result<String
     if let Some(store) = &record.store {
         for object in store.as_slice() {
             words.push_str("stored:")?;
-            words.push_str(object.metadata.name.as_ref().map_or("", |name| name.as_str()))?;
+            words.push_str(
+                object
+                    .metadata
+                    .name
+                    .as_ref()
+                    .map_or("", |name| name.as_str()),
+            )?;
             words.push_str(":")?;
-            words.push_str(object.metadata.resource_version.as_ref().map_or("", |v| v.as_str()))?;
+            words.push_str(
+                object
+                    .metadata
+                    .resource_version
+                    .as_ref()
+                    .map_or("", |v| v.as_str()),
+            )?;
             words.push_str(" ")?;
         }
     }
@@ -150,17 +174,30 @@ fn words(alloc: Global, record: &TurnRecord<DynamicObject, ()>) -> Result<String
 /// Adds what was taken, in words.
 fn add_taken(words: &mut String, taken: &Taken<DynamicObject>) -> Result<(), AllocError> {
     match taken {
-        Taken::Started { reference, reason, object } => {
+        Taken::Started {
+            reference,
+            reason,
+            object,
+        } => {
             words.push_str("takes:")?;
             words.push_str(reference.name.as_str())?;
             words.push_str(":")?;
-            words.push_str(object.metadata.resource_version.as_ref().map_or("", |v| v.as_str()))?;
+            words.push_str(
+                object
+                    .metadata
+                    .resource_version
+                    .as_ref()
+                    .map_or("", |v| v.as_str()),
+            )?;
             words.push_str(match reason {
                 ReconcileReason::ObjectUpdated => " ",
                 _ => ":other ",
             })?;
         }
-        Taken::NotFound { reference: _, reason: _ } => words.push_str("lost ")?,
+        Taken::NotFound {
+            reference: _,
+            reason: _,
+        } => words.push_str("lost ")?,
         Taken::Nothing => words.push_str("nothing ")?,
     }
     Ok(())
@@ -171,7 +208,7 @@ fn not_built(
     alloc: Global,
     page: Page<DynamicObject>,
     turns: Vec<Turn<DynamicObject, ()>>,
-) -> Result<(u32, usize), Fail> 
+) -> Result<(u32, usize), Fail>
     requires { length turns.items < 2 ^ 32 }
 {
     let mut controller = controller(alloc, page)?;
@@ -211,7 +248,10 @@ fn lists_watches_and_takes(rt: HostRuntime) -> Result<(), Fail> {
     let records = trace.records.as_slice();
     assert_eq!(rt; records.len(), 2);
     let first = words(alloc, &records[0])?;
-    assert_eq!(rt; first.as_str(), "page wants:a opened waits not-ready takes:a:1 ");
+    assert_eq!(rt;
+        first.as_str(),
+        "page wants:a opened waits not-ready takes:a:1 "
+    );
     let second = words(alloc, &records[1])?;
     assert_eq!(rt; second.as_str(), "budget ");
     let handed = recorder.hand_overs();
@@ -228,11 +268,19 @@ fn takes_the_last_of_each(rt: HostRuntime) -> Result<(), Fail> {
     let mut recorder = Recorder::new(alloc);
     let mut shows = turn(alloc, 9, 1)?;
     shows.show = true;
-    let trace = run(alloc, &mut controller, &mut recorder, vec![in alloc; shows]?)?;
+    let trace = run(
+        alloc,
+        &mut controller,
+        &mut recorder,
+        vec![in alloc; shows]?,
+    )?;
     let records = trace.records.as_slice();
     assert_eq!(rt; records.len(), 1);
     let all = words(alloc, &records[0])?;
-    assert_eq!(rt; all.as_str(), "page wants:a wants:b wants:a budget takes:b:1 takes:a:2 stored:a:2 stored:b:1 ");
+    assert_eq!(rt;
+        all.as_str(),
+        "page wants:a wants:b wants:a budget takes:b:1 takes:a:2 stored:a:2 stored:b:1 "
+    );
     Ok(())
 }
 
@@ -264,7 +312,12 @@ fn is_spent_after_a_moment_that_falls(rt: HostRuntime) -> Result<(), Fail> {
         }
         _ => assert!(rt; false, "the second turn is built"),
     }
-    match run(alloc, &mut controller, &mut recorder, vec![in alloc; turn(alloc, 6, 3)?]?) {
+    match run(
+        alloc,
+        &mut controller,
+        &mut recorder,
+        vec![in alloc; turn(alloc, 6, 3)?]?,
+    ) {
         Err(RunError::Spent { trace }) => assert!(rt; trace.records.is_empty()),
         _ => assert!(rt; false, "the controller is not spent"),
     }

@@ -65,6 +65,19 @@ impl<A: ApiMode> Controller<WatchRoot<A>, NoRelated, ()> {
         E: Drop,
         requires callable { P.IsAlwaysCallable error_policy.now }
         requires few { length turns.items < 2 ^ 32 }
+
+        // A spent controller does nothing.
+        ensures spent { is_spent self.old ≡ true → IsErrAnd result IsSpent }
+        ensures was_spent { IfErr result (λ e. IfSpent e (λ records. (is_spent self.old ≡ true) × (records ≡ []))) }
+        ensures controller_stays { is_spent self.old ≡ true → self.new ≡ self.old }
+        ensures reconciler_stays { is_spent self.old ≡ true → reconciler.new ≡ reconciler.old }
+
+        // It is spent after each error, and after nothing else.
+        ensures spent_by_error { OnErr result (is_spent self.new ≡ true) }
+        ensures unspent { OnOk result (is_spent self.new ≡ false) }
+
+        // The turn that is not built comes after those that have records.
+        ensures not_built { IfErr result (λ e. IfNotBuiltTurn e (λ turn records. turn ≡ length records)) }
     {
         let mut records = List::new(alloc);
         if self.spent {

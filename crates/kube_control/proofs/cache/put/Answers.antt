@@ -1,4 +1,4 @@
-use Rattle.std.proofs.Common.{◌≡◌, ◌<◌, ◌∙◌, sym, ap, arith, length, map, set}
+use Rattle.std.proofs.Common.{◌<◌, ◌∙◌, sym, ap, arith, length, map, set}
 use Rattle.kube_control.specs.Views.{stored_of}
 use Rattle.kube_control.proofs.Put.{put_hit}
 use Rattle.kube_control.proofs.cache.put.Goals as goal
