@@ -1,4 +1,5 @@
 -- lemmas that the proofs cite
+mod AskSteps
 mod Put
 mod Finds
 mod LastOfEach

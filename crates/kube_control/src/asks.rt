@@ -1,8 +1,12 @@
 //! The asks of a turn.
 
-ghost use Rattle.std.specs.Prelude.{◌≡◌, if◌then◌else◌};
+ghost use Rattle.std.specs.Prelude.{◌≡◌, List, IfOk, IfErr, map, if◌then◌else◌};
 ghost use Rattle.std.specs.List.{list_any};
 ghost use Rattle.kube_control.specs.Asks.{is_not_ready as answered_not_ready};
+ghost use Rattle.kube_model.specs.Raw.{Raw, grown_by};
+ghost use Rattle.kube_control.specs.Exchanges.{AreAll, AreAsked, IsStoppedAsking};
+ghost use Rattle.kube_control.specs.Unbuilt.{IfNotBuilt};
+ghost use Rattle.kube_control.specs.Views.{exchange_of, kept_of};
 
 use crate::exchange::SourceExchange;
 use crate::fault::Fault;
@@ -27,7 +31,15 @@ pub fn ask_all<A: ApiMode>(
     alloc: Global,
     now: Moment,
     budget: u32,
-) -> Result<List<SourceExchange<A::Value>>, Fault> {
+) -> Result<List<SourceExchange<A::Value>>, Fault>
+    ensures asked { IfOk result (λ xs. (raws : List (Raw A.Value))
+        × AreAsked (A.Value.type_of root.old.dyntype) A.Value.meta_of now.0 (kept_of A.Value.type_of root.old) (map (exchange_of A.Value.type_of) xs) raws (kept_of A.Value.type_of root.new)
+        × (A.talk api.new ≡ grown_by (A.talk api.old) raws)) }
+    ensures all { IfOk result (λ xs. AreAll budget (map (exchange_of A.Value.type_of) xs)) }
+    ensures cause { IfErr result (λ f. IfNotBuilt f (IsStoppedAsking (A.Value.type_of root.old.dyntype) A.Value.meta_of now.0 budget
+        (kept_of A.Value.type_of root.old) (A.talk api.old) (A.talk api.new))) }
+    ensures dyntype { root.new.dyntype ≡ root.old.dyntype }
+{
     let mut made = List::new(alloc);
     for n in 0..budget {
         let exchange = ask(api, root, alloc, now)?;

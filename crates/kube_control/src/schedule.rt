@@ -5,7 +5,8 @@ ghost use Rattle.std.specs.List.{list_any};
 ghost use Rattle.kube_meta.specs.Keys.{reference_of};
 ghost use Rattle.kube_meta.specs.Reference.{same_reference};
 ghost use Rattle.kube_control.specs.Messages.{last_of_each as last_messages, same_message};
-ghost use Rattle.kube_control.specs.Views.{message_of, requested};
+ghost use Rattle.kube_control.specs.Exchanges.{requested};
+ghost use Rattle.kube_control.specs.Views.{exchange_of, message_of};
 
 use crate::exchange::SourceExchange;
 use crate::items::add;
@@ -46,7 +47,7 @@ pub fn requests_of<K: Resource>(
     alloc: Global,
     exchanges: &[SourceExchange<K>],
 ) -> Result<Vec<ReconcileRequest<K>>, NoMemory>
-    ensures { IfOk result (λ qs. map (message_of K.type_of) qs.items ≡ requested K.type_of exchanges.now) }
+    ensures { IfOk result (λ qs. map (message_of K.type_of) qs.items ≡ requested (map (exchange_of K.type_of) exchanges.now)) }
 {
     let mut all = Vec::new(alloc);
     for exchange in exchanges {

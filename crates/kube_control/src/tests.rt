@@ -8,7 +8,7 @@ use crate::{
 };
 use kube_api::{Page, Sequence, SequenceStep, TestMode};
 use kube_meta::{ApiResource, DynamicObject, List, Moment, NoMemory, ObjectMeta, ObjectRef, Text};
-use std::alloc::{AllocError, Global};
+use std::alloc::Global;
 use std::sync::Arc;
 use std::test::Fail;
 
@@ -109,114 +109,75 @@ fn run(
     controller.run(alloc, recorder, &policy, context, turns)
 }
 
-/// A turn's record in words: its exchanges, its requests, its stops and what it took.
-fn words(alloc: Global, record: &TurnRecord<DynamicObject, ()>) -> Result<String, AllocError> {
-    let mut words = String::new(alloc);
-    for exchange in record.exchanges.as_slice() {
-        words.push_str(match (&exchange.call, &exchange.answer) {
+/// How a run ended, and after how many records.
+#[derive(Clone, Copy, Debug, PartialEq, Eq)]
+enum Ended {
+    AfterAll(usize),
+    NoMemory,
+    NotBuilt(u32, usize),
+    Spent(usize),
+}
+
+fn end_of(answer: Result<Trace<DynamicObject, ()>, RunError<DynamicObject, ()>>) -> Ended {
+    match answer {
+        Ok(trace) => Ended::AfterAll(trace.records.len()),
+        Err(RunError::NoMemory { trace: _ }) => Ended::NoMemory,
+        Err(RunError::NotBuilt { turn, trace }) => Ended::NotBuilt(turn, trace.records.len()),
+        Err(RunError::Spent { trace }) => Ended::Spent(trace.records.len()),
+    }
+}
+
+/// What a turn's exchange of this number was.
+fn told(record: &TurnRecord<DynamicObject, ()>, number: usize) -> &'static str {
+    match record.exchanges.as_slice().get(number) {
+        Some(exchange) => match (&exchange.call, &exchange.answer) {
             (
                 Call::List { token: None },
                 Answer::Page {
                     token: None,
                     version: Some(_),
                 },
-            ) => "page ",
+            ) => "page",
             (
                 Call::Watch {
                     version: _,
                     initial: false,
                 },
                 Answer::Opened,
-            ) => "opened ",
-            (Call::Next, Answer::NotReady) => "waits ",
-            _ => "other ",
-        })?;
-        for request in exchange.requests.as_slice() {
-            words.push_str("wants:")?;
-            words.push_str(request.obj_ref.name.as_str())?;
-            words.push_str(" ")?;
-        }
+            ) => "opened",
+            (Call::Next, Answer::NotReady) => "waits",
+            _ => "other",
+        },
+        None => "none",
     }
-    for stop in record.stops.as_slice() {
-        words.push_str(match stop {
-            Stop::NotReady => "not-ready ",
-            Stop::Budget => "budget ",
-            _ => "other ",
-        })?;
-    }
-    for taken in record.taken.as_slice() {
-        add_taken(&mut words, taken)?;
-    }
-    if let Some(store) = &record.store {
-        for object in store.as_slice() {
-            words.push_str("stored:")?;
-            words.push_str(
-                object
-                    .metadata
-                    .name
-                    .as_ref()
-                    .map_or("", |name| name.as_str()),
-            )?;
-            words.push_str(":")?;
-            words.push_str(
-                object
-                    .metadata
-                    .resource_version
-                    .as_ref()
-                    .map_or("", |v| v.as_str()),
-            )?;
-            words.push_str(" ")?;
-        }
-    }
-    Ok(words)
 }
 
-/// Adds what was taken, in words.
-fn add_taken(words: &mut String, taken: &Taken<DynamicObject>) -> Result<(), AllocError> {
-    match taken {
-        Taken::Started {
-            reference,
-            reason,
-            object,
-        } => {
-            words.push_str("takes:")?;
-            words.push_str(reference.name.as_str())?;
-            words.push_str(":")?;
-            words.push_str(
-                object
-                    .metadata
-                    .resource_version
-                    .as_ref()
-                    .map_or("", |v| v.as_str()),
-            )?;
-            words.push_str(match reason {
-                ReconcileReason::ObjectUpdated => " ",
-                _ => ":other ",
-            })?;
-        }
-        Taken::NotFound {
-            reference: _,
-            reason: _,
-        } => words.push_str("lost ")?,
-        Taken::Nothing => words.push_str("nothing ")?,
+/// How many requests the first exchange has.
+fn requests(record: &TurnRecord<DynamicObject, ()>) -> usize {
+    match record.exchanges.as_slice().first() {
+        Some(exchange) => exchange.requests.len(),
+        None => 0,
     }
-    Ok(())
 }
 
-/// The number of the turn that is not built, and how many records stand before it.
-fn not_built(
-    alloc: Global,
-    page: Page<DynamicObject>,
-    turns: Vec<Turn<DynamicObject, ()>>,
-) -> Result<(u32, usize), Fail>
-    requires { length turns.items < 2 ^ 32 }
-{
-    let mut controller = controller(alloc, page)?;
-    let mut recorder = Recorder::new(alloc);
-    match run(alloc, &mut controller, &mut recorder, turns) {
-        Err(RunError::NotBuilt { turn, trace }) => Ok((turn, trace.records.len())),
-        Err(error) => Err(Fail::new(error)),
-        Ok(_) => Err(Fail::new("each turn is built")),
+fn is(object: &DynamicObject, name: &str, version: &str) -> bool {
+    match (&object.metadata.name, &object.metadata.resource_version) {
+        (Some(n), Some(v)) => n.as_str() == name && v.as_str() == version,
+        _ => false,
+    }
+}
+
+/// Whether the take of this number started this object.
+fn takes(record: &TurnRecord<DynamicObject, ()>, number: usize, name: &str, version: &str) -> bool {
+    match record.taken.as_slice().get(number) {
+        Some(
+            Taken::Started {
+                reference,
+                reason: ReconcileReason::ObjectUpdated,
+                object,
+            },
+        ) => reference.name.as_str() == name && is(object, name, version),
+        _ => false,
     }
 }
 
@@ -247,16 +208,20 @@ fn lists_watches_and_takes(rt: HostRuntime) -> Result<(), Fail> {
     let trace = run(alloc, &mut controller, &mut recorder, turns)?;
     let records = trace.records.as_slice();
     assert_eq!(rt; records.len(), 2);
-    let first = words(alloc, &records[0])?;
-    assert_eq!(rt;
-        first.as_str(),
-        "page wants:a opened waits not-ready takes:a:1 "
-    );
-    let second = words(alloc, &records[1])?;
-    assert_eq!(rt; second.as_str(), "budget ");
+    assert_eq!(rt; told(&records[0], 0), "page");
+    assert_eq!(rt; told(&records[0], 1), "opened");
+    assert_eq!(rt; told(&records[0], 2), "waits");
+    assert_eq!(rt; told(&records[0], 3), "none");
+    assert_eq!(rt; requests(&records[0]), 1);
+    assert_eq!(rt; records[0].stops.as_slice(), [Stop::NotReady].as_slice());
+    assert_eq!(rt; records[0].taken.len(), 1);
+    assert!(rt; takes(&records[0], 0, "a", "1"));
+    assert_eq!(rt; told(&records[1], 0), "none");
+    assert_eq!(rt; records[1].stops.as_slice(), [Stop::Budget].as_slice());
+    assert_eq!(rt; records[1].taken.len(), 0);
     let handed = recorder.hand_overs();
     assert_eq!(rt; handed.len(), 1);
-    assert_eq!(rt; handed[0].reference.name.as_str(), "a");
+    assert!(rt; is(&handed[0].object, "a", "1"));
     Ok(())
 }
 
@@ -276,11 +241,14 @@ fn takes_the_last_of_each(rt: HostRuntime) -> Result<(), Fail> {
     )?;
     let records = trace.records.as_slice();
     assert_eq!(rt; records.len(), 1);
-    let all = words(alloc, &records[0])?;
-    assert_eq!(rt;
-        all.as_str(),
-        "page wants:a wants:b wants:a budget takes:b:1 takes:a:2 stored:a:2 stored:b:1 "
-    );
+    assert_eq!(rt; requests(&records[0]), 3);
+    assert_eq!(rt; records[0].taken.len(), 2);
+    assert!(rt; takes(&records[0], 0, "b", "1"));
+    assert!(rt; takes(&records[0], 1, "a", "2"));
+    let store = records[0].store.as_ref().ok_or("not shown")?.as_slice();
+    assert_eq!(rt; store.len(), 2);
+    assert!(rt; is(&store[0], "a", "2"));
+    assert!(rt; is(&store[1], "b", "1"));
     Ok(())
 }
 
@@ -289,13 +257,19 @@ fn tells_what_is_not_built(rt: HostRuntime) -> Result<(), Fail> {
     let alloc = rt.alloc();
     for asks_for in ["on", "finish", "reload", "graceful", "forced", "late"] {
         let turns = vec![in alloc; turn(alloc, 0, 0)?, turn_that(alloc, asks_for)?]?;
-        let told = not_built(alloc, page(alloc, "1", &[])?, turns)?;
-        assert_eq!(rt; told, (1, 1), "{asks_for}");
+        let mut controller = controller(alloc, page(alloc, "1", &[])?)?;
+        let answer = run(alloc, &mut controller, &mut Recorder::new(alloc), turns);
+        assert_eq!(rt; end_of(answer), Ended::NotBuilt(1, 1), "{asks_for}");
     }
     for (version, name) in [("", "a"), ("1", "")] {
         let turns = vec![in alloc; turn(alloc, 0, 1)?]?;
-        let told = not_built(alloc, page(alloc, version, &[(name, "1")])?, turns)?;
-        assert_eq!(rt; told, (0, 0), "version {version}, name {name}");
+        let mut controller = controller(alloc, page(alloc, version, &[(name, "1")])?)?;
+        let answer = run(alloc, &mut controller, &mut Recorder::new(alloc), turns);
+        assert_eq!(rt;
+            end_of(answer),
+            Ended::NotBuilt(0, 0),
+            "version {version}, name {name}"
+        );
     }
     Ok(())
 }
@@ -305,22 +279,12 @@ fn is_spent_after_a_moment_that_falls(rt: HostRuntime) -> Result<(), Fail> {
     let alloc = rt.alloc();
     let mut controller = controller(alloc, page(alloc, "1", &[("a", "1")])?)?;
     let mut recorder = Recorder::new(alloc);
-    let turns = vec![in alloc; turn(alloc, 5, 3)?, turn(alloc, 4, 3)?]?;
-    match run(alloc, &mut controller, &mut recorder, turns) {
-        Err(RunError::NotBuilt { turn, trace }) => {
-            assert_eq!(rt; (turn, trace.records.len()), (1, 1));
-        }
-        _ => assert!(rt; false, "the second turn is built"),
-    }
-    match run(
-        alloc,
-        &mut controller,
-        &mut recorder,
-        vec![in alloc; turn(alloc, 6, 3)?]?,
-    ) {
-        Err(RunError::Spent { trace }) => assert!(rt; trace.records.is_empty()),
-        _ => assert!(rt; false, "the controller is not spent"),
-    }
+    let falls = vec![in alloc; turn(alloc, 5, 3)?, turn(alloc, 4, 3)?]?;
+    let first = run(alloc, &mut controller, &mut recorder, falls);
+    assert_eq!(rt; end_of(first), Ended::NotBuilt(1, 1));
+    let later = vec![in alloc; turn(alloc, 6, 3)?]?;
+    let second = run(alloc, &mut controller, &mut recorder, later);
+    assert_eq!(rt; end_of(second), Ended::Spent(0));
     assert_eq!(rt; recorder.hand_overs().len(), 1);
     Ok(())
 }
@@ -328,19 +292,15 @@ fn is_spent_after_a_moment_that_falls(rt: HostRuntime) -> Result<(), Fail> {
 #[test]
 fn waits_within_the_window_alone(rt: HostRuntime) -> Result<(), Fail> {
     let alloc = rt.alloc();
-    for (at, want) in [(295_000_000_006, None), (295_000_000_007, Some((1, 1)))] {
+    let cases = [
+        (295_000_000_006, Ended::AfterAll(2)),
+        (295_000_000_007, Ended::NotBuilt(1, 1)),
+    ];
+    for (at, want) in cases {
         let mut controller = controller(alloc, page(alloc, "1", &[])?)?;
-        let mut recorder = Recorder::new(alloc);
         let turns = vec![in alloc; turn(alloc, 7, 3)?, turn(alloc, at, 1)?]?;
-        let told = match run(alloc, &mut controller, &mut recorder, turns) {
-            Err(RunError::NotBuilt { turn, trace }) => Some((turn, trace.records.len())),
-            Err(error) => return Err(Fail::new(error)),
-            Ok(trace) => {
-                assert_eq!(rt; trace.records.len(), 2);
-                None
-            }
-        };
-        assert_eq!(rt; told, want, "at {at}");
+        let answer = run(alloc, &mut controller, &mut Recorder::new(alloc), turns);
+        assert_eq!(rt; end_of(answer), want, "at {at}");
     }
     Ok(())
 }

@@ -1,5 +1,12 @@
 //! The watcher of a root (kube-runtime's `watcher`).
 
+ghost use Rattle.std.specs.Prelude.{◌≡◌, IfOk, IfErr};
+ghost use Rattle.std.specs.Option.{option_map};
+ghost use Rattle.kube_model.specs.Raw.{Raw, grown};
+ghost use Rattle.kube_control.specs.Exchanges.{AskedFrom, IsCalledFrom, IsUnbuiltFrom, or_now};
+ghost use Rattle.kube_control.specs.Unbuilt.{IfNotBuilt};
+ghost use Rattle.kube_control.specs.Views.{exchange_of, kept_of};
+
 use crate::cache::Stored;
 use crate::calls::{LastPage, list_page, open_watch, poll_watch};
 use crate::exchange::SourceExchange;
@@ -40,7 +47,16 @@ fn ask_list<A: ApiMode>(
     root: &mut Root<A::Value>,
     alloc: Global,
     now: Moment,
-) -> Result<SourceExchange<A::Value>, Fault> {
+) -> Result<SourceExchange<A::Value>, Fault>
+    ensures asked { IfOk result (λ x. AskedFrom (A.Value.type_of root.old.dyntype) A.Value.meta_of State.Start
+        (kept_of A.Value.type_of root.old) now.0 (exchange_of A.Value.type_of x) (kept_of A.Value.type_of root.new)) }
+    ensures talk { IfOk result (λ x. (raw : Raw A.Value) × IsCalledFrom State.Start (exchange_of A.Value.type_of x) raw
+        × (A.talk api.new ≡ grown (A.talk api.old) raw)) }
+    ensures cause { IfErr result (λ f. IfNotBuilt f ((raw : Raw A.Value)
+        × IsUnbuiltFrom A.Value.meta_of State.Start now.0 (kept_of A.Value.type_of root.old).silent_since raw
+        × (A.talk api.new ≡ grown (A.talk api.old) raw))) }
+    ensures dyntype { root.new.dyntype ≡ root.old.dyntype }
+{
     let LastPage { items, version } = list_page(api, alloc, now)?;
     let Listed { cache, requests } = make_listed(alloc, &root.dyntype, items.as_slice())?;
     root.state = State::From {
@@ -68,7 +84,16 @@ fn ask_watch<A: ApiMode>(
     alloc: Global,
     version: Text,
     now: Moment,
-) -> Result<SourceExchange<A::Value>, Fault> {
+) -> Result<SourceExchange<A::Value>, Fault>
+    ensures asked { IfOk result (λ x. AskedFrom (A.Value.type_of root.old.dyntype) A.Value.meta_of (State.From version)
+        (kept_of A.Value.type_of root.old) now.0 (exchange_of A.Value.type_of x) (kept_of A.Value.type_of root.new)) }
+    ensures talk { IfOk result (λ x. (raw : Raw A.Value) × IsCalledFrom (State.From version) (exchange_of A.Value.type_of x) raw
+        × (A.talk api.new ≡ grown (A.talk api.old) raw)) }
+    ensures cause { IfErr result (λ f. IfNotBuilt f ((raw : Raw A.Value)
+        × IsUnbuiltFrom A.Value.meta_of (State.From version) now.0 (kept_of A.Value.type_of root.old).silent_since raw
+        × (A.talk api.new ≡ grown (A.talk api.old) raw))) }
+    ensures dyntype { root.new.dyntype ≡ root.old.dyntype }
+{
     open_watch(api, alloc, version.as_str(), now)?;
     root.state = State::Open;
     root.silent_since = None;
@@ -85,18 +110,35 @@ fn ask_watch<A: ApiMode>(
     })
 }
 
+/// Since when the watch is silent, which begins now where it wasn't.
+fn silence_start(silent_since: Option<Moment>, now: Moment) -> Moment
+    ensures { result.0 ≡ or_now now.0 (option_map (λ m. m.0) silent_since) }
+{
+    match silent_since {
+        None => now,
+        Some(since) => since,
+    }
+}
+
 /// The next event of the open watch, which isn't there yet.
 fn ask_next<A: ApiMode>(
     api: &mut A,
     root: &mut Root<A::Value>,
     alloc: Global,
     now: Moment,
-) -> Result<SourceExchange<A::Value>, Fault> {
+) -> Result<SourceExchange<A::Value>, Fault>
+    requires { root.old.state ≡ State.Open }
+    ensures asked { IfOk result (λ x. AskedFrom (A.Value.type_of root.old.dyntype) A.Value.meta_of State.Open
+        (kept_of A.Value.type_of root.old) now.0 (exchange_of A.Value.type_of x) (kept_of A.Value.type_of root.new)) }
+    ensures talk { IfOk result (λ x. (raw : Raw A.Value) × IsCalledFrom State.Open (exchange_of A.Value.type_of x) raw
+        × (A.talk api.new ≡ grown (A.talk api.old) raw)) }
+    ensures cause { IfErr result (λ f. IfNotBuilt f ((raw : Raw A.Value)
+        × IsUnbuiltFrom A.Value.meta_of State.Open now.0 (kept_of A.Value.type_of root.old).silent_since raw
+        × (A.talk api.new ≡ grown (A.talk api.old) raw))) }
+    ensures dyntype { root.new.dyntype ≡ root.old.dyntype }
+{
     poll_watch(api, alloc, now)?;
-    let since = match root.silent_since {
-        None => now,
-        Some(since) => since,
-    };
+    let since = silence_start(root.silent_since, now);
     if now.0.saturating_sub(since.0) >= IDLE_WINDOW {
         return Err(Fault::NotBuilt);
     }
@@ -117,7 +159,16 @@ pub fn ask<A: ApiMode>(
     root: &mut Root<A::Value>,
     alloc: Global,
     now: Moment,
-) -> Result<SourceExchange<A::Value>, Fault> {
+) -> Result<SourceExchange<A::Value>, Fault>
+    ensures asked { IfOk result (λ x. AskedFrom (A.Value.type_of root.old.dyntype) A.Value.meta_of root.old.state
+        (kept_of A.Value.type_of root.old) now.0 (exchange_of A.Value.type_of x) (kept_of A.Value.type_of root.new)) }
+    ensures talk { IfOk result (λ x. (raw : Raw A.Value) × IsCalledFrom root.old.state (exchange_of A.Value.type_of x) raw
+        × (A.talk api.new ≡ grown (A.talk api.old) raw)) }
+    ensures cause { IfErr result (λ f. IfNotBuilt f ((raw : Raw A.Value)
+        × IsUnbuiltFrom A.Value.meta_of root.old.state now.0 (kept_of A.Value.type_of root.old).silent_since raw
+        × (A.talk api.new ≡ grown (A.talk api.old) raw))) }
+    ensures dyntype { root.new.dyntype ≡ root.old.dyntype }
+{
     match &root.state {
         State::Start => ask_list(api, root, alloc, now),
         State::From { version } => {

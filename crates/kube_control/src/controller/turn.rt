@@ -1,8 +1,13 @@
 //! One turn.
 
-ghost use Rattle.std.specs.Prelude.{◌≡◌, ◌≤◌, ◌<◌, ◌^◌, OnOk, OnErr, IfErr, IfOk, Some, None, map, slice_index, if◌then◌else◌};
-ghost use Rattle.kube_control.specs.Unbuilt.{DoesMore, OnlyAsks};
-ghost use Rattle.kube_control.specs.Views.{object_of, shown_objects};
+ghost use Rattle.std.specs.Prelude.{◌≡◌, ◌⊎◌, [], ◌∷◌, List, false, OnOk, OnErr, IfErr, IfOk, Some, None, map, slice_index, if◌then◌else◌};
+ghost use Rattle.std.specs.List.{filter_map, list_any};
+ghost use Rattle.kube_model.specs.Raw.{Raw, grown_by};
+ghost use Rattle.kube_control.specs.Asks.{is_not_ready};
+ghost use Rattle.kube_control.specs.Exchanges.{AreAll, AreAsked, IsStoppedAsking, waiting_after};
+ghost use Rattle.kube_control.specs.Messages.{take_of, handed};
+ghost use Rattle.kube_control.specs.Unbuilt.{DoesMore, IfNotBuilt, OnlyAsks};
+ghost use Rattle.kube_control.specs.Views.{exchange_of, kept_of, object_of, shown_objects, taken_of};
 
 use crate::asks::{ask_all, stop_of};
 use crate::cache::{Stored, state};
@@ -82,7 +87,30 @@ pub fn take_turn<A: ApiMode, Ctx: Drop, Rc: Reconciler<A::Value, Ctx>, E: Drop>(
     context: &Arc<Ctx>,
     last: Moment,
     turn: &Turn<A::Value, E>,
-) -> Result<TurnRecord<A::Value, E>, Fault> {
+) -> Result<TurnRecord<A::Value, E>, Fault>
+    ensures only_asks { OnOk result (OnlyAsks turn.now last.0) }
+    // The exchanges are made one after another, each by a call of the API.
+    ensures asked { IfOk result (λ r. (raws : List (Raw A.Value))
+        × AreAsked (A.Value.type_of root.old.state.dyntype) A.Value.meta_of turn.now.at.0 (kept_of A.Value.type_of root.old.state)
+        (map (exchange_of A.Value.type_of) r.exchanges) raws (kept_of A.Value.type_of root.new.state)
+        × (A.talk root.new.api ≡ grown_by (A.talk root.old.api) raws)) }
+    ensures all { IfOk result (λ r. AreAll (slice_index turn.now.budget 0) (map (exchange_of A.Value.type_of) r.exchanges)) }
+    // Of each reference that was requested the last message is taken.
+    ensures taken { IfOk result (λ r. map (taken_of A.Value.type_of) r.taken
+        ≡ map (λ m. Some (take_of (kept_of A.Value.type_of root.new.state).stored m)) (waiting_after (map (exchange_of A.Value.type_of) r.exchanges))) }
+    ensures handed { IfOk result (λ r. Rc.handed reconciler.new ≡ grown_by (Rc.handed reconciler.old)
+        (filter_map handed (map (take_of (kept_of A.Value.type_of root.new.state).stored) (waiting_after (map (exchange_of A.Value.type_of) r.exchanges))))) }
+    // The rest of the record.
+    ensures at { IfOk result (λ r. r.at ≡ turn.now.at) }
+    ensures stops { IfOk result (λ r. r.stops ≡ (if list_any (λ x. is_not_ready x.answer) r.exchanges then Stop.NotReady else Stop.Budget) ∷ []) }
+    ensures store { IfOk result (λ r. shown_objects r.store ≡ (if turn.now.show then Some (map object_of root.new.state.cache.items) else None)) }
+    ensures plain { IfOk result (λ r. (r.finished ≡ []) × (r.runner ≡ None) × (r.ended ≡ false)) }
+    // It does more than ask, or an answer came that is not built.
+    ensures cause { IfErr result (λ f. IfNotBuilt f (DoesMore turn.now last.0
+        ⊎ IsStoppedAsking (A.Value.type_of root.old.state.dyntype) A.Value.meta_of turn.now.at.0 (slice_index turn.now.budget 0)
+        (kept_of A.Value.type_of root.old.state) (A.talk root.old.api) (A.talk root.new.api))) }
+    ensures dyntype { root.new.state.dyntype ≡ root.old.state.dyntype }
+{
     test(turn, last)?;
     let budget = root_budget(turn.budget.as_slice());
     let exchanges = ask_all(&mut root.api, &mut root.state, alloc, turn.at, budget)?;
