@@ -2,6 +2,7 @@
 
 ghost use Rattle.std.specs.Prelude.{◌≡◌, ◌⊎◌, [], ◌∷◌, List, false, OnOk, OnErr, IfErr, IfOk, Some, None, map, slice_index, if◌then◌else◌};
 ghost use Rattle.std.specs.List.{filter_map, list_any};
+ghost use Rattle.kube_model.specs.declared.turn.Stop.TheVariants.{NotReady, Budget};
 ghost use Rattle.kube_model.specs.Raw.{Raw, grown_by};
 ghost use Rattle.kube_control.specs.Asks.{is_not_ready};
 ghost use Rattle.kube_control.specs.Exchanges.{AreAll, AreAsked, IsStoppedAsking, waiting_after};
@@ -102,7 +103,7 @@ pub fn take_turn<A: ApiMode, Ctx: Drop, Rc: Reconciler<A::Value, Ctx>, E: Drop>(
         (filter_map handed (map (take_of (kept_of A.Value.type_of root.new.state).stored) (waiting_after (map (exchange_of A.Value.type_of) r.exchanges))))) }
     // The rest of the record.
     ensures at { IfOk result (λ r. r.at ≡ turn.now.at) }
-    ensures stops { IfOk result (λ r. r.stops ≡ (if list_any (λ x. is_not_ready x.answer) r.exchanges then Stop.NotReady else Stop.Budget) ∷ []) }
+    ensures stops { IfOk result (λ r. r.stops ≡ (if list_any (λ x. is_not_ready x.answer) r.exchanges then NotReady else Budget) ∷ []) }
     ensures store { IfOk result (λ r. shown_objects r.store ≡ (if turn.now.show then Some (map object_of root.new.state.cache.items) else None)) }
     ensures plain { IfOk result (λ r. (r.finished ≡ []) × (r.runner ≡ None) × (r.ended ≡ false)) }
     // It does more than ask, or an answer came that is not built.

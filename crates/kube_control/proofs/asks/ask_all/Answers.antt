@@ -1,4 +1,4 @@
-use Rattle.std.proofs.Common.{◌≡◌, ◌<◌, ◌≤◌, List, ◌∷◌, [], ◌++◌, arith, false, true, length, map, sym, ◌∙◌, ap, subst}
+use Rattle.std.proofs.Common.{◌≡◌, ◌<◌, List, arith, length, map, sym, ◌∙◌, ap, subst}
 use Rattle.std.proofs.lemmas.List.{map-append}
 use Rattle.kube_model.specs.Raw.{Raw, grown_by}
 use Rattle.kube_control.specs.Exchanges.{AreAll, AreAsked, Asked, any_not_ready}
