@@ -1,3 +1,11 @@
 -- the definitions that the contracts cite
-pub mod HandOvers
+pub mod Controllers
+pub mod Exchanges
+pub mod Faults
 pub mod Finishes
+pub mod HandOvers
+pub mod Keyed
+pub mod Messages
+pub mod Stores
+pub mod Unbuilt
+pub mod Views
