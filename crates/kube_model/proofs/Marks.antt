@@ -12,10 +12,10 @@ use Rattle.kube_model.specs.Owed.{is_initial, is_opened, is_ending, is_initial_c
 use Rattle.kube_model.specs.SecondForms.{initial_after}
 use Rattle.kube_model.proofs.Lasts.{last-push, after_last-hit, after_last-miss}
 
-filter-hit : {A : Type 0} (p : A → Bool) (xs : List A) (x : A) → p x ≡ true → filter p (xs ++ x ∷ []) ≡ filter p xs ++ x ∷ []
+pub filter-hit : {A : Type 0} (p : A → Bool) (xs : List A) (x : A) → p x ≡ true → filter p (xs ++ x ∷ []) ≡ filter p xs ++ x ∷ []
 filter-hit p xs x h = filter-append p xs (x ∷ []) ∙ ap (λ b. filter p xs ++ (if b then x ∷ [] else [])) h
 
-filter-miss : {A : Type 0} (p : A → Bool) (xs : List A) (x : A) → p x ≡ false → filter p (xs ++ x ∷ []) ≡ filter p xs
+pub filter-miss : {A : Type 0} (p : A → Bool) (xs : List A) (x : A) → p x ≡ false → filter p (xs ++ x ∷ []) ≡ filter p xs
 filter-miss p xs x h = filter-append p xs (x ∷ []) ∙ ap (λ b. filter p xs ++ (if b then x ∷ [] else [])) h ∙ append-nil (filter p xs)
 
 not-or : (a b c : Bool) → a && not (b || c) ≡ a && not b && not c
