@@ -5,3 +5,4 @@ mod Finds
 mod LastOfEach
 mod ListedSteps
 mod TakeSteps
+pub mod OneTurn
