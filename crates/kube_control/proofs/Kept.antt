@@ -1,25 +1,22 @@
 -- One more exchange of a root that keeps what its exchanges leave: it fits, and what is kept then is what all of them leave.
-use Rattle.std.proofs.Common.{◌≡◌, ℕ, ◌+◌, ◌-◌, Bool, true, false, not, ◌&&◌, ◌||◌, ◌==◌, nat_le, cond, List, [], ◌∷◌, ◌++◌, map, Option, Some, None, if◌then◌else◌, is_some, unwrap_or, refl, sym, ap, subst, ◌∙◌, ◌⊎◌, inl, inr, append_assoc, append-nil, IsTrue, arith}
-use Rattle.std.specs.List.{filter, filter_map, flat_map, cons_option, find, fold, list_any, AllByRecursion}
+use Rattle.std.proofs.Common.{◌≡◌, ℕ, Bool, true, false, not, ◌==◌, cond, List, [], ◌∷◌, ◌++◌, map, Option, Some, None, if◌then◌else◌, is_some, unwrap_or, refl, sym, ap, subst, ◌∙◌, inr, append-nil, arith}
+use Rattle.std.specs.List.{filter_map, flat_map, cons_option, find, fold, list_any, AllByRecursion}
 use Rattle.std.specs.Option.{option_map, option_or}
 use Rattle.std.proofs.lemmas.Bool.{false≢true, eq-eqb}
 use Rattle.std.proofs.lemmas.Bool.Decides.{nat_tests}
-use Rattle.std.proofs.lemmas.List.Elements.{filter-append, filter_map-append}
+use Rattle.std.proofs.lemmas.List.Elements.{filter_map-append}
 use Rattle.std.proofs.lemmas.List.Sums.{fold-append}
-use Rattle.std.proofs.lemmas.Grind.{flat_map-append}
 use Rattle.kube_meta.specs.declared.metadata.ObjectMeta.{ObjectMeta}
 use Rattle.kube_meta.specs.Reference.{ObjectType, Reference, same_reference}
-use Rattle.kube_model.specs.declared.call.Answer.{Answer}
-use Rattle.kube_model.specs.declared.call.Answer.TheVariants.{Page, Opened, NotReady}
-use Rattle.kube_model.specs.declared.call.Call.TheVariants.{List as ListCall, Watch, Next}
-use Rattle.kube_model.specs.World.{World, Watched, default_settings, feed_of}
-use Rattle.kube_model.specs.History.{Message, Exchange, Dated, dated_of, exchanges_of}
+use Rattle.kube_model.specs.declared.call.Answer.TheVariants.{Page}
+use Rattle.kube_model.specs.World.{Watched, default_settings, feed_of}
+use Rattle.kube_model.specs.History.{Exchange, Dated, dated_of, exchanges_of}
 use Rattle.std.proofs.lemmas.List.{map-append}
 use Rattle.kube_model.specs.Raw.{Raw}
-use Rattle.kube_model.specs.Cuts.{last, up_to_last, after_last, from_last}
-use Rattle.kube_model.specs.Owed.{owed, owed_by, owed_after, answered, seen, version_seen, is_initial, is_not_ready, is_next, Marked, mark, marks}
-use Rattle.kube_model.specs.Store.{put, changed, store_of, listed, listed_to, listed_by, is_ready, completes, changes_of, is_list_start, paged, paged_since_start}
-use Rattle.kube_model.specs.Fits.{IsFitting, nonempty, silent_since, is_window_over, requests_of_watch, updated as updated_in}
+use Rattle.kube_model.specs.Cuts.{last, up_to_last, after_last}
+use Rattle.kube_model.specs.Owed.{owed, owed_by, answered, seen, version_seen, is_initial, is_not_ready, is_next, Marked, mark, marks}
+use Rattle.kube_model.specs.Store.{put, changed, store_of, listed, listed_to, listed_by, is_ready, completes, changes_of, is_list_start, paged}
+use Rattle.kube_model.specs.Fits.{IsFitting, nonempty, silent_since, is_window_over, updated as updated_in}
 use Rattle.kube_model.specs.Pause.{Pause, pause_of, pause_after, pause_by, pause_reset, pause_asked, has_requests}
 use Rattle.kube_model.proofs.Lasts.{last-push, any-hit, after_last-hit, after_last-miss, from_last-hit, up_to_last-hit}
 use Rattle.kube_model.proofs.Marks.{filter-hit, filter-miss, initial-push, marks-push}
@@ -134,21 +131,26 @@ module _ {O : Type 0} (t : ObjectType) (meta : O → ObjectMeta) where
           → (map (λ (s : Reference × O). s.1) (if b then keyed t meta o ∷ ps else p ∷ put_stored ps (keyed t meta o))
           ≡ (if (same_reference ((world_of t meta).key p.1) ((world_of t meta).key o)) then o ∷ map (λ (s : Reference × O). s.1) ps else p.1 ∷ put (world_of t meta).key (map (λ (s : Reference × O). s.1) ps) o))
           × AllByRecursion (λ (s : Reference × O). s.0 ≡ (world_of t meta).key s.1) (if b then keyed t meta o ∷ ps else p ∷ put_stored ps (keyed t meta o))
-      go true e r =
-          (sym (ap (λ k. if (same_reference k ((world_of t meta).key o)) then o ∷ map (λ (s : Reference × O). s.1) ps else p.1 ∷ put (world_of t meta).key (map (λ (s : Reference × O). s.1) ps) o) (sym h.0)
-          ∙ ap (λ c. if c then o ∷ map (λ (s : Reference × O). s.1) ps else p.1 ∷ put (world_of t meta).key (map (λ (s : Reference × O). s.1) ps) o) e), (refl, h.1))
-      go false e r =
-          (ap (λ os. p.1 ∷ os) r.0
-          ∙ sym (ap (λ k. if (same_reference k ((world_of t meta).key o)) then o ∷ map (λ (s : Reference × O). s.1) ps else p.1 ∷ put (world_of t meta).key (map (λ (s : Reference × O). s.1) ps) o) (sym h.0)
-          ∙ ap (λ c. if c then o ∷ map (λ (s : Reference × O). s.1) ps else p.1 ∷ put (world_of t meta).key (map (λ (s : Reference × O). s.1) ps) o) e), (h.0, r.1))
+      go true e r = (
+        sym (ap (λ k. if (same_reference k ((world_of t meta).key o)) then o ∷ map (λ (s : Reference × O). s.1) ps else p.1 ∷ put (world_of t meta).key (map (λ (s : Reference × O). s.1) ps) o) (sym h.0)
+            ∙ ap (λ c. if c then o ∷ map (λ (s : Reference × O). s.1) ps else p.1 ∷ put (world_of t meta).key (map (λ (s : Reference × O). s.1) ps) o) e),
+        (refl, h.1),
+      )
+      go false e r = (
+        ap (λ os. p.1 ∷ os) r.0
+            ∙ sym (ap (λ k. if (same_reference k ((world_of t meta).key o)) then o ∷ map (λ (s : Reference × O). s.1) ps else p.1 ∷ put (world_of t meta).key (map (λ (s : Reference × O). s.1) ps) o) (sym h.0)
+            ∙ ap (λ c. if c then o ∷ map (λ (s : Reference × O). s.1) ps else p.1 ∷ put (world_of t meta).key (map (λ (s : Reference × O). s.1) ps) o) e),
+        (h.0, r.1),
+      )
 
   pairs-fold : (ps : List (Reference × O)) (os : List O) → AllByRecursion (λ s. s.0 ≡ (world_of t meta).key s.1) ps
       → (map (λ s. s.1) (fold put_stored ps (map (keyed t meta) os)) ≡ fold (put (world_of t meta).key) (map (λ s. s.1) ps) os)
       × AllByRecursion (λ s. s.0 ≡ (world_of t meta).key s.1) (fold put_stored ps (map (keyed t meta) os))
   pairs-fold ps [] h = (refl, h)
-  pairs-fold ps (o ∷ os) h =
-      ((pairs-fold (put_stored ps (keyed t meta o)) os (pairs-put ps o h).1).0 ∙ ap (λ qs. fold (put (world_of t meta).key) qs os) (pairs-put ps o h).0,
-      (pairs-fold (put_stored ps (keyed t meta o)) os (pairs-put ps o h).1).1)
+  pairs-fold ps (o ∷ os) h = (
+    (pairs-fold (put_stored ps (keyed t meta o)) os (pairs-put ps o h).1).0 ∙ ap (λ qs. fold (put (world_of t meta).key) qs os) (pairs-put ps o h).0,
+    (pairs-fold (put_stored ps (keyed t meta o)) os (pairs-put ps o h).1).1,
+  )
 
   -- The three exchanges.
 

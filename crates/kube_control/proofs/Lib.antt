@@ -6,3 +6,6 @@ mod LastOfEach
 mod ListedSteps
 mod TakeSteps
 pub mod Kept
+pub mod OneTurn
+pub mod TurnAsks
+pub mod OneRecord

@@ -1,5 +1,5 @@
 -- The world of a controller of this form: one source that lists and watches by the default configuration, no limit, no debounce, and no backoff.
-use Rattle.std.specs.Prelude.{ℕ, Option, None, List, [], ◌∷◌}
+use Rattle.std.specs.Prelude.{None, [], ◌∷◌}
 use Rattle.kube_meta.specs.declared.metadata.ObjectMeta.{ObjectMeta}
 use Rattle.kube_meta.specs.Reference.{ObjectType}
 use Rattle.kube_meta.specs.Keys.{key_of, is_named}
