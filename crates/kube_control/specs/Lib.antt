@@ -1,8 +1,8 @@
 -- the definitions that the contracts cite
-pub mod Asks
 pub mod Controllers
 pub mod Exchanges
 pub mod Faults
+pub mod Finishes
 pub mod HandOvers
 pub mod Keyed
 pub mod Messages

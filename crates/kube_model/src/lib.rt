@@ -3,8 +3,11 @@
 
 pub mod call;
 pub mod error;
+pub mod laws;
 pub mod params;
 pub mod reason;
+pub mod refused;
+pub mod rows;
 pub mod turn;
 
 pub use call::{Answer, Call};
