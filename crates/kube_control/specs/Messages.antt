@@ -1,4 +1,4 @@
--- What is taken of the messages of one turn, where there is room for all of them.
+-- Which of a turn's messages are taken, and what is handed over for them.
 use Rattle.std.specs.Prelude.{Bool, List, [], ◌∷◌, Option, if◌then◌else◌}
 use Rattle.std.specs.List.{list_any}
 use Rattle.std.specs.Option.{option_map}

@@ -13,10 +13,11 @@ use Rattle.kube_control.specs.declared.fault.Fault.{Fault}
 use Rattle.kube_control.specs.declared.fault.Fault.TheVariants.{NoMemory, NotBuilt}
 use Rattle.kube_control.specs.declared.turn.Turn.{Turn}
 
--- the parameters of the first page and of a later watch by the default configuration
+-- the first page of a list (crate: by `watcher::Config::default`)
 abbrev pub first_page_params : ListParams
 first_page_params = list_params default_settings None
 
+-- a watch from a version, with bookmarks
 abbrev pub bookmarks_params : WatchParams
 bookmarks_params = watch_params default_settings false
 

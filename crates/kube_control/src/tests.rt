@@ -1,7 +1,5 @@
 //! Each public call once, and runs worked out by hand.
 
-ghost use Rattle.std.specs.Prelude.{◌<◌, ◌^◌, length};
-
 use crate::{
     Action, Answer, Call, Controller, Finish, NoRelated, ReconcileReason, Recorder, RunError,
     Shutdown, Stop, Taken, Trace, Turn, TurnRecord, WatchRoot,
@@ -82,52 +80,102 @@ fn turn(alloc: Global, at: u64, budget: u32) -> Result<Turn<DynamicObject, ()>, 
         reload: false,
         on: List::new(alloc),
         shutdown: Shutdown::No,
-        show: false,
+        show: true,
     })
 }
 
-/// A run of these turns.
+/// Turns at these moments, with these budgets.
+fn turns(alloc: Global, asks: &[(u64, u32)]) -> Result<List<Turn<DynamicObject, ()>>, NoMemory> {
+    let mut turns = List::new(alloc);
+    for (at, budget) in asks {
+        turns.push(turn(alloc, *at, *budget)?)?;
+    }
+    Ok(turns)
+}
+
+/// A turn that asks for one thing that is not built.
+fn turn_that(alloc: Global, asks_for: &str) -> Result<Turn<DynamicObject, ()>, NoMemory> {
+    let mut turn = turn(alloc, 0, 3)?;
+    let reference = ObjectRef::new_with(alloc, "a", config_maps(alloc)?)?;
+    match asks_for {
+        "on" => turn.on.push(reference)?,
+        "finish" => turn.finishes.push(Finish {
+            reference,
+            outcome: Ok(Action::await_change()),
+        })?,
+        "reload" => turn.reload = true,
+        "graceful" => turn.shutdown = Shutdown::Graceful,
+        "forced" => turn.shutdown = Shutdown::Forced,
+        _ => turn.at = Moment(1 << 63),
+    }
+    Ok(turn)
+}
+
+/// What a run answered, and the reconciler to which it handed objects.
+#[derive(Drop)]
+struct Played {
+    answer: Result<Trace<DynamicObject, ()>, RunError<DynamicObject, ()>>,
+    recorder: Recorder<DynamicObject>,
+}
+
 fn run(
     alloc: Global,
     controller: &mut Controller<Root, NoRelated, ()>,
-    recorder: &mut Recorder<DynamicObject>,
-    turns: Vec<Turn<DynamicObject, ()>>,
-) -> Result<Trace<DynamicObject, ()>, RunError<DynamicObject, ()>>
-    requires { length turns.items < 2 ^ 32 }
-{
+    turns: List<Turn<DynamicObject, ()>>,
+) -> Result<Played, NoMemory> {
+    let mut recorder = Recorder::new(alloc);
+    let context = Arc::new(alloc, ())?;
     let policy = |_object: Arc<DynamicObject>, _error: &(), _context: Arc<
         (),
     >| Action::await_change();
-    let context = match Arc::new(alloc, ()) {
-        Ok(context) => context,
-        Err(_) => return Err(RunError::NoMemory {
-            trace: Trace {
-                records: List::new(alloc),
-            },
-        }),
-    };
-    controller.run(alloc, recorder, &policy, context, turns)
+    let turns = Vec::from(turns);
+    if turns.len() > 9 {
+        return Err(NoMemory);
+    }
+    let answer = controller.run(alloc, &mut recorder, &policy, context, turns);
+    Ok(Played { answer, recorder })
 }
 
-/// How a run ended, and after how many records.
-#[derive(Clone, Copy, Debug, PartialEq, Eq)]
-enum Ended {
-    AfterAll(usize),
-    NoMemory,
-    NotBuilt(u32, usize),
-    Spent(usize),
+/// A run of a new controller.
+fn play(
+    alloc: Global,
+    page: Page<DynamicObject>,
+    turns: List<Turn<DynamicObject, ()>>,
+) -> Result<Played, NoMemory> {
+    let mut controller = controller(alloc, page)?;
+    run(alloc, &mut controller, turns)
 }
 
-fn end_of(answer: Result<Trace<DynamicObject, ()>, RunError<DynamicObject, ()>>) -> Ended {
-    match answer {
-        Ok(trace) => Ended::AfterAll(trace.records.len()),
-        Err(RunError::NoMemory { trace: _ }) => Ended::NoMemory,
-        Err(RunError::NotBuilt { turn, trace }) => Ended::NotBuilt(turn, trace.records.len()),
-        Err(RunError::Spent { trace }) => Ended::Spent(trace.records.len()),
+/// The second run of a new controller.
+fn play_again(
+    alloc: Global,
+    page: Page<DynamicObject>,
+    first: List<Turn<DynamicObject, ()>>,
+    second: List<Turn<DynamicObject, ()>>,
+) -> Result<Played, NoMemory> {
+    let mut controller = controller(alloc, page)?;
+    let _first = run(alloc, &mut controller, first)?;
+    run(alloc, &mut controller, second)
+}
+
+/// How a run ended: the turn that is not built, and how many records there are.
+fn end_of(played: &Played) -> (&'static str, u32, usize) {
+    match &played.answer {
+        Ok(trace) => ("all", 0, trace.records.len()),
+        Err(RunError::NoMemory { trace }) => ("no memory", 0, trace.records.len()),
+        Err(RunError::NotBuilt { turn, trace }) => ("not built", *turn, trace.records.len()),
+        Err(RunError::Spent { trace }) => ("spent", 0, trace.records.len()),
     }
 }
 
-/// What a turn's exchange of this number was.
+fn record_at(played: &Played, number: usize) -> Option<&TurnRecord<DynamicObject, ()>> {
+    match &played.answer {
+        Ok(trace) => trace.records.as_slice().get(number),
+        Err(_) => None,
+    }
+}
+
+/// The exchange of this number in a turn.
 fn told(record: &TurnRecord<DynamicObject, ()>, number: usize) -> &'static str {
     match record.exchanges.as_slice().get(number) {
         Some(exchange) => match (&exchange.call, &exchange.answer) {
@@ -152,14 +200,6 @@ fn told(record: &TurnRecord<DynamicObject, ()>, number: usize) -> &'static str {
     }
 }
 
-/// How many requests the first exchange has.
-fn requests(record: &TurnRecord<DynamicObject, ()>) -> usize {
-    match record.exchanges.as_slice().first() {
-        Some(exchange) => exchange.requests.len(),
-        None => 0,
-    }
-}
-
 fn is(object: &DynamicObject, name: &str, version: &str) -> bool {
     match (&object.metadata.name, &object.metadata.resource_version) {
         (Some(n), Some(v)) => n.as_str() == name && v.as_str() == version,
@@ -181,47 +221,67 @@ fn takes(record: &TurnRecord<DynamicObject, ()>, number: usize, name: &str, vers
     }
 }
 
-/// A turn that asks for one thing that is not built.
-fn turn_that(alloc: Global, asks_for: &str) -> Result<Turn<DynamicObject, ()>, NoMemory> {
-    let mut turn = turn(alloc, 0, 3)?;
-    let reference = ObjectRef::new_with(alloc, "a", config_maps(alloc)?)?;
-    match asks_for {
-        "on" => turn.on.push(reference)?,
-        "finish" => turn.finishes.push(Finish {
-            reference,
-            outcome: Ok(Action::await_change()),
-        })?,
-        "reload" => turn.reload = true,
-        "graceful" => turn.shutdown = Shutdown::Graceful,
-        "forced" => turn.shutdown = Shutdown::Forced,
-        _ => turn.at = Moment(1 << 63),
+/// Whether the stored object of this number is this one.
+fn stores(
+    record: &TurnRecord<DynamicObject, ()>,
+    number: usize,
+    name: &str,
+    version: &str,
+) -> bool {
+    match &record.store {
+        Some(objects) => match objects.as_slice().get(number) {
+            Some(object) => is(object, name, version),
+            None => false,
+        },
+        None => false,
     }
-    Ok(turn)
+}
+
+/// How many exchanges, requests of the first one, takes and stored objects a turn has, and its stop.
+fn counts(record: &TurnRecord<DynamicObject, ()>) -> (usize, usize, usize, usize, Option<Stop>) {
+    let requests = match record.exchanges.as_slice().first() {
+        Some(exchange) => exchange.requests.len(),
+        None => 0,
+    };
+    let stored = match &record.store {
+        Some(objects) => objects.len(),
+        None => 0,
+    };
+    let stop = record.stops.as_slice().first().copied();
+    (
+        record.exchanges.len(),
+        requests,
+        record.taken.len(),
+        stored,
+        stop,
+    )
+}
+
+/// Whether the object of this number that was handed over is this one.
+fn handed(played: &Played, number: usize, name: &str, version: &str) -> bool {
+    match played.recorder.hand_overs().get(number) {
+        Some(handed) => handed.reference.name.as_str() == name && is(&handed.object, name, version),
+        None => false,
+    }
 }
 
 #[test]
 fn lists_watches_and_takes(rt: HostRuntime) -> Result<(), Fail> {
     let alloc = rt.alloc();
-    let mut controller = controller(alloc, page(alloc, "1", &[("a", "1")])?)?;
-    let mut recorder = Recorder::new(alloc);
-    let turns = vec![in alloc; turn(alloc, 0, 3)?, turn(alloc, 0, 0)?]?;
-    let trace = run(alloc, &mut controller, &mut recorder, turns)?;
-    let records = trace.records.as_slice();
-    assert_eq!(rt; records.len(), 2);
-    assert_eq!(rt; told(&records[0], 0), "page");
-    assert_eq!(rt; told(&records[0], 1), "opened");
-    assert_eq!(rt; told(&records[0], 2), "waits");
-    assert_eq!(rt; told(&records[0], 3), "none");
-    assert_eq!(rt; requests(&records[0]), 1);
-    assert_eq!(rt; records[0].stops.as_slice(), [Stop::NotReady].as_slice());
-    assert_eq!(rt; records[0].taken.len(), 1);
-    assert!(rt; takes(&records[0], 0, "a", "1"));
-    assert_eq!(rt; told(&records[1], 0), "none");
-    assert_eq!(rt; records[1].stops.as_slice(), [Stop::Budget].as_slice());
-    assert_eq!(rt; records[1].taken.len(), 0);
-    let handed = recorder.hand_overs();
-    assert_eq!(rt; handed.len(), 1);
-    assert!(rt; is(&handed[0].object, "a", "1"));
+    let listed = page(alloc, "1", &[("a", "1")])?;
+    let played = play(alloc, listed, turns(alloc, &[(0, 3), (0, 0)])?)?;
+    assert_eq!(rt; end_of(&played), ("all", 0, 2));
+    let first = record_at(&played, 0).ok_or("no record")?;
+    assert_eq!(rt; counts(first), (3, 1, 1, 1, Some(Stop::NotReady)));
+    assert_eq!(rt;
+        (told(first, 0), told(first, 1), told(first, 2)),
+        ("page", "opened", "waits")
+    );
+    assert!(rt; takes(first, 0, "a", "1"));
+    let second = record_at(&played, 1).ok_or("no record")?;
+    assert_eq!(rt; counts(second), (0, 0, 0, 1, Some(Stop::Budget)));
+    assert_eq!(rt; played.recorder.hand_overs().len(), 1);
+    assert!(rt; handed(&played, 0, "a", "1"));
     Ok(())
 }
 
@@ -229,45 +289,29 @@ fn lists_watches_and_takes(rt: HostRuntime) -> Result<(), Fail> {
 fn takes_the_last_of_each(rt: HostRuntime) -> Result<(), Fail> {
     let alloc = rt.alloc();
     let listed = page(alloc, "3", &[("a", "1"), ("b", "1"), ("a", "2")])?;
-    let mut controller = controller(alloc, listed)?;
-    let mut recorder = Recorder::new(alloc);
-    let mut shows = turn(alloc, 9, 1)?;
-    shows.show = true;
-    let trace = run(
-        alloc,
-        &mut controller,
-        &mut recorder,
-        vec![in alloc; shows]?,
-    )?;
-    let records = trace.records.as_slice();
-    assert_eq!(rt; records.len(), 1);
-    assert_eq!(rt; requests(&records[0]), 3);
-    assert_eq!(rt; records[0].taken.len(), 2);
-    assert!(rt; takes(&records[0], 0, "b", "1"));
-    assert!(rt; takes(&records[0], 1, "a", "2"));
-    let store = records[0].store.as_ref().ok_or("not shown")?.as_slice();
-    assert_eq!(rt; store.len(), 2);
-    assert!(rt; is(&store[0], "a", "2"));
-    assert!(rt; is(&store[1], "b", "1"));
+    let played = play(alloc, listed, turns(alloc, &[(9, 1)])?)?;
+    let first = record_at(&played, 0).ok_or("no record")?;
+    assert_eq!(rt; counts(first), (1, 3, 2, 2, Some(Stop::Budget)));
+    assert!(rt; takes(first, 0, "b", "1") && takes(first, 1, "a", "2"));
+    assert!(rt; stores(first, 0, "a", "2") && stores(first, 1, "b", "1"));
     Ok(())
 }
 
 #[test]
-fn tells_what_is_not_built(rt: HostRuntime) -> Result<(), Fail> {
+fn tells_which_turn_is_not_built(rt: HostRuntime) -> Result<(), Fail> {
     let alloc = rt.alloc();
     for asks_for in ["on", "finish", "reload", "graceful", "forced", "late"] {
-        let turns = vec![in alloc; turn(alloc, 0, 0)?, turn_that(alloc, asks_for)?]?;
-        let mut controller = controller(alloc, page(alloc, "1", &[])?)?;
-        let answer = run(alloc, &mut controller, &mut Recorder::new(alloc), turns);
-        assert_eq!(rt; end_of(answer), Ended::NotBuilt(1, 1), "{asks_for}");
+        let mut turns = turns(alloc, &[(0, 0)])?;
+        turns.push(turn_that(alloc, asks_for)?)?;
+        let played = play(alloc, page(alloc, "1", &[])?, turns)?;
+        assert_eq!(rt; end_of(&played), ("not built", 1, 1), "{asks_for}");
     }
     for (version, name) in [("", "a"), ("1", "")] {
-        let turns = vec![in alloc; turn(alloc, 0, 1)?]?;
-        let mut controller = controller(alloc, page(alloc, version, &[(name, "1")])?)?;
-        let answer = run(alloc, &mut controller, &mut Recorder::new(alloc), turns);
+        let listed = page(alloc, version, &[(name, "1")])?;
+        let played = play(alloc, listed, turns(alloc, &[(0, 1)])?)?;
         assert_eq!(rt;
-            end_of(answer),
-            Ended::NotBuilt(0, 0),
+            end_of(&played),
+            ("not built", 0, 0),
             "version {version}, name {name}"
         );
     }
@@ -277,15 +321,23 @@ fn tells_what_is_not_built(rt: HostRuntime) -> Result<(), Fail> {
 #[test]
 fn is_spent_after_a_moment_that_falls(rt: HostRuntime) -> Result<(), Fail> {
     let alloc = rt.alloc();
-    let mut controller = controller(alloc, page(alloc, "1", &[("a", "1")])?)?;
-    let mut recorder = Recorder::new(alloc);
-    let falls = vec![in alloc; turn(alloc, 5, 3)?, turn(alloc, 4, 3)?]?;
-    let first = run(alloc, &mut controller, &mut recorder, falls);
-    assert_eq!(rt; end_of(first), Ended::NotBuilt(1, 1));
-    let later = vec![in alloc; turn(alloc, 6, 3)?]?;
-    let second = run(alloc, &mut controller, &mut recorder, later);
-    assert_eq!(rt; end_of(second), Ended::Spent(0));
-    assert_eq!(rt; recorder.hand_overs().len(), 1);
+    let falls = [(5, 3), (4, 3)];
+    let first = play(
+        alloc,
+        page(alloc, "1", &[("a", "1")])?,
+        turns(alloc, &falls)?,
+    )?;
+    assert_eq!(rt; end_of(&first), ("not built", 1, 1));
+    assert!(rt; handed(&first, 0, "a", "1"));
+    let listed = page(alloc, "1", &[("a", "1")])?;
+    let second = play_again(
+        alloc,
+        listed,
+        turns(alloc, &falls)?,
+        turns(alloc, &[(6, 3)])?,
+    )?;
+    assert_eq!(rt; end_of(&second), ("spent", 0, 0));
+    assert_eq!(rt; second.recorder.hand_overs().len(), 0);
     Ok(())
 }
 
@@ -293,14 +345,16 @@ fn is_spent_after_a_moment_that_falls(rt: HostRuntime) -> Result<(), Fail> {
 fn waits_within_the_window_alone(rt: HostRuntime) -> Result<(), Fail> {
     let alloc = rt.alloc();
     let cases = [
-        (295_000_000_006, Ended::AfterAll(2)),
-        (295_000_000_007, Ended::NotBuilt(1, 1)),
+        (295_000_000_006, ("all", 0, 2)),
+        (295_000_000_007, ("not built", 1, 1)),
     ];
     for (at, want) in cases {
-        let mut controller = controller(alloc, page(alloc, "1", &[])?)?;
-        let turns = vec![in alloc; turn(alloc, 7, 3)?, turn(alloc, at, 1)?]?;
-        let answer = run(alloc, &mut controller, &mut Recorder::new(alloc), turns);
-        assert_eq!(rt; end_of(answer), want, "at {at}");
+        let played = play(
+            alloc,
+            page(alloc, "1", &[])?,
+            turns(alloc, &[(7, 3), (at, 1)])?,
+        )?;
+        assert_eq!(rt; end_of(&played), want, "at {at}");
     }
     Ok(())
 }
