@@ -25,7 +25,7 @@ use Rattle.kube_model.proofs.Stores.{store-push, store-completed, ready-push}
 use Rattle.kube_model.proofs.Histories.{exchanges_of-own}
 use Rattle.kube_control.specs.declared.watcher.State.{State}
 use Rattle.kube_control.specs.declared.watcher.State.TheVariants.{Start, From, Open}
-use Rattle.kube_control.specs.Exchanges.{Kept, Asked, AskedFrom, IsCalledFrom, page_exchange, opened_exchange, silent_exchange, is_idle, or_now, window}
+use Rattle.kube_control.specs.Exchanges.{Kept, Asked, AskedFrom, IsCalledFrom, page_exchange, opened_exchange, silent_exchange, or_now, window}
 use Rattle.kube_control.specs.Keyed.{keyed}
 use Rattle.kube_control.specs.Stores.{put_stored}
 use Rattle.kube_control.specs.Stands.{IsKept, call_in, is_listed}
@@ -81,11 +81,6 @@ silent-goes-on {O} ds d h k =
 
 dated-push : {O : Type 0} (ds : List (Dated O)) (d : Dated O) → (d.exchange.source == 0) ≡ true → dated_of 0 (ds ++ d ∷ []) ≡ dated_of 0 ds ++ d ∷ []
 dated-push ds d h = filter-hit (λ e. e.exchange.source == 0) ds d h
-
--- a window that isn't over
-window-goes-on : (since : Option ℕ) (now : ℕ) → is_idle now since ≡ false → is_window_over (Some window) since now ≡ false
-window-goes-on None now h = refl
-window-goes-on (Some since) now h = grind (arith, nat_tests, h)
 
 module _ {O : Type 0} (t : ObjectType) (meta : O → ObjectMeta) where
   -- a page that starts a list and ends it lists its objects
@@ -236,7 +231,7 @@ module _ {O : Type 0} (t : ObjectType) (meta : O → ObjectMeta) where
         x : Exchange O
         x = opened_exchange version
 
-    kept-silent : p.state ≡ Open → is_idle now p.silent_since ≡ false
+    kept-silent : p.state ≡ Open → is_window_over (Some window) p.silent_since now ≡ false
         → IsKept t meta (ds ++ record { at = now; exchange = silent_exchange } ∷ []) (record { state = Open; stored = p.stored; silent_since = Some (or_now now p.silent_since) })
         × IsFitting (world_of t meta) ds now silent_exchange
     kept-silent s i = (
@@ -261,7 +256,7 @@ module _ {O : Type 0} (t : ObjectType) (meta : O → ObjectMeta) where
         owes = sym (k.owes ∙ ap call_in s);
         answered = refl;
         texts = tt;
-        idle = λ e. ap not (ap (λ o. is_window_over (Some window) o now) k.silent ∙ window-goes-on p.silent_since now i);
+        idle = λ e. ap not (ap (λ o. is_window_over (Some window) o now) k.silent ∙ i);
         error = inr refl;
         content = (refl, refl);
       },

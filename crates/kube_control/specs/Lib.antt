@@ -9,3 +9,5 @@ pub mod Messages
 pub mod Stores
 pub mod Unbuilt
 pub mod Views
+pub mod Worlds
+pub mod Stands

@@ -41,7 +41,7 @@ module _ {K D : Type 0} where
   kept_of type_of r = record { state = r.state; stored = map (stored_of type_of) r.cache.items; silent_since = option_map (λ (m : Moment). m.0) r.silent_since }
 
   -- what was taken; nothing is no take
-  abbrev pub taken_of : (D → ObjectType) → Taken K D → Option (PlainTaken K)
+  abbrev pub taken_of : (D → ObjectType) → Taken K D → Option (Take K)
   taken_of type_of (Started reference reason object) =
       Some (record { message = record { reference = reference_of type_of reference; reason = reason_of reason }; object = Some (arc_value object) })
   taken_of type_of (NotFound reference reason) =
