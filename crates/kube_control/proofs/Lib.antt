@@ -9,3 +9,5 @@ pub mod Kept
 pub mod OneTurn
 pub mod TurnAsks
 pub mod OneRecord
+pub mod TurnSteps
+pub mod Grows

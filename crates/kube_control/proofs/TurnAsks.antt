@@ -47,7 +47,7 @@ module _ {O : Type 0} where
 
 module _ {O : Type 0} (t : ObjectType) (meta : O → ObjectMeta) where
   -- an exchange of whatever kind is recorded as it came
-  recorded : (s : State) (p q : Kept O) (now : ℕ) (x : Exchange O) (raw : Raw O) → AskedFrom t meta s p now x q → IsCalledFrom s x raw
+  pub recorded : (s : State) (p q : Kept O) (now : ℕ) (x : Exchange O) (raw : Raw O) → AskedFrom t meta s p now x q → IsCalledFrom s x raw
       → IsRecorded (world_of t meta).version default_settings raw x
   recorded Start p q now x raw a c =
       subst (λ (r : Raw O). IsRecorded (world_of t meta).version default_settings r x) (sym c.4)

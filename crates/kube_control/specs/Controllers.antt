@@ -35,3 +35,9 @@ module _ {K E D : Type 0} where
   IsSpent (Spent trace) = ⊤
   IsSpent (NoMemory trace) = ⊥
   IsSpent (NotBuilt turn trace) = ⊥
+
+  -- the records of the turns before an error
+  abbrev pub records_before : RunError K E D → List (TurnRecord K E D)
+  records_before (NoMemory trace) = trace.records
+  records_before (NotBuilt turn trace) = trace.records
+  records_before (Spent trace) = trace.records

@@ -11,3 +11,5 @@ pub mod Unbuilt
 pub mod Views
 pub mod Worlds
 pub mod Stands
+pub mod Records
+pub mod StandsFor

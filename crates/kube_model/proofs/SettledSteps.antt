@@ -187,7 +187,7 @@ module _ {O B : Type 0} (w : World O B) (settings : Settings) (watched : feed_of
   exchanges-append : (g h : List (Step O)) → exchanges (g ++ h) ≡ exchanges g ++ exchanges h
   exchanges-append g h = flat_map-append (λ s. dated s.turn.at s.made.exchanges) g h
 
-  settled-steps : (h : List (Step O)) (ts : List Turn) (rs : List (TurnRecord O)) → IsTrace w h ts rs → IsSettled w h
+  pub settled-steps : (h : List (Step O)) (ts : List Turn) (rs : List (TurnRecord O)) → IsTrace w h ts rs → IsSettled w h
       → is_shut (h ++ steps ts rs) ≡ false → gave_up w (exchanges (h ++ steps ts rs)) ≡ false → IsSettled w (h ++ steps ts rs)
   settled-steps h [] rs k s u g = subst (IsSettled w) (sym (append-nil h)) s
   settled-steps h (t ∷ ts) [] k s u g = subst (IsSettled w) (sym (append-nil h)) s

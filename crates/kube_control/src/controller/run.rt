@@ -1,7 +1,17 @@
 //! Runs of a controller over turns.
 
-ghost use Rattle.std.specs.Prelude.{◌≡◌, ◌<◌, ◌^◌, [], true, false, IfErr, IsErrAnd, OnErr, OnOk, length};
-ghost use Rattle.kube_control.specs.Controllers.{is_spent, api_of, dyntype_of, IfNotBuiltTurn, IfSpent, IsSpent};
+ghost use Rattle.std.specs.Prelude.{◌≡◌, ◌<◌, ◌^◌, ◌++◌, [], List, true, false, IfErr, IfOk, IsErrAnd, OnErr, OnOk, length, take};
+ghost use Rattle.std.specs.List.{filter_map, AllZip};
+ghost use Rattle.kube_model.specs.History.{Step, Turn as PlainTurn, TurnRecord as PlainRecord};
+ghost use Rattle.kube_model.specs.Raw.{Raw, grown_by};
+ghost use Rattle.kube_model.specs.Recorded.{IsRecorded};
+ghost use Rattle.kube_model.specs.Settled.{IsSettled};
+ghost use Rattle.kube_model.specs.Traces.{IsTrace, steps};
+ghost use Rattle.kube_model.specs.World.{default_settings};
+ghost use Rattle.kube_control.specs.Controllers.{is_spent, api_of, dyntype_of, records_before, IfNotBuiltTurn, IfSpent, IsSpent};
+ghost use Rattle.kube_control.specs.Messages.{handed};
+ghost use Rattle.kube_control.specs.Records.{records_of, turns_of};
+ghost use Rattle.kube_control.specs.StandsFor.{StandsFor, exchanges_in, taken_in, world};
 
 use crate::controller::Controller;
 use crate::controller::turns::take_turns;
@@ -25,6 +35,7 @@ impl<A: ApiMode> Controller<WatchRoot<A>, NoRelated, ()> {
         api: A,
         t: <A::Value as Resource>::DynamicType,
     ) -> Controller<WatchRoot<A>, NoRelated, ()>
+        ensures stands { StandsFor A.Value.type_of A.Value.meta_of [] result }
         ensures unspent { is_spent result ≡ false }
         ensures api { api_of result ≡ api }
         ensures dyntype { dyntype_of result ≡ t }
@@ -65,6 +76,30 @@ impl<A: ApiMode> Controller<WatchRoot<A>, NoRelated, ()> {
         E: Drop,
         requires callable { P.IsAlwaysCallable error_policy.now }
         requires few { length turns.items < 2 ^ 32 }
+
+        // The answer is the one trace of the turns, and the controller stands for the history with it.
+        ensures trace { (h : List (Step A.Value)) → StandsFor A.Value.type_of A.Value.meta_of h self.old
+            → IfOk result (λ r. IsTrace (world A.Value.type_of A.Value.meta_of self.old) h (turns_of A.Value.type_of turns.items) (records_of A.Value.type_of r.records)
+            × StandsFor A.Value.type_of A.Value.meta_of (h ++ steps (turns_of A.Value.type_of turns.items) (records_of A.Value.type_of r.records)) self.new) }
+
+        // Where the API tells its talk, it grew by the raw forms of the trace's exchanges, in order.
+        ensures talk { IfOk result (λ r. (raws : List (Raw A.Value))
+            × AllZip (IsRecorded (world A.Value.type_of A.Value.meta_of self.old).version default_settings) raws (exchanges_in (records_of A.Value.type_of r.records))
+            × (A.talk (api_of self.new) ≡ grown_by (A.talk (api_of self.old)) raws)) }
+
+        // Where the reconciler tells its list, it grew by what the trace started, in order.
+        ensures handed { IfOk result (λ r. Rc.handed reconciler.new
+            ≡ grown_by (Rc.handed reconciler.old) (filter_map handed (taken_in (records_of A.Value.type_of r.records)))) }
+
+        // Each stored object was last handed over as it stands, or its key has an entry.
+        ensures settled { (ts : List PlainTurn) (rs : List (PlainRecord A.Value)) → IsTrace (world A.Value.type_of A.Value.meta_of self.old) [] ts rs
+            → StandsFor A.Value.type_of A.Value.meta_of (steps ts rs) self.old
+            → IfOk result (λ r. IsSettled (world A.Value.type_of A.Value.meta_of self.old) (steps ts rs ++ steps (turns_of A.Value.type_of turns.items) (records_of A.Value.type_of r.records))) }
+
+        // An error carries the trace of the turns before it.
+        ensures before { (h : List (Step A.Value)) → StandsFor A.Value.type_of A.Value.meta_of h self.old
+            → IfErr result (λ e. IsTrace (world A.Value.type_of A.Value.meta_of self.old) h
+            (turns_of A.Value.type_of (take (length (records_before e)) turns.items)) (records_of A.Value.type_of (records_before e))) }
 
         // A spent controller does nothing.
         ensures spent { is_spent self.old ≡ true → IsErrAnd result IsSpent }

@@ -1,6 +1,16 @@
 //! Turns, one after another.
 
-ghost use Rattle.std.specs.Prelude.{◌≡◌, ◌≤◌, [], length};
+ghost use Rattle.std.specs.Prelude.{◌≡◌, ◌≤◌, ◌++◌, [], ◌∷◌, List, length, take, IfOk, OnOk, OnErr};
+ghost use Rattle.std.specs.List.{filter_map, AllZip};
+ghost use Rattle.kube_model.specs.History.{Step};
+ghost use Rattle.kube_model.specs.Raw.{Raw, grown_by};
+ghost use Rattle.kube_model.specs.Recorded.{IsRecorded};
+ghost use Rattle.kube_model.specs.Traces.{IsRecord, IsTrace, step, steps};
+ghost use Rattle.kube_model.specs.World.{default_settings};
+ghost use Rattle.kube_control.specs.Controllers.{api_of, dyntype_of};
+ghost use Rattle.kube_control.specs.Messages.{handed};
+ghost use Rattle.kube_control.specs.Records.{record_of, records_of, turn_of, turns_of};
+ghost use Rattle.kube_control.specs.StandsFor.{StandsFor, exchanges_in, taken_in, world};
 
 use crate::controller::Controller;
 use crate::controller::turn::take_turn;
@@ -14,6 +24,32 @@ use kube_meta::List;
 use std::alloc::Global;
 use std::sync::Arc;
 
+/// Takes a turn.
+fn next_turn<A: ApiMode, Ctx: Drop, Rc: Reconciler<A::Value, Ctx>, E: Drop>(
+    controller: &mut Controller<WatchRoot<A>, NoRelated, ()>,
+    reconciler: &mut Rc,
+    alloc: Global,
+    context: &Arc<Ctx>,
+    turn: &Turn<A::Value, E>,
+) -> Result<TurnRecord<A::Value, E>, Fault>
+    // The record is the turn's after the history, and the controller stands for the history with it.
+    ensures made { (h : List (Step A.Value)) → StandsFor A.Value.type_of A.Value.meta_of h controller.old
+        → IfOk result (λ r. IsRecord (world A.Value.type_of A.Value.meta_of controller.old) h (turn_of A.Value.type_of turn.now) (record_of A.Value.type_of r)
+        × StandsFor A.Value.type_of A.Value.meta_of (h ++ step (turn_of A.Value.type_of turn.now) (record_of A.Value.type_of r) ∷ []) controller.new) }
+    ensures talk { IfOk result (λ r. (raws : List (Raw A.Value))
+        × AllZip (IsRecorded (world A.Value.type_of A.Value.meta_of controller.old).version default_settings) raws (record_of A.Value.type_of r).exchanges
+        × (A.talk (api_of controller.new) ≡ grown_by (A.talk (api_of controller.old)) raws)) }
+    ensures handed { IfOk result (λ r. Rc.handed reconciler.new
+        ≡ grown_by (Rc.handed reconciler.old) (filter_map handed (record_of A.Value.type_of r).taken)) }
+    ensures dyntype { dyntype_of controller.new ≡ dyntype_of controller.old }
+    ensures spent { controller.new.spent ≡ controller.old.spent }
+{
+    let last = controller.last;
+    let record = take_turn(&mut controller.root, reconciler, alloc, context, last, turn)?;
+    controller.last = turn.at;
+    Ok(record)
+}
+
 /// Takes turns, and adds the record of each.
 pub fn take_turns<A: ApiMode, Ctx: Drop, Rc: Reconciler<A::Value, Ctx>, E: Drop>(
     controller: &mut Controller<WatchRoot<A>, NoRelated, ()>,
@@ -25,13 +61,24 @@ pub fn take_turns<A: ApiMode, Ctx: Drop, Rc: Reconciler<A::Value, Ctx>, E: Drop>
 ) -> Result<(), Fault>
     requires { records.old ≡ [] }
     ensures short { length records.new ≤ length turns.now }
+    // The records are the trace of the turns, and the controller stands for the history with it.
+    ensures trace { (h : List (Step A.Value)) → StandsFor A.Value.type_of A.Value.meta_of h controller.old
+        → OnOk result (IsTrace (world A.Value.type_of A.Value.meta_of controller.old) h (turns_of A.Value.type_of turns.now) (records_of A.Value.type_of records.new)
+        × StandsFor A.Value.type_of A.Value.meta_of (h ++ steps (turns_of A.Value.type_of turns.now) (records_of A.Value.type_of records.new)) controller.new) }
+    // Where a turn fails they are the trace of the turns before it.
+    ensures front { (h : List (Step A.Value)) → StandsFor A.Value.type_of A.Value.meta_of h controller.old
+        → OnErr result (IsTrace (world A.Value.type_of A.Value.meta_of controller.old) h (turns_of A.Value.type_of (take (length records.new) turns.now)) (records_of A.Value.type_of records.new)) }
+    ensures talk { OnOk result ((raws : List (Raw A.Value))
+        × AllZip (IsRecorded (world A.Value.type_of A.Value.meta_of controller.old).version default_settings) raws (exchanges_in (records_of A.Value.type_of records.new))
+        × (A.talk (api_of controller.new) ≡ grown_by (A.talk (api_of controller.old)) raws)) }
+    ensures handed { OnOk result (Rc.handed reconciler.new
+        ≡ grown_by (Rc.handed reconciler.old) (filter_map handed (taken_in (records_of A.Value.type_of records.new)))) }
+    ensures dyntype { dyntype_of controller.new ≡ dyntype_of controller.old }
     ensures spent { controller.new.spent ≡ controller.old.spent }
 {
     for turn in turns {
-        let last = controller.last;
-        let record = take_turn(&mut controller.root, reconciler, alloc, context, last, turn)?;
+        let record = next_turn(controller, reconciler, alloc, context, turn)?;
         records.push(record)?;
-        controller.last = turn.at;
     }
     Ok(())
 }

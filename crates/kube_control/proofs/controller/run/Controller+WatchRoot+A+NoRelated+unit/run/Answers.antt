@@ -1,0 +1,18 @@
+use Rattle.std.proofs.Common.{◌++◌, refl, ap, subst}
+use Rattle.kube_model.specs.Pause.{Pause}
+use Rattle.kube_model.specs.Settled.{IsSettled}
+use Rattle.kube_model.specs.Traces.{steps}
+use Rattle.kube_model.specs.World.{default_settings}
+use Rattle.kube_model.proofs.SettledSteps.{settled-steps, settled-trace}
+use Rattle.kube_control.specs.Records.{records_of, turns_of}
+use Rattle.kube_control.specs.StandsFor.{world}
+use Rattle.kube_control.proofs.controller.run.Controller+WatchRoot+A+NoRelated+unit.run.Goals as goal
+
+pub returns-in-Ok-clause-settled : goal.returns-in-Ok-clause-settled
+returns-in-Ok-clause-settled g c ts rs k s =
+    let w = world g.A.Value.Resource.type_of g.A.Value.Resource.meta_of c.args.self.now in
+    let t = c.in-Ok.ensures.trace (steps ts rs) s in
+    let before : IsSettled w (steps ts rs) = settled-trace w default_settings refl ts rs k s.stands.unshut (ap (λ (p : Pause (Unit {0})). p.given_up) s.stands.kept.calm) in
+    subst (λ us. IsSettled w (steps ts rs ++ steps (turns_of g.A.Value.Resource.type_of us) (records_of g.A.Value.Resource.type_of c.take_turns.new.records))) c.as_slice.ensures.value
+    (settled-steps w default_settings refl (steps ts rs) (turns_of g.A.Value.Resource.type_of c.as_slice.result.now) (records_of g.A.Value.Resource.type_of c.take_turns.new.records)
+    t.0 before t.1.stands.unshut (ap (λ (p : Pause (Unit {0})). p.given_up) t.1.stands.kept.calm))

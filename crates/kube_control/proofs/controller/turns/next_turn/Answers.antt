@@ -1,0 +1,42 @@
+use Rattle.std.proofs.Common.{map, sym, ap, ◌∙◌}
+use Rattle.std.specs.List.{filter_map}
+use Rattle.kube_model.specs.Raw.{grown_by}
+use Rattle.kube_control.specs.Exchanges.{waiting_after}
+use Rattle.kube_control.specs.Messages.{handed, take_of}
+use Rattle.kube_control.specs.Views.{exchange_of, kept_of, taken_of}
+use Rattle.kube_control.proofs.TurnSteps.{turn-taken, record-is, asked-recorded, filter_map-some}
+use Rattle.kube_control.proofs.controller.turns.next_turn.Goals as goal
+
+pub returns-clause-made : goal.returns-clause-made
+returns-clause-made g c h s =
+    let type_of = g.A.Value.Resource.type_of in
+    let meta = g.A.Value.Resource.meta_of in
+    let e = c.in_ok-record.ensures in
+    let turn = c.args.turn.now in
+    let old = c.args.controller.now.root.state in
+    let new = c.take_turn.new.root.state in
+    let p =
+    turn-taken type_of meta turn old new c.in_ok-record.record e.asked.0 c.args.controller.now.last.0 h e.dyntype e.only_asks e.asked.1 e.all
+    (record-is type_of meta turn new c.in_ok-record.record e.taken e.at e.stops e.store e.plain) s.stands in
+    (p.0, record { stands = p.1; unspent = s.unspent })
+
+pub returns-clause-talk : goal.returns-clause-talk
+returns-clause-talk g c =
+    let type_of = g.A.Value.Resource.type_of in
+    let meta = g.A.Value.Resource.meta_of in
+    let e = c.in_ok-record.ensures in
+    let old = c.args.controller.now.root.state in
+    let new = c.take_turn.new.root.state in (
+      e.asked.0,
+      asked-recorded (type_of old.dyntype) meta c.args.turn.now.at.0 (kept_of type_of old) (kept_of type_of new) (map (exchange_of type_of) c.in_ok-record.record.exchanges) e.asked.0 e.asked.1,
+      e.asked.2,
+    )
+
+pub returns-clause-handed : goal.returns-clause-handed
+returns-clause-handed g c =
+    let type_of = g.A.Value.Resource.type_of in
+    let e = c.in_ok-record.ensures in
+    let stored = (kept_of type_of c.take_turn.new.root.state).stored in
+    e.handed
+    ∙ ap (λ ts. grown_by (g.Rc.Reconciler.handed c.args.reconciler.now) (filter_map handed ts))
+    (sym (filter_map-some (taken_of type_of) (take_of stored) c.in_ok-record.record.taken (waiting_after (map (exchange_of type_of) c.in_ok-record.record.exchanges)) e.taken))

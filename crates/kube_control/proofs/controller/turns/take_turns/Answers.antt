@@ -1,0 +1,80 @@
+use Rattle.std.proofs.Common.{◌≡◌, ◌++◌, ◌+◌, [], ◌∷◌, length, take, refl, sym, ap, subst, ◌∙◌, append-nil, length-append, arith}
+use Rattle.std.specs.List.{filter_map, AllZip}
+use Rattle.std.proofs.lemmas.List.{map-append, length-map, length-take-le, take_more}
+use Rattle.std.proofs.lemmas.List.Elements.{filter_map-append}
+use Rattle.kube_model.specs.Raw.{grown_by}
+use Rattle.kube_model.specs.Recorded.{IsRecorded}
+use Rattle.kube_model.specs.Traces.{IsRecord, steps}
+use Rattle.kube_model.specs.World.{default_settings}
+use Rattle.kube_control.specs.Controllers.{api_of}
+use Rattle.kube_control.specs.Messages.{handed}
+use Rattle.kube_control.specs.Records.{record_of, records_of, turn_of, turns_of}
+use Rattle.kube_control.specs.StandsFor.{StandsFor, exchanges_in, taken_in, world}
+use Rattle.kube_control.specs.Worlds.{world_of}
+use Rattle.kube_control.proofs.Grows.{grown-nil, grown-append, zip-append}
+use Rattle.kube_control.proofs.TurnSteps.{trace-goes-on, exchanges-push, taken-push}
+use Rattle.kube_control.proofs.controller.turns.take_turns.Goals as goal
+
+pub loop-turn-init : goal.loop-turn-init
+loop-turn-init g c =
+    let type_of = g.A.Value.Resource.type_of in
+    let none : records_of type_of c.args.records.now ≡ [] = ap (records_of type_of) c.requires in
+    record {
+      count = ap length c.requires;
+      spent = refl;
+      trace = λ h s. (none, subst (λ z. StandsFor type_of g.A.Value.Resource.meta_of z c.args.controller.now) (sym (append-nil h)) s);
+      talk = (
+        [],
+        subst (λ rs. AllZip (IsRecorded (world type_of g.A.Value.Resource.meta_of c.args.controller.now).version default_settings) [] (exchanges_in rs)) (sym none) tt,
+        sym (grown-nil (g.A.ApiMode.talk (api_of c.args.controller.now))),
+      );
+      handed =
+          sym (ap (λ rs. grown_by (g.Rc.Reconciler.handed c.args.reconciler.now) (filter_map handed (taken_in rs))) none ∙ grown-nil (g.Rc.Reconciler.handed c.args.reconciler.now));
+      dyntype = refl;
+    }
+
+pub loop-turn-preserved : goal.loop-turn-preserved
+loop-turn-preserved g c =
+    let type_of = g.A.Value.Resource.type_of in
+    let meta = g.A.Value.Resource.meta_of in
+    let i = c.loop-turn.invariant in
+    let e = c.in_ok-record.ensures in
+    let turns = c.args.turns.now in
+    let n = c.loop-turn.turn-index in
+    let below = c.loop-turn-test.true in
+    let more : take (n + 1) turns ≡ take n turns ++ c.turn-item.result ∷ [] =
+    take_more turns n c.turn-item.result below ∙ ap (λ t. take n turns ++ t ∷ []) (sym c.turn-item.is) in
+    let ts : turns_of type_of (take (n + 1) turns) ≡ turns_of type_of (take n turns) ++ turn_of type_of c.turn-item.result ∷ [] =
+    ap (turns_of type_of) more ∙ map-append (turn_of type_of) (take n turns) (c.turn-item.result ∷ []) in
+    let rs : records_of type_of c.push.new.self ≡ records_of type_of c.loop-turn.records ++ record_of type_of c.in_ok-record.record ∷ [] =
+    ap (records_of type_of) c.in_ok-push.ensures.ok ∙ map-append (record_of type_of) c.loop-turn.records (c.in_ok-record.record ∷ []) in
+    let same : length (turns_of type_of (take n turns)) ≡ length (records_of type_of c.loop-turn.records) =
+    length-map (take n turns) (turn_of type_of) ∙ length-take-le n turns (omega (arith, below)) ∙ sym i.count ∙ sym (length-map c.loop-turn.records (record_of type_of)) in
+    record {
+      count = ap length c.in_ok-push.ensures.ok ∙ length-append c.loop-turn.records (c.in_ok-record.record ∷ []) ∙ ap (λ m. m + 1) i.count;
+      spent = e.spent ∙ i.spent;
+      trace = λ h s.
+          let k = i.trace h s in
+          let m = e.made (h ++ steps (turns_of type_of (take n turns)) (records_of type_of c.loop-turn.records)) k.1 in
+          let p =
+          trace-goes-on (world type_of meta c.args.controller.now) h (turns_of type_of (take n turns)) (turns_of type_of (take (n + 1) turns))
+          (records_of type_of c.loop-turn.records) (records_of type_of c.push.new.self) (turn_of type_of c.turn-item.result) (record_of type_of c.in_ok-record.record)
+          ts rs same k.0 k.1.stands.going
+          (subst (λ d. IsRecord (world_of (type_of d) meta) (h ++ steps (turns_of type_of (take n turns)) (records_of type_of c.loop-turn.records)) (turn_of type_of c.turn-item.result) (record_of type_of c.in_ok-record.record))
+          i.dyntype m.0) in
+          (p.0, subst (λ z. StandsFor type_of meta z c.next_turn.new.controller) p.1 m.1);
+      talk = (
+        i.talk.0 ++ e.talk.0,
+        subst (λ xs. AllZip (IsRecorded (world type_of meta c.args.controller.now).version default_settings) (i.talk.0 ++ e.talk.0) xs)
+            (sym (exchanges-push (records_of type_of c.loop-turn.records) (records_of type_of c.push.new.self) (record_of type_of c.in_ok-record.record) rs))
+            (zip-append (IsRecorded (world type_of meta c.args.controller.now).version default_settings) i.talk.0 (exchanges_in (records_of type_of c.loop-turn.records)) e.talk.0 (record_of type_of c.in_ok-record.record).exchanges i.talk.1 e.talk.1),
+        e.talk.2 ∙ ap (λ o. grown_by o e.talk.0) i.talk.2 ∙ grown-append (g.A.ApiMode.talk (api_of c.args.controller.now)) i.talk.0 e.talk.0,
+      );
+      handed =
+          e.handed ∙ ap (λ o. grown_by o (filter_map handed (record_of type_of c.in_ok-record.record).taken)) i.handed
+          ∙ grown-append (g.Rc.Reconciler.handed c.args.reconciler.now) (filter_map handed (taken_in (records_of type_of c.loop-turn.records))) (filter_map handed (record_of type_of c.in_ok-record.record).taken)
+          ∙ ap (grown_by (g.Rc.Reconciler.handed c.args.reconciler.now))
+          (sym (ap (filter_map handed) (taken-push (records_of type_of c.loop-turn.records) (records_of type_of c.push.new.self) (record_of type_of c.in_ok-record.record) rs)
+          ∙ filter_map-append handed (taken_in (records_of type_of c.loop-turn.records)) (record_of type_of c.in_ok-record.record).taken));
+      dyntype = e.dyntype ∙ i.dyntype;
+    }
