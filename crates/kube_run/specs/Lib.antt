@@ -1,0 +1,5 @@
+-- the definitions that the contracts cite
+pub mod Causes
+pub mod Held
+pub mod Limit
+pub mod Part
