@@ -3,3 +3,4 @@ pub mod Causes
 pub mod Held
 pub mod Limit
 pub mod Part
+pub mod Reading

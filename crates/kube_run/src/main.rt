@@ -2,8 +2,10 @@
 #![tactic(auto)]
 
 pub mod failed;
+pub mod fault;
 pub mod input;
 pub mod output;
+pub mod row;
 pub mod sink;
 pub mod source;
 pub mod stdio;
