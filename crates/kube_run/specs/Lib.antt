@@ -4,3 +4,5 @@ pub mod Held
 pub mod Limit
 pub mod Part
 pub mod Reading
+pub mod Script
+pub mod Numbers
