@@ -1,2 +1,7 @@
 -- the definitions that the contracts cite
 pub mod Answers
+pub mod TestScript
+pub mod Sequences
+pub mod Places
+pub mod Recordings
+pub mod Ready

@@ -1,0 +1,7 @@
+-- Answers that are there.
+use Rattle.kube_meta.specs.declared.poll.Polled.{Polled}
+use Rattle.kube_meta.specs.declared.poll.Polled.TheVariants.{Ready, NotReady}
+
+abbrev pub IsReady : {T : Type 0} → Polled T → Type 0
+IsReady (Ready value) = Unit {0}
+IsReady NotReady = ⊥
