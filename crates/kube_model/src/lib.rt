@@ -5,6 +5,8 @@ pub mod call;
 pub mod error;
 pub mod params;
 pub mod reason;
+pub mod refused;
+pub mod rows;
 pub mod turn;
 
 pub use call::{Answer, Call};

@@ -1,0 +1,189 @@
+-- When a recorded exchange is one that may be: it makes the owed call, and its answer, texts, objects, error and requests fit. (Tables of Kubernetes API concepts "list", "watch", "bookmarks"; crate: `watcher`.)
+use Rattle.std.specs.Prelude.{◌≡◌, ◌⊎◌, ℕ, ◌+◌, nat_le, Bool, true, false, not, ◌&&◌, ◌||◌, ◌==◌, List, [], ◌∷◌, ◌++◌, map, length, Option, Some, None, if◌then◌else◌, is_some, IsTrue, IsFalse}
+use Rattle.std.specs.List.{find, flat_map}
+use Rattle.std.specs.List.{AllByRecursion}
+use Rattle.std.specs.Option.{option_map}
+use Rattle.kube_meta.specs.Reference.{Reference}
+use Rattle.kube_model.specs.declared.call.Call.{Call}
+use Rattle.kube_model.specs.declared.call.Call.TheVariants.{List as ListCall, Watch, Next, Stream}
+use Rattle.kube_model.specs.declared.call.Answer.{Answer}
+use Rattle.kube_model.specs.declared.call.Answer.TheVariants.{Page, Opened, Added, Modified, Deleted, Bookmark, ErrorItem, Fault, End, NotReady, Idle, Item, Spent}
+use Rattle.kube_model.specs.declared.error.ApiError.{ApiError}
+use Rattle.kube_model.specs.declared.error.Error.{Error}
+use Rattle.kube_model.specs.declared.error.Error.TheVariants.{InitialListFailed, WatchStartFailed, WatchError, WatchFailed, NoResourceVersion}
+use Rattle.kube_model.specs.Reason.{Reason, Unknown, ObjectUpdated, RelatedObjectUpdated, ReconcilerRequestedRetry, ErrorPolicyRequestedRetry, BulkReconcile, Custom}
+use Rattle.kube_model.specs.World.{World, Feed, Watched, Streamed, Queued, feed_of, window_of, is_queue}
+use Rattle.kube_model.specs.History.{Message, Exchange, Dated, dated_of, exchanges_of}
+use Rattle.kube_model.specs.Cuts.{after_last}
+use Rattle.kube_model.specs.Owed.{Marked, mark, owed, is_next, is_not_ready}
+use Rattle.kube_model.specs.Store.{completes, listed, changes_of, Change, Put, Gone}
+
+-- Calls and answers.
+
+-- which answers a call may have
+abbrev pub answers : Call → Answer → Bool
+answers call NotReady = true
+answers (ListCall token) (Page next version) = true
+answers (ListCall token) (Fault error) = true
+answers (Watch version initial) Opened = true
+answers (Watch version initial) (Fault error) = true
+answers Next (Added version) = true
+answers Next (Modified version) = true
+answers Next (Deleted version) = true
+answers Next (Bookmark version ending) = true
+answers Next (ErrorItem status) = true
+answers Next (Fault error) = true
+answers Next End = true
+answers Next Idle = true
+answers Stream Item = true
+answers Stream Spent = true
+answers Stream End = true
+answers call answer = false
+
+-- an empty text counts as none
+abbrev pub nonempty : Option (List ℕ) → Option (List ℕ)
+nonempty None = None
+nonempty (Some []) = None
+nonempty (Some (c ∷ cs)) = Some (c ∷ cs)
+
+abbrev pub IsNonempty : Option (List ℕ) → Type 0
+IsNonempty text = text ≡ nonempty text
+
+-- tokens and versions are recorded without empty ones; a bookmark's version may be empty
+abbrev pub TextsFit : Answer → Type 0
+TextsFit (Page token version) = IsNonempty token × IsNonempty version
+TextsFit (Added version) = IsNonempty version
+TextsFit (Modified version) = IsNonempty version
+TextsFit (Deleted version) = IsNonempty version
+TextsFit _ = Unit {0}
+
+-- The idle window.
+
+-- the moment of the first `Next` after the last exchange that was answered
+abbrev pub silent_since : {O : Type 0} → List (Dated O) → Option ℕ
+silent_since ds = option_map (λ d. d.at) (find (λ d. is_next d.exchange.call) (after_last (λ d. not (is_not_ready d.exchange.answer)) ds))
+
+-- whether a `Next` at this moment finds the window over that began at that moment, or begins now
+abbrev pub is_over : Option ℕ → Option ℕ → ℕ → Bool
+is_over None began at = false
+is_over (Some window) None at = window == 0
+is_over (Some window) (Some began) at = nat_le (began + window) at
+
+-- a `Next` that waits is recorded as idle exactly where the window is over
+abbrev pub idle_fits : Bool → Answer → Bool
+idle_fits over NotReady = not over
+idle_fits over Idle = over
+idle_fits over _ = true
+
+-- Errors.
+
+abbrev pub fault_of : Call → ApiError → Option Error
+fault_of (ListCall token) error = Some (InitialListFailed error)
+fault_of (Watch version initial) error = Some (WatchStartFailed error)
+fault_of Next error = Some (WatchFailed error)
+fault_of Stream error = None
+
+abbrev pub unless_versioned : Bool → Option Error
+unless_versioned versioned = if versioned then None else Some NoResourceVersion
+
+-- the watcher's error of an exchange with an API
+abbrev pub error_of : {O : Type 0} → Marked O → Option Error
+error_of m =
+    elim (m.exchange.answer) [
+      | Page token version ↦ unless_versioned (is_some token || is_some version)
+      | Added version ↦ unless_versioned (m.initial || is_some version)
+      | Modified version ↦ unless_versioned (m.initial || is_some version)
+      | Deleted version ↦ unless_versioned (m.initial || is_some version)
+      | ErrorItem status ↦ Some (WatchError status)
+      | Fault error ↦ fault_of m.exchange.call error
+      | _ ↦ None
+    ]
+
+-- an item of a stream has whatever error the stream gave, and only that
+abbrev pub ErrorFits : {O : Type 0} → Marked O → Type 0
+ErrorFits m = (m.exchange.answer ≡ Item) ⊎ (m.exchange.error ≡ error_of m)
+
+-- Items and requests.
+
+-- whether its items must become references: those of a page that has a token or a version, of an Added or Modified of an initial watch, of a versioned item of a later watch, and of a stream's item
+abbrev pub has_references : {O : Type 0} → Marked O → Bool
+has_references m =
+    elim (m.exchange.answer) [
+      | Page token version ↦ is_some token || is_some version
+      | Added version ↦ m.initial || is_some version
+      | Modified version ↦ m.initial || is_some version
+      | Deleted version ↦ not m.initial && is_some version
+      | Item ↦ true
+      | _ ↦ false
+    ]
+
+abbrev pub put_of : {O : Type 0} → Change O → List O
+put_of (Put o) = o ∷ []
+put_of (Gone o) = []
+
+abbrev pub is_related : Reason → Bool
+is_related (RelatedObjectUpdated object) = true
+is_related _ = false
+
+-- what a related exchange may request: nothing where its items become no references
+abbrev pub RelatedRequestsFit : Bool → List Message → Type 0
+RelatedRequestsFit false requests = requests ≡ []
+RelatedRequestsFit true requests = AllByRecursion (λ m. IsTrue (is_related m.reason)) requests
+
+module _ {O B : Type 0} (w : World O B) where
+  -- one object of this version came
+  abbrev pub IsOneOf : Option (List ℕ) → List O → Type 0
+  IsOneOf version [] = ⊥
+  IsOneOf version (o ∷ []) = version ≡ nonempty (w.version o)
+  IsOneOf version (o ∷ p ∷ os) = ⊥
+
+  -- the objects that are recorded beside an answer of the root: the object of an item of a stream comes where it has no error
+  abbrev pub RootItemsFit : Bool → Answer → List O → Type 0
+  RootItemsFit failed (Page token version) items = Unit {0}
+  RootItemsFit failed (Added version) items = IsOneOf version items
+  RootItemsFit failed (Modified version) items = IsOneOf version items
+  RootItemsFit failed (Deleted version) items = IsOneOf version items
+  RootItemsFit failed Item items = length items ≡ (if failed then 0 else 1)
+  RootItemsFit failed _ items = items ≡ []
+
+  -- an item of a queue is a request and no object
+  abbrev pub ItemsFit : Feed → Bool → Answer → List O → Type 0
+  ItemsFit (Watched settings) failed answer items = RootItemsFit failed answer items
+  ItemsFit Streamed failed answer items = RootItemsFit failed answer items
+  ItemsFit Queued failed answer items = items ≡ []
+
+  abbrev pub updated : O → Message
+  updated o = record { reference = w.key o; reason = ObjectUpdated }
+
+  -- what an exchange of a watched root requests: at a completion what is listed, in order; at a versioned Added or Modified of a later watch that object
+  abbrev pub requests_of_watch : List (Exchange O) → Exchange O → List Message
+  requests_of_watch before x =
+      if completes (mark before x) then map updated (listed (before ++ x ∷ []))
+      else map updated (flat_map put_of (changes_of (mark before x)))
+
+  -- the request that came on a queue
+  abbrev pub QueuedRequestsFit : Bool → Answer → List Message → Type 0
+  QueuedRequestsFit failed Item requests = length requests ≡ (if failed then 0 else 1)
+  QueuedRequestsFit failed _ requests = requests ≡ []
+
+  -- a stream's object is requested as it comes
+  abbrev pub RootRequestsFit : Feed → List (Exchange O) → Exchange O → Type 0
+  RootRequestsFit (Watched settings) before x = x.requests ≡ requests_of_watch before x
+  RootRequestsFit Streamed before x = x.requests ≡ map updated x.items
+  RootRequestsFit Queued before x = QueuedRequestsFit (is_some x.error) x.answer x.requests
+
+  -- the exchange is one that its source may have after these, at this moment
+  pub record IsFitting (before : List (Dated O)) (at : ℕ) (x : Exchange O) : Type 0 where
+    pub owes : x.call ≡ owed (feed_of w x.source) (exchanges_of x.source before)
+    pub answered : IsTrue (answers x.call x.answer)
+    pub texts : TextsFit x.answer
+    pub idle : IsTrue (is_next x.call) → IsTrue (idle_fits (is_over (window_of (feed_of w x.source)) (silent_since (dated_of x.source before)) at) x.answer)
+    pub failed : ErrorFits (mark (exchanges_of x.source before) x)
+    pub root_items : x.source ≡ 0 → ItemsFit (feed_of w 0) (is_some x.error) x.answer x.items
+    pub root_requests : x.source ≡ 0 → RootRequestsFit (feed_of w 0) (exchanges_of 0 before) x
+    pub related_items : IsFalse (x.source == 0) → x.items ≡ []
+    pub related_requests : IsFalse (x.source == 0) → RelatedRequestsFit (has_references (mark (exchanges_of x.source before) x)) x.requests
+
+  -- each recorded item that must become a reference has a name
+  abbrev pub AreNamed : List (Dated O) → Exchange O → Type 0
+  AreNamed before x = IsTrue (has_references (mark (exchanges_of x.source before) x)) → AllByRecursion (λ o. IsTrue (w.is_named o)) x.items

@@ -1,0 +1,102 @@
+-- What the requests for one message have made of it, and which messages wait. M is the type of messages. (Crate: `scheduler`, told without its heap.)
+use Rattle.std.specs.Prelude.{ℕ, ◌+◌, ◌-◌, ◌^◌, min, Bool, true, false, not, ◌&&◌, ◌||◌, ◌==◌, nat_le, nat_lt, List, [], ◌∷◌, ◌++◌, Option, Some, None, if◌then◌else◌, is_some}
+use Rattle.std.specs.List.{fold, filter_map, count_by}
+
+-- a request for a message: the moment from which it counts, the moment at which it came, and its place among all requests
+pub record Request (M : Type 0) : Type 0 where
+  pub message : M
+  pub run_at : ℕ
+  pub now : ℕ
+  pub number : ℕ
+
+-- what happens to the queue; a settle has its place among all settles
+pub data QueueEvent (M : Type 0) : Type 0 where
+  Requested : (request : Request M) → QueueEvent M
+  Settled : (now : ℕ) → (number : ℕ) → QueueEvent M
+  Took : (message : M) → QueueEvent M
+
+abbrev pub is_request : {M : Type 0} → QueueEvent M → Bool
+is_request (Requested q) = true
+is_request _ = false
+
+abbrev pub is_settle : {M : Type 0} → QueueEvent M → Bool
+is_settle (Settled now number) = true
+is_settle _ = false
+
+-- a sum that stops at the greatest u64
+abbrev pub plus : ℕ → ℕ → ℕ
+plus a b = min (a + b) (2 ^ 64 - 1)
+
+-- 180 days, in nanoseconds
+abbrev pub longest_wait : ℕ
+longest_wait = 15552000000000000
+
+-- what a message's requests have made of it
+pub record Entry (M : Type 0) : Type 0 where
+  pub message : M
+  pub time : ℕ
+  pub number : ℕ  -- that of the request that set it
+  pub settle : Option ℕ  -- that of the settle that froze it
+
+abbrev pub entry_of : {M : Type 0} → ℕ → Request M → Entry M
+entry_of debounce q =
+    record { message = q.message; time = min (plus q.run_at debounce) (plus q.now longest_wait); number = q.number; settle = None }
+
+-- a request makes an entry, or sets it anew where the entry isn't frozen and its time is not earlier than the request's
+abbrev pub entry_requested : {M : Type 0} → ℕ → Request M → Option (Entry M) → Option (Entry M)
+entry_requested debounce q None = Some (entry_of debounce q)
+entry_requested debounce q (Some e) =
+    if not (is_some e.settle) && nat_le q.run_at e.time then Some (entry_of debounce q) else Some e
+
+-- a settle freezes an entry whose time has come
+abbrev pub entry_settled : {M : Type 0} → ℕ → ℕ → Option (Entry M) → Option (Entry M)
+entry_settled now number None = None
+entry_settled now number (Some e) =
+    if not (is_some e.settle) && nat_le e.time now then Some (record e { settle = Some number }) else Some e
+
+-- by settle, then time, then number
+pub record Frozen (M : Type 0) : Type 0 where
+  pub settle : ℕ
+  pub entry : Entry M
+
+abbrev pub goes_before : {M : Type 0} → Frozen M → Frozen M → Bool
+goes_before a b =
+    nat_lt a.settle b.settle
+    || (a.settle == b.settle)
+    && (nat_lt a.entry.time b.entry.time || (a.entry.time == b.entry.time) && nat_lt a.entry.number b.entry.number)
+
+abbrev pub insert_by : {A : Type 0} → (A → A → Bool) → A → List A → List A
+insert_by before x [] = x ∷ []
+insert_by before x (y ∷ ys) = if before y x then y ∷ insert_by before x ys else x ∷ y ∷ ys
+
+-- in an order, equals as they stand
+abbrev pub sorted_by : {A : Type 0} → (A → A → Bool) → List A → List A
+sorted_by before [] = []
+sorted_by before (x ∷ xs) = insert_by before x (sorted_by before xs)
+
+abbrev pub frozen_by : {M : Type 0} → ℕ → Option (Entry M) → Option (Frozen M)
+frozen_by number None = None
+frozen_by number (Some e) =
+    elim (e.settle) [ None ↦ None | Some settle ↦ if e.number == number then Some (record { settle = settle; entry = e }) else None ]
+
+-- same says whether two messages are the same
+module _ {M : Type 0} (same : M → M → Bool) (debounce : ℕ) where
+  -- the entry of a message after one more event
+  abbrev pub entry_after : M → Option (Entry M) → QueueEvent M → Option (Entry M)
+  entry_after m e (Requested q) = if same q.message m then entry_requested debounce q e else e
+  entry_after m e (Settled now number) = entry_settled now number e
+  entry_after m e (Took taken) = if same taken m then None else e
+
+  -- the entry of a message: what its requests since it was last taken made of it
+  abbrev pub entry : List (QueueEvent M) → M → Option (Entry M)
+  entry events m = fold (entry_after m) None events
+
+  -- the frozen entry that this event set, if it is a request that set one
+  abbrev pub frozen_at : List (QueueEvent M) → QueueEvent M → Option (Frozen M)
+  frozen_at events (Requested q) = frozen_by q.number (entry events q.message)
+  frozen_at events (Settled now number) = None
+  frozen_at events (Took taken) = None
+
+  -- the frozen entries in their order, each at the request that set it
+  abbrev pub waiting : List (QueueEvent M) → List (Frozen M)
+  waiting events = sorted_by goes_before (filter_map (frozen_at events) events)

@@ -1,0 +1,52 @@
+-- Exchanges and finishes that no record has, each after a page of a and a watch that was opened.
+use Rattle.std.specs.Prelude.{◌≡◌, ℕ, Bool, true, false, List, [], ◌∷◌, ◌++◌, map, Option, Some, None, codes}
+use Rattle.kube_model.specs.declared.call.Call.{Call}
+use Rattle.kube_model.specs.declared.call.Call.TheVariants.{List as ListCall, Watch, Next}
+use Rattle.kube_model.specs.declared.call.Answer.{Answer}
+use Rattle.kube_model.specs.declared.call.Answer.TheVariants.{Page, Opened, Modified, NotReady, Idle}
+use Rattle.kube_model.specs.declared.error.Error.{Error}
+use Rattle.kube_model.specs.Reason.{ObjectUpdated}
+use Rattle.kube_model.specs.World.{World}
+use Rattle.kube_model.specs.History.{Message, Exchange, Dated, dated, Finish, Finished, Succeeded}
+use Rattle.kube_model.specs.Fits.{IsFitting, AreNamed}
+use Rattle.kube_model.specs.Traces.{IsFinishOf}
+use Rattle.kube_model.specs.Plays.{Thing, thing, reference_to, plain_world, world_with, exchange_by, turn_at}
+use Rattle.kube_model.specs.Rows.{a, page_of_a, opened, related_world, by_pod, a_in_ns}
+
+-- an exchange of a source without requests and without an error
+abbrev pub exchange : ℕ → Call → Answer → List Thing → Exchange Thing
+exchange source call answer items = record { source = source; call = call; answer = answer; items = items; requests = []; error = None }
+
+-- one of the root's watch
+abbrev pub next : Answer → List Thing → Exchange Thing
+next answer items = exchange 0 Next answer items
+
+-- the page and the opened watch, at 0
+abbrev pub before : List (Dated Thing)
+before =
+    dated 0 (record (exchange 0 (ListCall None) (Page None (Some (codes "1"))) (thing a (codes "1") ∷ [])) { requests = record { reference = reference_to a; reason = ObjectUpdated } ∷ [] }
+    ∷ exchange 0 (Watch (codes "1") false) Opened [] ∷ [])
+
+-- these, and a look at the watch that was not ready
+abbrev pub before_silence : List (Dated Thing)
+before_silence = before ++ dated 0 (next NotReady [] ∷ [])
+
+-- a request for a that its change makes
+abbrev pub for_a : Message
+for_a = record { reference = reference_to a; reason = ObjectUpdated }
+
+-- an exchange with these requests
+abbrev pub requesting : List Message → Exchange Thing → Exchange Thing
+requesting messages x = record x { requests = messages }
+
+-- a change of a to version 2, with these objects and this version
+abbrev pub change : Option (List ℕ) → List Thing → Exchange Thing
+change version items = requesting (map (λ o. for_a) items) (next (Modified version) items)
+
+-- at a moment after these, the exchange may not be
+abbrev pub IsRefusedAt : ℕ → Exchange Thing → Type 0
+IsRefusedAt at x = IsFitting plain_world before at x → ⊥
+
+-- a first exchange may not be
+abbrev pub IsRefusedFirst : World Thing (List (Option ℕ)) → Exchange Thing → Type 0
+IsRefusedFirst w x = IsFitting w [] 0 x → ⊥
