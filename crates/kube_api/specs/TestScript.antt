@@ -1,5 +1,5 @@
 -- What a scripted API has left to answer, and what each call is answered. V is the type of objects. (kube-runtime's `TestMode` of its watcher tests.)
-use Rattle.std.specs.Prelude.{ℕ, ◌+◌, ◌-◌, ◌^◌, min, nat_le, if◌then◌else◌, List, [], ◌∷◌, ◌++◌, drop, Option, Some, None, unwrap_or, codes}
+use Rattle.std.specs.Prelude.{ℕ, ◌+◌, ◌-◌, ◌^◌, ◌<◌, min, nat_le, if◌then◌else◌, List, [], ◌∷◌, ◌++◌, drop, Option, Some, None, unwrap_or, codes}
 use Rattle.kube_model.specs.declared.params.ListParams.{ListParams}
 use Rattle.kube_model.specs.declared.params.WatchParams.{WatchParams}
 use Rattle.kube_model.specs.declared.error.ApiError.TheVariants.{ReadEvents}
@@ -88,6 +88,15 @@ poll_current now (Some w) = (poll_watch now w).answer
 abbrev pub left_current : {V : Type 0} → ℕ → Option (OpenedWatch V) → Option (OpenedWatch V)
 left_current now None = None
 left_current now (Some w) = Some (poll_watch now w).left
+
+-- the open watch is in a silence that is not over at a moment
+abbrev pub IsInSilence : {V : Type 0} → ℕ → Option ℕ → List (Step V) → Type 0
+IsInSilence now (Some start) (Pauses nanos ∷ rest) = now - start < nanos
+IsInSilence _ _ _ = ⊥
+
+abbrev pub IsSilent : {V : Type 0} → ℕ → Option (OpenedWatch V) → Type 0
+IsSilent now None = ⊥
+IsSilent now (Some w) = IsInSilence now w.since w.steps
 
 abbrev pub polled : {V : Type 0} → ℕ → Script V → RawAnswer V
 polled now s = poll_current now s.current

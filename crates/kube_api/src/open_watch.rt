@@ -1,8 +1,9 @@
 //! An open watch of a scripted API.
 
-ghost use Rattle.std.specs.Prelude.{◌≡◌, IfOk, IsTrue, drop, slice_index};
+ghost use Rattle.std.specs.Prelude.{◌≡◌, IfOk, Some, drop};
 ghost use Rattle.kube_api.specs.Answers.{next_answer};
-ghost use Rattle.kube_api.specs.TestScript.{just_opened, poll_watch};
+ghost use Rattle.kube_api.specs.TestScript.{just_opened, poll_watch, IsSilent};
+ghost use Rattle.kube_api.specs.Ready.{IsNotReady};
 ghost use Rattle.kube_api.specs.Places.{left_at, is_over, Stands};
 
 use crate::copies::copy_given;
@@ -44,7 +45,8 @@ fn answer_at<K: Drop>(
     now: Moment,
 ) -> Result<Polled<Option<Result<WatchEvent<K>, ApiError>>>, NoMemory>
     requires { Stands now.0 place (drop place.step steps.now) }
-    ensures { IfOk result (λ a. next_answer a ≡ (poll_watch now.0 (left_at steps.now place)).answer) }
+    ensures answer { IfOk result (λ a. next_answer a ≡ (poll_watch now.0 (left_at steps.now place)).answer) }
+    ensures silent { IfOk result (λ a. IsNotReady a → IsSilent now.0 (Some (poll_watch now.0 (left_at steps.now place)).left)) }
 {
     if place.step >= steps.len() {
         return Ok(Polled::Ready(None));
@@ -112,7 +114,8 @@ impl<K: Drop> OpenWatch<K> {
         alloc: Global,
         now: Moment,
     ) -> Result<Polled<Option<Result<WatchEvent<K>, ApiError>>>, NoMemory>
-        ensures { IfOk result (λ a. next_answer a ≡ (poll_watch now.0 self.now).answer) }
+        ensures answer { IfOk result (λ a. next_answer a ≡ (poll_watch now.0 self.now).answer) }
+        ensures silent { IfOk result (λ a. IsNotReady a → IsSilent now.0 (Some (poll_watch now.0 self.now).left)) }
     {
         let steps = self.steps.as_slice();
         answer_at(alloc, steps, settled(steps, self.place, now), now)

@@ -4,8 +4,8 @@ ghost use Rattle.std.specs.Prelude.{◌≡◌, ◌≤◌, [], IfOk, OnOk, OnErr,
 ghost use Rattle.kube_model.specs.Raw.{grown, ListAsked, WatchAsked, NextAsked, Ends, FaultRose, IsNeverOpened, is_fault};
 ghost use Rattle.kube_api.specs.Answers.{list_answer, watch_answer, next_answer, is_watch_fault};
 ghost use Rattle.kube_api.specs.Recordings.{call_of, answer_of};
-ghost use Rattle.kube_api.specs.TestScript.{told, first_page, listed, after_list, first_watch, watch_after, watched, after_watch, poll_current, left_current, polled, after_next};
-ghost use Rattle.kube_api.specs.Ready.{IsReady};
+ghost use Rattle.kube_api.specs.TestScript.{told, first_page, listed, after_list, first_watch, watch_after, watched, after_watch, poll_current, left_current, polled, after_next, IsSilent};
+ghost use Rattle.kube_api.specs.Ready.{IsReady, IsNotReady};
 
 use crate::api::ApiMode;
 use crate::copies::{copy_list_params, copy_listed, copy_watch_params};
@@ -20,10 +20,18 @@ use std::alloc::Global;
 use std::collections::VecDeque;
 use std::marker::Model;
 
-/// An API in memory that answers by a script.
+/// An API in memory that answers by a script (kube-runtime's `TestMode` of its watcher tests).
 ///
-/// Each list call is answered the next entry of its lists, whatever the parameters, and an empty page where none is
-/// left. Each watch call opens the next sequence in place of the open one. It keeps each call with its answer.
+/// - Each list call is answered the next entry of the lists, whatever its parameters, and an empty page with neither
+///   token nor version where none is left.
+/// - Each watch call opens the next sequence and closes the open one. Where none is left it fails with
+///   `ReadEvents("TestMode watch sequence exhausted")`, and the open watch stays as it was.
+/// - Each poll gives the next event of the open watch. A silence, in nanoseconds, begins at the poll that meets it,
+///   and is over at the first poll whose moment is at least its length later; until then a poll is not ready. After
+///   the last step, and where no watch was opened, the answer is the end.
+///
+/// It keeps each call with its answer, and counts those that failed. Where a call could have no memory all is as
+/// before. Moments may fall.
 #[derive(Drop)]
 pub struct TestMode<K: Drop> {
     lists: VecDeque<Result<Page<K>, ApiError>>,
@@ -77,9 +85,7 @@ impl<K: Drop> TestMode<K> {
             faults: 0,
         }
     }
-}
 
-impl<K: Drop> TestMode<K> {
     /// Keeps a call with its answer, and counts it where it failed.
     fn tell(&mut self, call: Recording, answer: Answered<K>) -> Result<(), NoMemory>
         ensures ok { OnOk result (self.new ≡ told (call_of call) (answer_of answer) self.old) }
@@ -166,6 +172,7 @@ impl<K: Resource> ApiMode for TestMode<K> {
     ) -> Result<Polled<Option<Result<WatchEvent<K>, ApiError>>>, NoMemory>
         ensures answer { IfOk result (λ a. next_answer a ≡ polled now.0 self.old) }
         ensures after { IfOk result (λ _. self.new ≡ after_next now.0 self.old) }
+        ensures silent { IfOk result (λ a. IsNotReady a → IsSilent now.0 self.new.current) }
         ensures untouched { OnErr result (self.new ≡ self.old) }
 
         // those of the trait
@@ -231,7 +238,8 @@ fn next_event<K: Drop>(
     current: &Option<OpenWatch<K>>,
     now: Moment,
 ) -> Result<Polled<Option<Result<WatchEvent<K>, ApiError>>>, NoMemory>
-    ensures { IfOk result (λ a. next_answer a ≡ poll_current now.0 current.now) }
+    ensures answer { IfOk result (λ a. next_answer a ≡ poll_current now.0 current.now) }
+    ensures silent { IfOk result (λ a. IsNotReady a → IsSilent now.0 (left_current now.0 current.now)) }
 {
     match current {
         Some(watch) => watch.answer(alloc, now),

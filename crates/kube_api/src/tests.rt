@@ -1,13 +1,18 @@
-//! Each call of a scripted API once.
+//! Each call of a scripted API once, with ample memory.
 
 use crate::{
-    ApiError, ApiMode, ListParams, Page, Sequence, SequenceStep, TestMode, WatchEvent, WatchParams,
+    ApiError, ApiMode, Bookmark, ListParams, Page, Sequence, SequenceStep, TestMode, WatchEvent,
+    WatchParams,
 };
-use kube_meta::{DynamicObject, Moment, ObjectMeta, Polled};
+use kube_meta::{DynamicObject, List, Moment, NoMemory, ObjectMeta, Polled, Text, TextMap};
 use std::alloc::Global;
 use std::collections::VecDeque;
 use std::sync::Arc;
 use std::test::Fail;
+
+type Listed = Result<Page<DynamicObject>, ApiError>;
+
+type Event = Result<WatchEvent<DynamicObject>, ApiError>;
 
 fn any_list() -> ListParams {
     ListParams {
@@ -20,20 +25,192 @@ fn any_list() -> ListParams {
     }
 }
 
-#[test]
-fn lists_until_none_is_left(rt: HostRuntime) -> Result<(), Fail> {
-    let mut api: TestMode<DynamicObject> = TestMode::new(
-        rt.alloc(),
-        Vec::new(rt.alloc()),
-        Vec::new(rt.alloc()),
-    );
-    let page = api.list(rt.alloc(), &any_list(), Moment(0))?;
-    match page {
-        Polled::Ready(Ok(page)) => {
-            assert!(rt; page.items.is_empty());
-            assert!(rt; page.token.is_none());
-        }
-        _ => assert!(rt; false),
+fn any_watch() -> WatchParams {
+    WatchParams {
+        label_selector: None,
+        field_selector: None,
+        timeout: None,
+        bookmarks: true,
+        send_initial_events: false,
     }
+}
+
+fn fault(alloc: Global, text: &str) -> Result<ApiError, NoMemory> {
+    Ok(ApiError::Transport(Text::new(alloc, text)?))
+}
+
+/// A page with one object of a name, and a version.
+fn page(alloc: Global, name: &str, version: &str) -> Result<Listed, NoMemory> {
+    let mut items = List::new(alloc);
+    items.push(Arc::new(alloc, object(alloc, name)?)?)?;
+    Ok(Ok(Page {
+        items,
+        token: None,
+        version: Some(Text::new(alloc, version)?),
+    }))
+}
+
+fn object(alloc: Global, name: &str) -> Result<DynamicObject, NoMemory> {
+    let mut metadata = ObjectMeta::empty();
+    metadata.name = Some(Text::new(alloc, name)?);
+    Ok(DynamicObject { metadata })
+}
+
+/// An object of a name was added.
+fn added(alloc: Global, name: &str) -> Result<Event, NoMemory> {
+    Ok(Ok(WatchEvent::Added(Arc::new(alloc, object(alloc, name)?)?)))
+}
+
+fn bookmark(alloc: Global, version: &str) -> Result<Event, NoMemory> {
+    Ok(Ok(WatchEvent::Bookmark(Bookmark {
+        version: Text::new(alloc, version)?,
+        annotations: TextMap::new(alloc),
+    })))
+}
+
+/// A step with one event.
+fn one(alloc: Global, event: Event) -> Result<SequenceStep<DynamicObject>, NoMemory> {
+    let mut events = VecDeque::new(alloc);
+    events.push_back(event)?;
+    Ok(SequenceStep::List(events))
+}
+
+/// The name of an object, or that it has none.
+fn name_of(object: &DynamicObject) -> &str {
+    match &object.metadata.name {
+        Some(name) => name.as_str(),
+        None => "no name",
+    }
+}
+
+/// What a list call was answered.
+fn shown_list(answer: &Polled<Listed>) -> &str {
+    match answer {
+        Polled::NotReady => "not ready",
+        Polled::Ready(Err(ApiError::Transport(text))) => text.as_str(),
+        Polled::Ready(Err(_)) => "another fault",
+        Polled::Ready(Ok(page)) => match page.items.as_slice() {
+            [] if page.token.is_none() && page.version.is_none() => "empty",
+            [object] if page.version.is_some() => name_of(&**object),
+            _ => "another page",
+        },
+    }
+}
+
+/// What a watch call was answered.
+fn shown_watch(answer: &Polled<Result<(), ApiError>>) -> &str {
+    match answer {
+        Polled::NotReady => "not ready",
+        Polled::Ready(Err(ApiError::ReadEvents(text))) => text.as_str(),
+        Polled::Ready(Err(_)) => "another fault",
+        Polled::Ready(Ok(())) => "open",
+    }
+}
+
+/// What a poll of the open watch was answered.
+fn shown(answer: &Polled<Option<Event>>) -> &str {
+    match answer {
+        Polled::NotReady => "not ready",
+        Polled::Ready(None) => "end",
+        Polled::Ready(Some(Err(ApiError::Transport(text)))) => text.as_str(),
+        Polled::Ready(Some(Ok(WatchEvent::Added(object)))) => name_of(&**object),
+        Polled::Ready(Some(Ok(WatchEvent::Bookmark(bookmark)))) => bookmark.version.as_str(),
+        Polled::Ready(Some(_)) => "another event",
+    }
+}
+
+#[test]
+fn lists_are_answered_until_none_is_left(rt: HostRuntime) -> Result<(), Fail> {
+    let alloc = rt.alloc();
+    let mut lists = Vec::new(alloc);
+    lists.push(page(alloc, "a", "1")?)?;
+    lists.push(Err(fault(alloc, "unreachable")?))?;
+    lists.push(page(alloc, "b", "2")?)?;
+    let mut api = TestMode::new(alloc, lists, Vec::new(alloc));
+    for wanted in ["a", "unreachable", "b", "empty", "empty"] {
+        let answer = api.list(alloc, &any_list(), Moment(0))?;
+        assert_eq!(rt; shown_list(&answer), wanted);
+    }
+    Ok(())
+}
+
+/// A silence of 5 from the poll that meets it, one of 0, and a step without events.
+fn waiting(alloc: Global) -> Result<Sequence<DynamicObject>, NoMemory> {
+    let mut steps = Vec::new(alloc);
+    steps.push(one(alloc, added(alloc, "a")?)?)?;
+    steps.push(SequenceStep::Wait(5))?;
+    steps.push(SequenceStep::List(VecDeque::new(alloc)))?;
+    steps.push(one(alloc, bookmark(alloc, "7")?)?)?;
+    steps.push(SequenceStep::Wait(0))?;
+    steps.push(one(alloc, Err(fault(alloc, "torn")?))?)?;
+    Ok(Sequence::new(steps))
+}
+
+#[test]
+fn silences_and_events_come_in_their_order(rt: HostRuntime) -> Result<(), Fail> {
+    let alloc = rt.alloc();
+    let mut watches = Vec::new(alloc);
+    watches.push(waiting(alloc)?)?;
+    let mut api = TestMode::new(alloc, Vec::new(alloc), watches);
+    let before = api.next(alloc, Moment(0))?;
+    assert_eq!(rt; shown(&before), "end", "no watch is open");
+    let opened = api.watch(alloc, &any_watch(), "1", Moment(1))?;
+    assert_eq!(rt; shown_watch(&opened), "open");
+    let polls = [
+        (2, "a"),
+        (10, "not ready"),
+        (14, "not ready"),
+        (9, "not ready"),
+        (15, "7"),
+        (15, "torn"),
+        (15, "end"),
+        (16, "end"),
+    ];
+    for (moment, wanted) in polls {
+        let answer = api.next(alloc, Moment(moment))?;
+        assert_eq!(rt; shown(&answer), wanted, "at {moment}");
+    }
+    Ok(())
+}
+
+#[test]
+fn a_watch_takes_the_place_of_the_open_one(rt: HostRuntime) -> Result<(), Fail> {
+    let alloc = rt.alloc();
+    let mut watches = Vec::new(alloc);
+    watches.push(waiting(alloc)?)?;
+    let mut steps = Vec::new(alloc);
+    steps.push(one(alloc, bookmark(alloc, "8")?)?)?;
+    steps.push(one(alloc, bookmark(alloc, "9")?)?)?;
+    watches.push(Sequence::new(steps))?;
+    watches.push(Sequence::empty(alloc))?;
+    let mut api = TestMode::new(alloc, Vec::new(alloc), watches);
+    let exhausted = "TestMode watch sequence exhausted";
+    let calls = [
+        ("open", "a"),
+        ("open", "8"),
+        ("open", "end"),
+        (exhausted, "end"),
+    ];
+    for (wanted, event) in calls {
+        let answer = api.watch(alloc, &any_watch(), "1", Moment(0))?;
+        assert_eq!(rt; shown_watch(&answer), wanted);
+        let answer = api.next(alloc, Moment(0))?;
+        assert_eq!(rt; shown(&answer), event);
+    }
+    Ok(())
+}
+
+#[test]
+fn a_watch_that_fails_leaves_the_open_one(rt: HostRuntime) -> Result<(), Fail> {
+    let alloc = rt.alloc();
+    let mut watches = Vec::new(alloc);
+    watches.push(waiting(alloc)?)?;
+    let mut api = TestMode::new(alloc, Vec::new(alloc), watches);
+    for wanted in ["open", "TestMode watch sequence exhausted"] {
+        let answer = api.watch(alloc, &any_watch(), "1", Moment(0))?;
+        assert_eq!(rt; shown_watch(&answer), wanted);
+    }
+    let answer = api.next(alloc, Moment(0))?;
+    assert_eq!(rt; shown(&answer), "a");
     Ok(())
 }
