@@ -1,16 +1,23 @@
 -- The form of a script: its tables, over the reading of its text. Objects, lists and watches as in the Kubernetes API concepts.
-use Rattle.std.specs.Prelude.{ℕ, List, [], ◌∷◌, ◌++◌, Option, Some, None, Result, Ok, Bool, false, codes, map, unwrap_or, option_and_then}
+use Rattle.std.specs.Prelude.{ℕ, List, [], ◌∷◌, ◌++◌, Option, Some, None, Result, Ok, Err, Bool, false, codes, map, unwrap_or, option_and_then}
 use Rattle.std.specs.Arc.{arc_value}
+use Rattle.std.specs.declared.sync.Arc.{Arc}
+use Rattle.std.specs.declared.alloc.Global.{Global}
 use Rattle.serde_json.specs.Data.{Data}
 use Rattle.kube_meta.specs.declared.metadata.ObjectMeta.{ObjectMeta}
 use Rattle.kube_meta.specs.declared.dynamic.DynamicObject.{DynamicObject}
 use Rattle.kube_meta.specs.declared.dynamic.ApiResource.{ApiResource}
+use Rattle.kube_meta.specs.Reference.{ObjectType}
+use Rattle.kube_meta.specs.Keys.{reference_of}
+use Rattle.kube_meta.specs.Resources.{resource_type}
 use Rattle.kube_meta.specs.declared.poll.Polled.TheVariants.{Ready}
 use Rattle.kube_model.specs.Raw.{RawAnswer, GivesPage}
 use Rattle.kube_model.specs.declared.turn.Shutdown.TheVariants as shutdowns
+use Rattle.kube_model.specs.History.{Turn, Finish, Outcome, Succeeded, Failed}
 use Rattle.kube_api.specs.Answers.{list_answer}
 use Rattle.kube_api.specs.TestScript.{Step, Pauses}
-use Rattle.kube_control.specs.declared.turn.Turn.{Turn}
+use Rattle.kube_control.specs.declared.turn.Turn as held_turn
+use Rattle.kube_control.specs.declared.turn.Finish as held_finish
 use Rattle.kube_run.specs.declared.script.Script as held_script
 use Rattle.kube_run.specs.declared.script.Root as held_root
 use Rattle.kube_run.specs.Reading.{◌>>=◌, Wrong, members_among, object_at, field, maybe_field, list_field, list_at, there, text_at, number_at, small_at, flag_at}
@@ -98,20 +105,20 @@ root_at d = do
   Ok (record { lists = lists; watches = watches })
 
 -- a turn of the controller
-unfoldable pub turn_at : {D : Type 0} → Data → Result (Turn DynamicObject D (List ℕ)) Wrong
+unfoldable pub turn_at : Data → Result Turn Wrong
 turn_at d = do
   _ ← members_among (codes "at" ∷ codes "budget" ∷ codes "show" ∷ []) d
   moment ← field (codes "at") number_at d
   budget ← list_field (codes "budget") small_at d
   show ← maybe_field (codes "show") flag_at d
-  Ok (record { at = record { 0 = moment }; budget = budget; finishes = []; reload = false; on = []; shutdown = shutdowns.No; show = unwrap_or show false })
+  Ok (record { at = moment; budget = budget; finishes = []; reload = false; on = []; shutdown = shutdowns.No; show = unwrap_or show false })
 
-pub record Script (D : Type 0) : Type 0 where
+pub record Script : Type 0 where
   pub kind : ApiResource
   pub root : Root
-  pub turns : List (Turn DynamicObject D (List ℕ))
+  pub turns : List Turn
 
-unfoldable pub script_at : {D : Type 0} → Data → Result (Script D) Wrong
+unfoldable pub script_at : Data → Result Script Wrong
 script_at d = do
   _ ← members_among (codes "kind" ∷ codes "root" ∷ codes "turns" ∷ []) d
   kind ← field (codes "kind") kind_at d
@@ -124,5 +131,26 @@ script_at d = do
 abbrev pub seen_root : held_root.Root → Root
 seen_root r = record { lists = map (λ page. list_answer (Ready page)) r.lists.items; watches = map (λ s. s) r.watches.items }
 
+abbrev pub outcome_of : {E : Type 0} → Result (Option ℕ) E → Outcome
+outcome_of (Ok action) = Succeeded action
+outcome_of (Err e) = Failed
+
+abbrev pub finish_of : {D E : Type 0} → (D → ObjectType) → held_finish.Finish DynamicObject E D → Finish
+finish_of type_of f = record { reference = reference_of type_of f.reference; outcome = outcome_of f.outcome }
+
+abbrev pub turn_of : {D E : Type 0} → (D → ObjectType) → held_turn.Turn DynamicObject E D → Turn
+turn_of type_of t = record {
+  at = t.at.0;
+  budget = map (λ n. n) t.budget;
+  finishes = map (finish_of type_of) t.finishes;
+  reload = t.reload;
+  on = map (reference_of type_of) t.on;
+  shutdown = t.shutdown;
+  show = t.show;
+}
+
+abbrev pub seen_turn : held_turn.Turn DynamicObject (List ℕ) (Arc ApiResource Global) → Turn
+seen_turn t = turn_of (λ d. resource_type (arc_value d)) t
+
 abbrev pub seen_script : held_script.Script → Script
-seen_script s = record { kind = s.kind; root = seen_root s.root; turns = map (λ t. t) s.turns.items }
+seen_script s = record { kind = s.kind; root = seen_root s.root; turns = map seen_turn s.turns.items }

@@ -1,14 +1,17 @@
 //! The script that the program runs a controller by.
 
 ghost use Rattle.std.specs.Prelude.{◌≡◌, ℕ, List, Option, map, IfOk};
-ghost use Rattle.kube_api.specs.TestScript.{Step};
-ghost use Rattle.kube_api.specs.Answers.{list_answer};
-ghost use Rattle.kube_model.specs.Raw.{RawAnswer};
 ghost use Rattle.kube_meta.specs.declared.poll.Polled.TheVariants.{Ready};
 ghost use Rattle.kube_meta.specs.declared.metadata.ObjectMeta.{ObjectMeta as meta_record};
 ghost use Rattle.kube_meta.specs.declared.dynamic.DynamicObject.{DynamicObject as object_record};
 ghost use Rattle.kube_meta.specs.declared.dynamic.ApiResource.{ApiResource as resource_record};
-ghost use Rattle.kube_run.specs.Script.{api_version as api_version_of, kind_at, meta_names, meta_at, item_at, page_version_at, page_at, wait_at, watch_at, root_at, turn_at};
+ghost use Rattle.kube_model.specs.Raw.{RawAnswer};
+ghost use Rattle.kube_model.specs.History.{Turn as plain_turn};
+ghost use Rattle.kube_api.specs.Answers.{list_answer};
+ghost use Rattle.kube_api.specs.TestScript.{Step};
+ghost use Rattle.serde_json.specs.View.{view};
+ghost use Rattle.kube_run.specs.Reading.{Gives};
+ghost use Rattle.kube_run.specs.Script.{api_version as api_version_of, kind_at, meta_names, meta_at, item_at, page_version_at, page_at, pauses, wait_at, watch_at, Root as root_record, root_at, seen_root, seen_turn, turn_at, Script as script_record, seen_script, script_at};
 
 use crate::fault::ReadError;
 use crate::row::{Row, has_member, is_object, list_member, maybe_member, member, only};
@@ -230,9 +233,9 @@ impl Row for Root {
 }
 
 impl Row for ScriptTurn {
-    ghost Seen = { turn_record };
+    ghost Seen = { plain_turn };
 
-    ghost seen = { λ t. t };
+    ghost seen = { seen_turn };
 
     ghost reads = { turn_at };
 
