@@ -6,3 +6,8 @@ pub mod Part
 pub mod Reading
 pub mod Script
 pub mod Numbers
+pub mod Whole
+pub mod Shown
+pub mod TraceText
+pub mod TraceView
+pub mod Lines

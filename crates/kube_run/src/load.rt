@@ -1,5 +1,7 @@
 //! The script that bytes are.
 
+ghost use Rattle.kube_run.specs.Whole.{loaded, Answers};
+
 use crate::fault::{Fault, ReadError};
 use crate::row::Row;
 use crate::script::Script;
@@ -10,11 +12,9 @@ use std::str;
 /// Why bytes are no script.
 #[derive(Debug, Drop)]
 pub enum Refusal {
-    /// They aren't UTF-8.
-    NoText,
-    /// They have no reading as JSON, or nest deeper than 127.
-    NoReading,
-    /// Their reading is no script.
+    /// They aren't UTF-8, have no reading as JSON, or nest deeper than 127.
+    Syntax,
+    /// Their reading has not the form of a script.
     Shape(Fault),
 }
 
@@ -26,14 +26,17 @@ pub enum LoadError {
 }
 
 /// The script that bytes are.
-pub fn load(alloc: Global, bytes: &[u8]) -> Result<Script, LoadError> {
+#[tactic(auto, using(crate::proofs::Utf8::is_text, crate::proofs::Utf8::not_utf8), unfolding(crate::specs::Whole::loaded))]
+pub fn load(alloc: Global, bytes: &[u8]) -> Result<Script, LoadError>
+    ensures { Answers result (loaded bytes.now) }
+{
     let Ok(text) = str::from_utf8(bytes) else {
-        return Err(LoadError::Refused(Refusal::NoText));
+        return Err(LoadError::Refused(Refusal::Syntax));
     };
     let value = match Value::from_str(alloc, text) {
         Ok(value) => value,
         Err(error) if error.is_memory() => return Err(LoadError::NoMemory),
-        Err(_) => return Err(LoadError::Refused(Refusal::NoReading)),
+        Err(_) => return Err(LoadError::Refused(Refusal::Syntax)),
     };
     match Script::read(alloc, &value) {
         Ok(script) => Ok(script),

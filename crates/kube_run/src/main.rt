@@ -6,6 +6,7 @@ pub mod failed;
 pub mod fault;
 pub mod input;
 pub mod load;
+pub mod object;
 pub mod output;
 pub mod program;
 pub mod record;
@@ -16,6 +17,7 @@ pub mod sink;
 pub mod source;
 pub mod status;
 pub mod stdio;
+pub mod taken;
 
 use crate::program::run_program;
 use crate::status::Status;

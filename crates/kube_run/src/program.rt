@@ -44,7 +44,7 @@ pub fn run_program<S: Source, W: Sink>(
         Err(LoadError::Refused(Refusal::Shape(_))) => {
             told(sink, b"{\"error\":\"not built\"}\n", Status::BadRun)
         }
-        Err(LoadError::Refused(_)) => {
+        Err(LoadError::Refused(Refusal::Syntax)) => {
             let line = b"{\"error\":\"script\",\"fault\":\"syntax\"}\n";
             told(sink, line, Status::BadScript)
         }
@@ -122,7 +122,7 @@ fn told_records<W: Sink>(
 ) -> Status {
     let mut turn = 0u32;
     for record in trace.records.as_slice() {
-        let Ok(line) = record_line(alloc, Vec::new(alloc), turn, record) else {
+        let Ok(line) = record_line(alloc, turn, record) else {
             return Status::NoMemory;
         };
         if write_all(sink, &line).is_err() {
