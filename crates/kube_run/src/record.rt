@@ -7,7 +7,7 @@ ghost use Rattle.kube_model.specs.declared.turn.Stop.{Stop as stop_type};
 ghost use Rattle.kube_run.specs.Shown.{ShowsMembers, tokens_of, array_of};
 ghost use Rattle.kube_run.specs.TraceText.{ShownFinish, text_or_null, finish_members, finish_data, stop_word as stop_word_of, stop_data, taken_data, line_members, line_data, line_text};
 ghost use Rattle.kube_run.specs.TraceView.{error_text, seen_finish, seen_taken, seen_record};
-ghost use Rattle.kube_run.specs.Lines.{not_built_members, not_built_line as not_built_text};
+ghost use Rattle.kube_run.specs.Lines.{not_built_data, not_built_line as not_built_text};
 
 use crate::show::{Show, member, member_if, text_member};
 use crate::taken::show_takes;
@@ -171,11 +171,20 @@ pub fn not_built_line(alloc: Global, turn: u32) -> Result<Vec<u8>, AllocError>
     ensures { IfOk result (λ line. line.items ≡ not_built_text turn) }
 {
     let mut writer = Writer::new(Vec::new(alloc));
-    writer.begin_object()?;
-    text_member(&mut writer, "error", "not built")?;
-    member(alloc, &mut writer, "turn", &turn)?;
-    writer.end_object()?;
+    show_not_built(alloc, &mut writer, turn)?;
     let mut line = writer.into_inner();
     line.push(b'\n')?;
     Ok(line)
+}
+
+#[tactic(auto, unfolding(crate::specs::Lines::not_built_data))]
+fn show_not_built(alloc: Global, out: &mut Writer, turn: u32) -> Result<(), AllocError>
+    ensures before { OnOk result (out.new.before ≡ out.old.before) }
+    ensures tokens { OnOk result (out.new.tokens ≡ out.old.tokens ++ tokens_of (not_built_data turn)) }
+{
+    out.begin_object()?;
+    text_member(out, "error", "not built")?;
+    member(alloc, out, "turn", &turn)?;
+    out.end_object()?;
+    Ok(())
 }
