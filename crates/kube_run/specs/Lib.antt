@@ -11,3 +11,4 @@ pub mod Shown
 pub mod TraceText
 pub mod TraceView
 pub mod Lines
+pub mod Served

@@ -8,6 +8,7 @@ pub mod input;
 pub mod load;
 pub mod object;
 pub mod output;
+pub mod play;
 pub mod program;
 pub mod record;
 pub mod row;
@@ -18,6 +19,7 @@ pub mod source;
 pub mod status;
 pub mod stdio;
 pub mod taken;
+pub mod trace;
 
 use crate::program::run_program;
 use crate::status::Status;

@@ -1,21 +1,22 @@
 //! The program over any source and any sink.
 
+ghost use Rattle.std.specs.Prelude.{◌≡◌, ◌+◌, ◌≤◌, ◌⊎◌, OnOk, false, map, string_bytes};
+ghost use Rattle.std.specs.Io.KnownBytes.{Appends};
+ghost use Rattle.kube_run.specs.Causes.{Rose};
+ghost use Rattle.kube_run.specs.Limit.{longest, TakesAtMost};
+ghost use Rattle.kube_run.specs.Served.{is_run as names_run, Serves, Runs, status_of};
+
 use crate::input::{Unread, read_all};
 use crate::load::{LoadError, Refusal, load};
 use crate::output::write_all;
-use crate::record::{not_built_line, record_line};
+use crate::play::play;
 use crate::script::Script;
 use crate::sink::Sink;
 use crate::source::Source;
 use crate::status::Status;
-use kube_api::TestMode;
-use kube_control::{Controller, Recorder, RunError, Trace};
-use kube_meta::{Action, DynamicObject, List, Text};
+use crate::trace::{Unwritten, write_not_built, write_records};
+use kube_control::RunError;
 use std::alloc::Global;
-use std::sync::Arc;
-
-/// The trace of a script's turns.
-type ScriptTrace = Trace<DynamicObject, Text>;
 
 /// Does what the words name: `run` reads a script, runs a controller by it, and writes a line for each turn.
 ///
@@ -25,9 +26,17 @@ pub fn run_program<S: Source, W: Sink>(
     words: &[String],
     source: &mut S,
     sink: &mut W,
-) -> Status {
+) -> Status
+    ensures serves { Serves result (names_run (map string_bytes words.now)) (S.left source.old) (W.written sink.old) (W.written sink.new) }
+    ensures read_fault { result ≡ Status.ReadFault → Rose (S.faults source.old) (S.faults source.new) }
+    ensures write_fault { result ≡ Status.WriteFault → Rose (W.faults sink.old) (W.faults sink.new) }
+
+    // Other words than `run` are refused before anything is read.
+    ensures unread { names_run (map string_bytes words.now) ≡ false → source.new ≡ source.old }
+    ensures taken { TakesAtMost (longest + 1) (S.left source.old) (S.left source.new) }
+{
     if !is_run(words) {
-        return told(sink, b"{\"error\":\"usage\"}\n", Status::Usage);
+        return told(b"{\"error\":\"usage\"}\n", Status::Usage, sink);
     }
     let bytes = match read_all(alloc, source) {
         Ok(bytes) => bytes,
@@ -35,24 +44,26 @@ pub fn run_program<S: Source, W: Sink>(
         Err(Unread::Fault) => return Status::ReadFault,
         Err(Unread::TooLong) => {
             let line = b"{\"error\":\"script\",\"fault\":\"too long\"}\n";
-            return told(sink, line, Status::BadScript);
+            return told(line, Status::BadScript, sink);
         }
     };
     match load(alloc, &bytes) {
         Ok(script) => run_script(alloc, script, sink),
         Err(LoadError::NoMemory) => Status::NoMemory,
-        Err(LoadError::Refused(Refusal::Shape(_))) => {
-            told(sink, b"{\"error\":\"not built\"}\n", Status::BadRun)
-        }
         Err(LoadError::Refused(Refusal::Syntax)) => {
             let line = b"{\"error\":\"script\",\"fault\":\"syntax\"}\n";
-            told(sink, line, Status::BadScript)
+            told(line, Status::BadScript, sink)
+        }
+        Err(LoadError::Refused(Refusal::Shape(_))) => {
+            told(b"{\"error\":\"not built\"}\n", Status::BadRun, sink)
         }
     }
 }
 
 /// Whether the words are the one command.
-fn is_run(words: &[String]) -> bool {
+fn is_run(words: &[String]) -> bool
+    ensures { result ≡ names_run (map string_bytes words.now) }
+{
     match words {
         [word] => word.as_str() == "run",
         _ => false,
@@ -60,7 +71,11 @@ fn is_run(words: &[String]) -> bool {
 }
 
 /// Writes a line, and ends so if that went well.
-fn told<W: Sink>(sink: &mut W, line: &[u8], status: Status) -> Status {
+fn told<W: Sink>(line: &[u8], status: Status, sink: &mut W) -> Status
+    ensures either { (result ≡ status) ⊎ (result ≡ Status.WriteFault) }
+    ensures written { result ≡ status → (status ≡ Status.WriteFault) ⊎ Appends (W.written sink.old) (W.written sink.new) line.now }
+    ensures fault { result ≡ Status.WriteFault → (status ≡ Status.WriteFault) ⊎ Rose (W.faults sink.old) (W.faults sink.new) }
+{
     match write_all(sink, line) {
         Ok(()) => status,
         Err(_) => Status::WriteFault,
@@ -68,75 +83,40 @@ fn told<W: Sink>(sink: &mut W, line: &[u8], status: Status) -> Status {
 }
 
 /// Runs a controller by a script, and writes the records of its turns.
-fn run_script<W: Sink>(alloc: Global, script: Script, sink: &mut W) -> Status {
-    match run_controller(alloc, script) {
-        Ok(trace) => told_records(alloc, &trace, sink, Status::Done),
+fn run_script<W: Sink>(alloc: Global, script: Script, sink: &mut W) -> Status
+    ensures runs { Runs result (W.written sink.old) (W.written sink.new) }
+    ensures fault { result ≡ Status.WriteFault → Rose (W.faults sink.old) (W.faults sink.new) }
+{
+    match play(alloc, script) {
+        Ok(trace) => match write_records(alloc, trace.records.as_slice(), sink) {
+            Ok(()) => Status::Done,
+            Err(error) => unwritten(error),
+        },
+        // A controller that was just made isn't spent.
         Err(RunError::NoMemory { trace }) | Err(RunError::Spent { trace }) => {
-            told_records(alloc, &trace, sink, Status::NoMemory)
+            match write_records(alloc, trace.records.as_slice(), sink) {
+                Ok(()) => Status::NoMemory,
+                Err(error) => unwritten(error),
+            }
         }
         Err(RunError::NotBuilt { turn, trace }) => {
-            match told_records(alloc, &trace, sink, Status::BadRun) {
-                Status::BadRun => told_not_built(alloc, turn, sink),
-                other => other,
+            if let Err(error) = write_records(alloc, trace.records.as_slice(), sink) {
+                return unwritten(error);
+            }
+            match write_not_built(alloc, turn, sink) {
+                Ok(()) => Status::BadRun,
+                Err(error) => unwritten(error),
             }
         }
     }
 }
 
-/// Makes the controller that a script tells of, and takes its turns.
-fn run_controller(
-    alloc: Global,
-    script: Script,
-) -> Result<ScriptTrace, RunError<DynamicObject, Text>> {
-    let Script { kind, root, turns } = script;
-    let (Ok(kind), Ok(context)) = (Arc::new(alloc, kind), Arc::new(alloc, ())) else {
-        return Err(RunError::NoMemory {
-            trace: no_records(alloc),
-        });
-    };
-    if turns.len() > u32::MAX as usize {
-        return Err(RunError::NoMemory {
-            trace: no_records(alloc),
-        });
-    }
-    let api = TestMode::new(alloc, root.lists, root.watches);
-    let mut controller = Controller::new_with(alloc, api, kind);
-    let mut recorder = Recorder::new(alloc);
-    let policy =
-        |_object: Arc<DynamicObject>, _error: &Text, _context: Arc<()>| Action::await_change();
-    controller.run(alloc, &mut recorder, &policy, context, turns)
-}
-
-fn no_records(alloc: Global) -> ScriptTrace {
-    Trace {
-        records: List::new(alloc),
-    }
-}
-
-/// Writes the records of a trace, each as a line, and ends so if that went well.
-fn told_records<W: Sink>(
-    alloc: Global,
-    trace: &ScriptTrace,
-    sink: &mut W,
-    status: Status,
-) -> Status {
-    let mut turn = 0u32;
-    for record in trace.records.as_slice() {
-        let Ok(line) = record_line(alloc, turn, record) else {
-            return Status::NoMemory;
-        };
-        if write_all(sink, &line).is_err() {
-            return Status::WriteFault;
-        }
-        turn = turn.saturating_add(1);
-    }
-    status
-}
-
-/// Writes the line of a turn that is not built.
-fn told_not_built<W: Sink>(alloc: Global, turn: u32, sink: &mut W) -> Status {
-    match not_built_line(alloc, turn) {
-        Ok(line) => told(sink, &line, Status::BadRun),
-        Err(_) => Status::NoMemory,
+/// How the program ends where a line was not written whole.
+fn unwritten(error: Unwritten) -> Status
+    ensures { result ≡ status_of error }
+{
+    match error {
+        Unwritten::Fault => Status::WriteFault,
+        Unwritten::NoMemory => Status::NoMemory,
     }
 }

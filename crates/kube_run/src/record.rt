@@ -101,7 +101,7 @@ fn stop_word(stop: &Stop) -> &'static str
 fn show_record(
     alloc: Global,
     out: &mut Writer,
-    turn: u32,
+    turn: u64,
     record: &ScriptRecord,
 ) -> Result<(), AllocError>
     ensures before { OnOk result (out.new.before ≡ out.old.before) }
@@ -117,7 +117,7 @@ fn show_record(
 fn show_members(
     alloc: Global,
     out: &mut Writer,
-    turn: u32,
+    turn: u64,
     record: &ScriptRecord,
 ) -> Result<(), AllocError>
     ensures before { OnOk result (out.new.before ≡ out.old.before) }
@@ -153,7 +153,7 @@ fn takes_member(
 #[tactic(auto, using(crate::proofs::Text::closed))]
 pub fn record_line(
     alloc: Global,
-    turn: u32,
+    turn: u64,
     record: &ScriptRecord,
 ) -> Result<Vec<u8>, AllocError>
     ensures { IfOk result (λ line. line.items ≡ line_text (seen_record turn «record».now)) }
