@@ -5,3 +5,5 @@ pub mod Utf8
 pub mod Shown
 pub mod Takes
 pub mod Text
+pub mod Records
+pub mod Served

@@ -1,5 +1,5 @@
 -- A trace as the program holds it, seen as the lines that are written.
-use Rattle.std.specs.Prelude.{ℕ, suc, List, [], ◌∷◌, map, option_map, Option, Some, None, Result, Ok, Err}
+use Rattle.std.specs.Prelude.{ℕ, ◌+◌, List, [], ◌∷◌, map, option_map, Option, Some, None, Result, Ok, Err}
 use Rattle.std.specs.List.{filter_map}
 use Rattle.std.specs.Arc.{arc_value}
 use Rattle.std.specs.declared.sync.Arc.{Arc}
@@ -73,4 +73,4 @@ seen_record turn r = record {
 -- the records numbered from here on
 abbrev pub seen_records : ℕ → List (TurnRecord DynamicObject (List ℕ) Named) → List Line
 seen_records turn [] = []
-seen_records turn (r ∷ rs) = seen_record turn r ∷ seen_records (suc turn) rs
+seen_records turn (r ∷ rs) = seen_record turn r ∷ seen_records (turn + 1) rs

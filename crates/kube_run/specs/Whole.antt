@@ -7,8 +7,6 @@ use Rattle.kube_run.specs.Limit.{longest}
 use Rattle.kube_run.specs.Reading.{Wrong, seen_fault}
 use Rattle.kube_run.specs.Script.{Script, script_at, seen_script}
 use Rattle.kube_run.specs.declared.script.Script as held
-use Rattle.kube_run.specs.declared.load.Refusal.{Refusal}
-use Rattle.kube_run.specs.declared.load.Refusal.TheVariants as refusals
 use Rattle.kube_run.specs.declared.load.LoadError.{LoadError}
 use Rattle.kube_run.specs.declared.load.LoadError.TheVariants as errors
 
@@ -34,13 +32,10 @@ script_of bytes = cond (nat_lt longest (length bytes)) (Err too_long) (loaded by
 
 -- ---- what is answered is what was wanted, unless memory ran out
 
-abbrev pub cause_of : Refusal → Cause
-cause_of refusals.Syntax = syntax_fault
-cause_of (refusals.Shape f) = shape (seen_fault f)
-
 abbrev pub Refuses : LoadError → Result Script Cause → Type 0
 Refuses errors.NoMemory wanted = Unit {0}
-Refuses (errors.Refused r) wanted = wanted ≡ Err (cause_of r)
+Refuses errors.Syntax wanted = wanted ≡ Err syntax_fault
+Refuses (errors.Shape f) wanted = wanted ≡ Err (shape (seen_fault f))
 
 abbrev pub Answers : Result held.Script LoadError → Result Script Cause → Type 0
 Answers (Ok s) wanted = wanted ≡ Ok (seen_script s)

@@ -11,18 +11,12 @@ use std::str;
 
 /// Why bytes are no script.
 #[derive(Debug, Drop)]
-pub enum Refusal {
+pub enum LoadError {
+    NoMemory,
     /// They aren't UTF-8, have no reading as JSON, or nest deeper than 127.
     Syntax,
     /// Their reading has not the form of a script.
     Shape(Fault),
-}
-
-/// Why no script was read.
-#[derive(Debug, Drop)]
-pub enum LoadError {
-    NoMemory,
-    Refused(Refusal),
 }
 
 /// The script that bytes are.
@@ -31,16 +25,16 @@ pub fn load(alloc: Global, bytes: &[u8]) -> Result<Script, LoadError>
     ensures { Answers result (loaded bytes.now) }
 {
     let Ok(text) = str::from_utf8(bytes) else {
-        return Err(LoadError::Refused(Refusal::Syntax));
+        return Err(LoadError::Syntax);
     };
     let value = match Value::from_str(alloc, text) {
         Ok(value) => value,
         Err(error) if error.is_memory() => return Err(LoadError::NoMemory),
-        Err(_) => return Err(LoadError::Refused(Refusal::Syntax)),
+        Err(_) => return Err(LoadError::Syntax),
     };
     match Script::read(alloc, &value) {
         Ok(script) => Ok(script),
         Err(ReadError::NoMemory) => Err(LoadError::NoMemory),
-        Err(ReadError::Fault(fault)) => Err(LoadError::Refused(Refusal::Shape(fault))),
+        Err(ReadError::Fault(fault)) => Err(LoadError::Shape(fault)),
     }
 }

@@ -1,20 +1,20 @@
 //! The program over any source and any sink.
 
-ghost use Rattle.std.specs.Prelude.{◌≡◌, ◌+◌, ◌≤◌, ◌⊎◌, OnOk, false, map, string_bytes};
+ghost use Rattle.std.specs.Prelude.{◌≡◌, ◌+◌, ◌≤◌, ◌⊎◌, ◌≢◌, false, map, string_bytes};
 ghost use Rattle.std.specs.Io.KnownBytes.{Appends};
 ghost use Rattle.kube_run.specs.Causes.{Rose};
 ghost use Rattle.kube_run.specs.Limit.{longest, TakesAtMost};
 ghost use Rattle.kube_run.specs.Served.{is_run as names_run, Serves, Runs, status_of};
 
 use crate::input::{Unread, read_all};
-use crate::load::{LoadError, Refusal, load};
+use crate::load::{LoadError, load};
 use crate::output::write_all;
 use crate::play::play;
 use crate::script::Script;
 use crate::sink::Sink;
 use crate::source::Source;
 use crate::status::Status;
-use crate::trace::{Unwritten, write_not_built, write_records};
+use crate::trace::{Unwritten, write_records, write_refused};
 use kube_control::RunError;
 use std::alloc::Global;
 
@@ -50,11 +50,11 @@ pub fn run_program<S: Source, W: Sink>(
     match load(alloc, &bytes) {
         Ok(script) => run_script(alloc, script, sink),
         Err(LoadError::NoMemory) => Status::NoMemory,
-        Err(LoadError::Refused(Refusal::Syntax)) => {
+        Err(LoadError::Syntax) => {
             let line = b"{\"error\":\"script\",\"fault\":\"syntax\"}\n";
             told(line, Status::BadScript, sink)
         }
-        Err(LoadError::Refused(Refusal::Shape(_))) => {
+        Err(LoadError::Shape(_)) => {
             told(b"{\"error\":\"not built\"}\n", Status::BadRun, sink)
         }
     }
@@ -72,9 +72,10 @@ fn is_run(words: &[String]) -> bool
 
 /// Writes a line, and ends so if that went well.
 fn told<W: Sink>(line: &[u8], status: Status, sink: &mut W) -> Status
+    requires { status ≢ Status.WriteFault }
     ensures either { (result ≡ status) ⊎ (result ≡ Status.WriteFault) }
-    ensures written { result ≡ status → (status ≡ Status.WriteFault) ⊎ Appends (W.written sink.old) (W.written sink.new) line.now }
-    ensures fault { result ≡ Status.WriteFault → (status ≡ Status.WriteFault) ⊎ Rose (W.faults sink.old) (W.faults sink.new) }
+    ensures written { result ≡ status → Appends (W.written sink.old) (W.written sink.new) line.now }
+    ensures fault { result ≡ Status.WriteFault → Rose (W.faults sink.old) (W.faults sink.new) }
 {
     match write_all(sink, line) {
         Ok(()) => status,
@@ -100,10 +101,7 @@ fn run_script<W: Sink>(alloc: Global, script: Script, sink: &mut W) -> Status
             }
         }
         Err(RunError::NotBuilt { turn, trace }) => {
-            if let Err(error) = write_records(alloc, trace.records.as_slice(), sink) {
-                return unwritten(error);
-            }
-            match write_not_built(alloc, turn, sink) {
+            match write_refused(alloc, trace.records.as_slice(), turn, sink) {
                 Ok(()) => Status::BadRun,
                 Err(error) => unwritten(error),
             }

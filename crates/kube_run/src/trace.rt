@@ -1,6 +1,6 @@
 //! The lines of a trace, to a sink.
 
-ghost use Rattle.std.specs.Prelude.{◌≡◌, ◌≤◌, OnOk, OnErr, IsErrOf};
+ghost use Rattle.std.specs.Prelude.{◌≡◌, ◌≤◌, ◌++◌, OnOk, OnErr, IsErrOf};
 ghost use Rattle.std.specs.Io.KnownBytes.{Appends};
 ghost use Rattle.kube_run.specs.Causes.{Rose};
 ghost use Rattle.kube_run.specs.Lines.{not_built_line as not_built_text};
@@ -39,6 +39,22 @@ pub fn write_records<W: Sink>(
     Ok(())
 }
 
+/// Writes the records of turns, and that the turn of this number is not built.
+pub fn write_refused<W: Sink>(
+    alloc: Global,
+    records: &[ScriptRecord],
+    turn: u32,
+    sink: &mut W,
+) -> Result<(), Unwritten>
+    ensures all { OnOk result (Appends (W.written sink.old) (W.written sink.new) (lines_text (seen_records 0 records.now) ++ not_built_text turn)) }
+    ensures fault { IsErrOf result Unwritten.Fault → Rose (W.faults sink.old) (W.faults sink.new) }
+    ensures later { W.faults sink.old ≤ W.faults sink.new }
+{
+    write_records(alloc, records, sink)?;
+    write_not_built(alloc, turn, sink)?;
+    Ok(())
+}
+
 /// Writes the record of the turn of this number as a line.
 fn write_record<W: Sink>(
     alloc: Global,
@@ -61,7 +77,7 @@ fn write_record<W: Sink>(
 }
 
 /// Writes the line of a turn that is not built.
-pub fn write_not_built<W: Sink>(alloc: Global, turn: u32, sink: &mut W) -> Result<(), Unwritten>
+fn write_not_built<W: Sink>(alloc: Global, turn: u32, sink: &mut W) -> Result<(), Unwritten>
     ensures all { OnOk result (Appends (W.written sink.old) (W.written sink.new) (not_built_text turn)) }
     ensures part { OnErr result (AppendsPart (W.written sink.old) (W.written sink.new) (not_built_text turn)) }
     ensures fault { IsErrOf result Unwritten.Fault → Rose (W.faults sink.old) (W.faults sink.new) }
