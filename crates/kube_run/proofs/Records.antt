@@ -28,7 +28,7 @@ one_more a b c turn rs r w e h = record {
   text = w.text ++ line_text (seen_record turn r);
   wrote = both_written a b c w.text (line_text (seen_record turn r)) w.wrote h;
   whole = w.whole ∙ ap (λ left. w.text ++ lines_text (seen_records turn left)) e
-          ∙ sym (append_assoc w.text (line_text (seen_record turn r)) (lines_text (seen_records (turn + 1) (drop (turn + 1) rs))));
+      ∙ sym (append_assoc w.text (line_text (seen_record turn r)) (lines_text (seen_records (turn + 1) (drop (turn + 1) rs))));
 }
 
 pub all_written : (a b : Option (List ℕ)) (turn : ℕ) (rs : Records) → Written a b turn rs → drop turn rs ≡ [] → Appends a b (lines_text (seen_records 0 rs))
@@ -40,11 +40,11 @@ pub part_written : (a b c : Option (List ℕ)) (turn : ℕ) (rs : Records) (r : 
 part_written a b c turn rs r w e p =
     let after = lines_text (seen_records (turn + 1) (drop (turn + 1) rs)) in
     record {
-  front = w.text ++ p.front;
-  rest = p.rest ++ after;
-  split = w.whole ∙ ap (λ left. w.text ++ lines_text (seen_records turn left)) e
+      front = w.text ++ p.front;
+      rest = p.rest ++ after;
+      split = w.whole ∙ ap (λ left. w.text ++ lines_text (seen_records turn left)) e
           ∙ ap (λ line. w.text ++ (line ++ after)) p.split
           ∙ ap (λ t. w.text ++ t) (append_assoc p.front p.rest after)
           ∙ sym (append_assoc w.text p.front (p.rest ++ after));
-  appended = both_written a b c w.text p.front w.wrote p.appended;
-}
+      appended = both_written a b c w.text p.front w.wrote p.appended;
+    }

@@ -19,6 +19,8 @@ pub mod source;
 pub mod status;
 pub mod stdio;
 pub mod taken;
+#[cfg(test)]
+mod tests;
 pub mod trace;
 
 use crate::program::run_program;

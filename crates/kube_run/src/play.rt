@@ -27,8 +27,9 @@ pub fn play(alloc: Global, script: Script) -> Result<ScriptTrace, ScriptError> {
     let api = TestMode::new(alloc, root.lists, root.watches);
     let mut controller = Controller::new_with(alloc, api, kind);
     let mut recorder = Recorder::new(alloc);
-    let policy =
-        |_object: Arc<DynamicObject>, _error: &Text, _context: Arc<()>| Action::await_change();
+    let policy = |_object: Arc<DynamicObject>, _error: &Text, _context: Arc<
+        (),
+    >| Action::await_change();
     controller.run(alloc, &mut recorder, &policy, context, turns)
 }
 

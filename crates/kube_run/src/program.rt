@@ -54,9 +54,7 @@ pub fn run_program<S: Source, W: Sink>(
             let line = b"{\"error\":\"script\",\"fault\":\"syntax\"}\n";
             told(line, Status::BadScript, sink)
         }
-        Err(LoadError::Shape(_)) => {
-            told(b"{\"error\":\"not built\"}\n", Status::BadRun, sink)
-        }
+        Err(LoadError::Shape(_)) => { told(b"{\"error\":\"not built\"}\n", Status::BadRun, sink) }
     }
 }
 

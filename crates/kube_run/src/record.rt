@@ -151,11 +151,7 @@ fn takes_member(
 
 /// The record of the turn of this number, counted from 0, as a line.
 #[tactic(auto, using(crate::proofs::Text::closed))]
-pub fn record_line(
-    alloc: Global,
-    turn: u64,
-    record: &ScriptRecord,
-) -> Result<Vec<u8>, AllocError>
+pub fn record_line(alloc: Global, turn: u64, record: &ScriptRecord) -> Result<Vec<u8>, AllocError>
     ensures { IfOk result (λ line. line.items ≡ line_text (seen_record turn «record».now)) }
 {
     let mut writer = Writer::new(Vec::new(alloc));

@@ -174,11 +174,7 @@ fn optional_row<R: Row>(alloc: Global, value: &Value) -> Result<Option<R>, ReadE
 
 /// A list that may be absent or null, and is then empty.
 #[tactic(auto, unfolding(crate::specs::Reading::list_field))]
-pub fn list_member<R: Row>(
-    alloc: Global,
-    value: &Value,
-    name: &str,
-) -> Result<Vec<R>, ReadError>
+pub fn list_member<R: Row>(alloc: Global, value: &Value, name: &str) -> Result<Vec<R>, ReadError>
     ensures { Gives (λ v. map R.seen v.items) result (list_field name.now R.reads (view value.now)) }
 {
     match maybe_member(alloc, value, name)? {

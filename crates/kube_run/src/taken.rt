@@ -65,8 +65,8 @@ fn show_message(
 ) -> Result<(), AllocError>
     ensures before { OnOk result (out.new.before ≡ out.old.before) }
     ensures tokens { OnOk result (out.new.tokens ≡ out.old.tokens ++ tokens_of (taken_data (record {
-        message = record { reference = seen_reference reference.now; reason = reason_of reason.now };
-        object = option_map (λ o. arc_value o.now) object.entry;
+      message = record { reference = seen_reference reference.now; reason = reason_of reason.now };
+      object = option_map (λ o. arc_value o.now) object.entry;
     }))) }
 {
     out.begin_object()?;
@@ -85,8 +85,8 @@ fn show_members(
 ) -> Result<(), AllocError>
     ensures before { OnOk result (out.new.before ≡ out.old.before) }
     ensures members { ShowsMembers result out.old out.new (taken_members (record {
-        message = record { reference = seen_reference reference.now; reason = reason_of reason.now };
-        object = option_map (λ o. arc_value o.now) object.entry;
+      message = record { reference = seen_reference reference.now; reason = reason_of reason.now };
+      object = option_map (λ o. arc_value o.now) object.entry;
     })) }
 {
     member(alloc, out, "found", &object.is_some())?;

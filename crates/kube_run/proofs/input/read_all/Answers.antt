@@ -8,13 +8,15 @@ returns-then-is_err-clause-taken g c =
     let step = c.in-Ok.ensures in
     let room = c.min-room.ensures in
     let l = c.len.ensures in
-    record { taken = c.loop.all.items ++ take c.in-Ok.count c.read.new.buf
-           ; consumed = taken_then (g.S.Source.left c.args.source.now) (g.S.Source.left c.loop.source) (g.S.Source.left c.read.new.self) c.loop.all.items (take c.in-Ok.count c.read.new.buf) before.0 step.bytes.0
-           ; within =
-               let kept = c.read.auto.buf in
-               let cut = length-take c.min-room.result c.loop.piece in
-               let whole = length-append c.loop.all.items (take c.in-Ok.count c.read.new.buf) in
-               omega (arith, kept, cut, whole, room, l, step.bound, before) }
+    record {
+      taken = c.loop.all.items ++ take c.in-Ok.count c.read.new.buf;
+      consumed = taken_then (g.S.Source.left c.args.source.now) (g.S.Source.left c.loop.source) (g.S.Source.left c.read.new.self) c.loop.all.items (take c.in-Ok.count c.read.new.buf) before.0 step.bytes.0;
+      within =
+          let kept = c.read.auto.buf in
+          let cut = length-take c.min-room.result c.loop.piece in
+          let whole = length-append c.loop.all.items (take c.in-Ok.count c.read.new.buf) in
+          omega (arith, kept, cut, whole, room, l, step.bound, before);
+    }
 
 pub loop-preserved : goal.loop-preserved
 loop-preserved g c =
@@ -27,8 +29,9 @@ loop-preserved g c =
     let len = c.len-in-loop.ensures in
     let some = c.if-count-eq0.false in
     let within = c.if-len-gt-LONGEST.false in
-    let later = step.cause.later in
-    ( more_taken (g.S.Source.left c.args.source.now) (g.S.Source.left c.loop.source) (g.S.Source.left c.read.new.self) _ c.in-Ok.count c.loop.all.items c.read.new.buf (drop c.min-room.result c.loop.piece) c.extend_from_slice.new.self.items before.0 step.bytes.0 ok step.bound.0 grown
-    , omega arith
-    , omega arith
-    , omega arith)
+    let later = step.cause.later in (
+      more_taken (g.S.Source.left c.args.source.now) (g.S.Source.left c.loop.source) (g.S.Source.left c.read.new.self) _ c.in-Ok.count c.loop.all.items c.read.new.buf (drop c.min-room.result c.loop.piece) c.extend_from_slice.new.self.items before.0 step.bytes.0 ok step.bound.0 grown,
+      omega arith,
+      omega arith,
+      omega arith,
+    )

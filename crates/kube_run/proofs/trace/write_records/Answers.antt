@@ -15,9 +15,10 @@ loop-turn-preserved g c =
     let left = next_record c.args.records.now c.loop-turn.turn r c.loop-turn-test.true c.index-records-turn.is in
     let before = c.loop-turn.invariant in
     let step = c.in_ok-write_record.ensures in
-    let later = step.later in
-    ( one_more a b d c.loop-turn.turn c.args.records.now r before.0 left step.all
-    , omega arith)
+    let later = step.later in (
+      one_more a b d c.loop-turn.turn c.args.records.now r before.0 left step.all,
+      omega arith,
+    )
 
 pub returns-in_err-write_record-clause-part : goal.returns-in_err-write_record-clause-part
 returns-in_err-write_record-clause-part g c =
