@@ -1,7 +1,6 @@
 -- How a talk grows.
-use Rattle.std.proofs.Common.{◌≡◌, ℕ, suc, List, [], ◌∷◌, ◌++◌, length, refl, ap}
+use Rattle.std.proofs.Common.{◌≡◌, List, [], ◌∷◌, ◌++◌, length, refl, ap}
 use Rattle.std.specs.List.{AllByRecursion}
-use Rattle.kube_model.specs.Raw.{Raw}
 use Rattle.kube_api.specs.declared.recording.Recording.{Recording}
 use Rattle.kube_api.specs.declared.recording.Answered.{Answered}
 use Rattle.kube_api.specs.Recordings.{call_of, answer_of, talk_of}

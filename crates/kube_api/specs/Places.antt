@@ -1,9 +1,9 @@
--- What is left of a watch at a place in its steps.
-use Rattle.std.specs.Prelude.{ℕ, ◌-◌, nat_le, ◌≡◌, Bool, false, List, [], ◌∷◌, ◌++◌, map, drop, length, None, unwrap_or}
+-- What is left of a scripted watch at a place in its steps: the step's number, and how much of it is past.
+use Rattle.std.specs.Prelude.{ℕ, ◌-◌, nat_le, ◌≡◌, Bool, false, List, [], ◌∷◌, ◌++◌, map, drop, length, unwrap_or}
 use Rattle.kube_api.specs.declared.sequence.SequenceStep.{SequenceStep}
 use Rattle.kube_api.specs.declared.sequence.SequenceStep.TheVariants.{List as ListStep, Wait}
 use Rattle.kube_api.specs.declared.place.Place.{Place}
-use Rattle.kube_api.specs.TestScript.{Step, Pauses, OpenedWatch, just_opened}
+use Rattle.kube_api.specs.TestScript.{Pauses, OpenedWatch, just_opened}
 use Rattle.kube_api.specs.Sequences.{given_step, steps_of}
 
 abbrev pub left_from : {K : Type 0} → Place → List (SequenceStep K) → OpenedWatch K

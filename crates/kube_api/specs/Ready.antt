@@ -1,4 +1,4 @@
--- Answers that are there.
+-- Whether an answer is there. (`std::task::Poll`.)
 use Rattle.kube_meta.specs.declared.poll.Polled.{Polled}
 use Rattle.kube_meta.specs.declared.poll.Polled.TheVariants.{Ready, NotReady}
 

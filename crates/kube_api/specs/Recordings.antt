@@ -1,4 +1,4 @@
--- Calls and answers that are kept, as plain data.
+-- Calls and answers that a scripted API keeps, as plain data. (kube-runtime's recordings of `TestMode`.)
 use Rattle.std.specs.Prelude.{List, [], ◌∷◌}
 use Rattle.kube_meta.specs.declared.poll.Polled.TheVariants.{Ready}
 use Rattle.kube_model.specs.Raw.{RawCall, ListAsked, WatchAsked, NextAsked, RawAnswer, Raw}

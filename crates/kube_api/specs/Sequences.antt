@@ -1,4 +1,4 @@
--- The steps of a watch's script, as plain data.
+-- The steps of a scripted watch, as plain data. (kube-runtime's `TestMode` of its watcher tests.)
 use Rattle.std.specs.Prelude.{List, [], ◌∷◌, ◌++◌, map, Some, Result}
 use Rattle.kube_meta.specs.declared.poll.Polled.TheVariants.{Ready}
 use Rattle.kube_model.specs.declared.error.ApiError.{ApiError}

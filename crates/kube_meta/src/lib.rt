@@ -24,3 +24,6 @@ pub use poll::Polled;
 pub use resource::{Resource, TypeInfo};
 pub use text::Text;
 pub use text_map::TextMap;
+
+#[cfg(test)]
+mod tests;

@@ -197,11 +197,6 @@ impl<K: Resource> ObjectRef<K> {
     }
 }
 
-/// Whether the first is the second without its namespace.
-pub fn is_without_namespace<K: Resource>(a: &ObjectRef<K>, b: &ObjectRef<K>) -> bool {
-    a.namespace == None && a.name == b.name
-}
-
 /// What can be looked up by a reference (kube-runtime's `Lookup`).
 pub trait Lookup: Resource {
     /// The object's name.

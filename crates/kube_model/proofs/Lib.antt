@@ -1,0 +1,12 @@
+-- lemmas on the definitions
+pub mod Lasts
+pub mod Marks
+pub mod Alls
+pub mod Stores
+pub mod Entries
+pub mod HandedOver
+pub mod Histories
+pub mod SettledSteps
+pub mod Waits
+pub mod Numbers
+pub mod Joins

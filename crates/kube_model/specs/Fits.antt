@@ -1,9 +1,8 @@
 -- When a recorded exchange is one that may be: it makes the owed call, and its answer, texts, objects, error and requests fit. (Tables of Kubernetes API concepts "list", "watch", "bookmarks"; crate: `watcher`.)
-use Rattle.std.specs.Prelude.{◌≡◌, ◌⊎◌, ℕ, ◌+◌, nat_le, Bool, true, false, not, ◌&&◌, ◌||◌, ◌==◌, List, [], ◌∷◌, ◌++◌, map, length, Option, Some, None, if◌then◌else◌, is_some, IsTrue, IsFalse}
+use Rattle.std.specs.Prelude.{◌≡◌, ◌⊎◌, ℕ, ◌+◌, nat_le, Bool, true, false, not, ◌&&◌, ◌||◌, ◌==◌, List, [], ◌∷◌, ◌++◌, map, length, Option, Some, None, if◌then◌else◌, is_some, IsTrue}
 use Rattle.std.specs.List.{find, flat_map}
 use Rattle.std.specs.List.{AllByRecursion}
 use Rattle.std.specs.Option.{option_map}
-use Rattle.kube_meta.specs.Reference.{Reference}
 use Rattle.kube_model.specs.declared.call.Call.{Call}
 use Rattle.kube_model.specs.declared.call.Call.TheVariants.{List as ListCall, Watch, Next, Stream}
 use Rattle.kube_model.specs.declared.call.Answer.{Answer}
@@ -11,8 +10,8 @@ use Rattle.kube_model.specs.declared.call.Answer.TheVariants.{Page, Opened, Adde
 use Rattle.kube_model.specs.declared.error.ApiError.{ApiError}
 use Rattle.kube_model.specs.declared.error.Error.{Error}
 use Rattle.kube_model.specs.declared.error.Error.TheVariants.{InitialListFailed, WatchStartFailed, WatchError, WatchFailed, NoResourceVersion}
-use Rattle.kube_model.specs.Reason.{Reason, Unknown, ObjectUpdated, RelatedObjectUpdated, ReconcilerRequestedRetry, ErrorPolicyRequestedRetry, BulkReconcile, Custom}
-use Rattle.kube_model.specs.World.{World, Feed, Watched, Streamed, Queued, feed_of, window_of, is_queue}
+use Rattle.kube_model.specs.Reason.{Reason, ObjectUpdated, RelatedObjectUpdated}
+use Rattle.kube_model.specs.World.{World, Feed, Watched, Streamed, Queued, feed_of, window_of}
 use Rattle.kube_model.specs.History.{Message, Exchange, Dated, dated_of, exchanges_of}
 use Rattle.kube_model.specs.Cuts.{after_last}
 use Rattle.kube_model.specs.Owed.{Marked, mark, owed, is_next, is_not_ready}
@@ -63,11 +62,11 @@ TextsFit _ = Unit {0}
 abbrev pub silent_since : {O : Type 0} → List (Dated O) → Option ℕ
 silent_since ds = option_map (λ d. d.at) (find (λ d. is_next d.exchange.call) (after_last (λ d. not (is_not_ready d.exchange.answer)) ds))
 
--- whether a `Next` at this moment finds the window over that began at that moment, or begins now
-abbrev pub is_over : Option ℕ → Option ℕ → ℕ → Bool
-is_over None began at = false
-is_over (Some window) None at = window == 0
-is_over (Some window) (Some began) at = nat_le (began + window) at
+-- whether a `Next` at this moment finds the window over; it began at the first `Next` of the silence, or begins with this one
+abbrev pub is_window_over : Option ℕ → Option ℕ → ℕ → Bool
+is_window_over None began at = false
+is_window_over (Some window) None at = window == 0
+is_window_over (Some window) (Some began) at = nat_le (began + window) at
 
 -- a `Next` that waits is recorded as idle exactly where the window is over
 abbrev pub idle_fits : Bool → Answer → Bool
@@ -105,7 +104,7 @@ ErrorFits m = (m.exchange.answer ≡ Item) ⊎ (m.exchange.error ≡ error_of m)
 
 -- Items and requests.
 
--- whether its items must become references: those of a page that has a token or a version, of an Added or Modified of an initial watch, of a versioned item of a later watch, and of a stream's item
+-- whether its items must become references: those of a page that has a token or a version, of an Added or Modified of an initial watch, of a versioned item of a later watch, and of a stream's item that is no error
 abbrev pub has_references : {O : Type 0} → Marked O → Bool
 has_references m =
     elim (m.exchange.answer) [
@@ -113,7 +112,7 @@ has_references m =
       | Added version ↦ m.initial || is_some version
       | Modified version ↦ m.initial || is_some version
       | Deleted version ↦ not m.initial && is_some version
-      | Item ↦ true
+      | Item ↦ not (is_some m.exchange.error)
       | _ ↦ false
     ]
 
@@ -172,17 +171,19 @@ module _ {O B : Type 0} (w : World O B) where
   RootRequestsFit Streamed before x = x.requests ≡ map updated x.items
   RootRequestsFit Queued before x = QueuedRequestsFit (is_some x.error) x.answer x.requests
 
+  -- the objects and requests of an exchange of the root, or of a related source, which keeps no objects
+  abbrev pub ContentFits : Bool → List (Dated O) → Exchange O → Type 0
+  ContentFits true before x = ItemsFit (feed_of w 0) (is_some x.error) x.answer x.items × RootRequestsFit (feed_of w 0) (exchanges_of 0 before) x
+  ContentFits false before x = (x.items ≡ []) × RelatedRequestsFit (has_references (mark (exchanges_of x.source before) x)) x.requests
+
   -- the exchange is one that its source may have after these, at this moment
   pub record IsFitting (before : List (Dated O)) (at : ℕ) (x : Exchange O) : Type 0 where
     pub owes : x.call ≡ owed (feed_of w x.source) (exchanges_of x.source before)
     pub answered : IsTrue (answers x.call x.answer)
     pub texts : TextsFit x.answer
-    pub idle : IsTrue (is_next x.call) → IsTrue (idle_fits (is_over (window_of (feed_of w x.source)) (silent_since (dated_of x.source before)) at) x.answer)
-    pub failed : ErrorFits (mark (exchanges_of x.source before) x)
-    pub root_items : x.source ≡ 0 → ItemsFit (feed_of w 0) (is_some x.error) x.answer x.items
-    pub root_requests : x.source ≡ 0 → RootRequestsFit (feed_of w 0) (exchanges_of 0 before) x
-    pub related_items : IsFalse (x.source == 0) → x.items ≡ []
-    pub related_requests : IsFalse (x.source == 0) → RelatedRequestsFit (has_references (mark (exchanges_of x.source before) x)) x.requests
+    pub idle : IsTrue (is_next x.call) → IsTrue (idle_fits (is_window_over (window_of (feed_of w x.source)) (silent_since (dated_of x.source before)) at) x.answer)
+    pub error : ErrorFits (mark (exchanges_of x.source before) x)
+    pub content : ContentFits (x.source == 0) before x
 
   -- each recorded item that must become a reference has a name
   abbrev pub AreNamed : List (Dated O) → Exchange O → Type 0

@@ -1,5 +1,5 @@
 -- The turns of a controller and their records, as plain data. O is the type of objects.
-use Rattle.std.specs.Prelude.{ℕ, Bool, List, [], ◌∷◌, ◌++◌, map, ◌==◌, Option}
+use Rattle.std.specs.Prelude.{ℕ, Bool, List, ◌++◌, map, ◌==◌, Option}
 use Rattle.std.specs.List.{filter, flat_map}
 use Rattle.kube_meta.specs.Reference.{Reference, same_reference}
 use Rattle.kube_model.specs.declared.call.Call.{Call}
@@ -26,7 +26,7 @@ pub record Exchange (O : Type 0) : Type 0 where
   pub answer : Answer
   pub items : List O
   pub requests : List Message
-  pub error : Option Error  -- the watcher's
+  pub error : Option Error  -- the watcher's, or the one that a stream gave
 
 -- an exchange with its moment
 pub record Dated (O : Type 0) : Type 0 where

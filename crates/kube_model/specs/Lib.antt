@@ -20,3 +20,6 @@ pub mod Settled
 pub mod Plays
 pub mod Rows
 pub mod Refused
+pub mod SecondForms
+pub mod WaitingOnce
+pub mod Streams

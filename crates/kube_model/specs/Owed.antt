@@ -94,7 +94,7 @@ owed_after_fault settings seen (Watch version initial) = owed_after_watch settin
 owed_after_fault settings seen Next = Next
 owed_after_fault settings seen Stream = Stream
 
--- what a watcher owes after an answer other than not ready; initial says whether a `Next` there belongs to an initial watch
+-- what a watcher owes after an answer other than not ready; initial says whether a `Next` there belongs to an initial watch. The last three lines are never reached: they are no such answers of a watcher
 abbrev pub owed_after : {O : Type 0} → Settings → Bool → List ℕ → Exchange O → Call
 owed_after settings initial seen x =
     elim (x.answer) [

@@ -1,5 +1,5 @@
 -- The pause that errors make (crate: `StreamBackoff`): a fold of the backoff over all exchanges.
-use Rattle.std.specs.Prelude.{ℕ, Bool, true, false, nat_lt, List, [], ◌∷◌, Option, Some, None, if◌then◌else◌, is_some, is_none, length}
+use Rattle.std.specs.Prelude.{ℕ, Bool, true, false, nat_lt, List, Option, Some, None, if◌then◌else◌, is_some, length}
 use Rattle.std.specs.List.{fold}
 use Rattle.kube_model.specs.World.{World, Feed, Watched, Streamed, Queued, feed_of}
 use Rattle.kube_model.specs.History.{Exchange, Dated}

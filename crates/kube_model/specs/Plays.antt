@@ -1,14 +1,11 @@
 -- Worked turns: the records that a controller makes where its sources give these answers, computed by the definitions alone.
-use Rattle.std.specs.Prelude.{ℕ, ◌==◌, Bool, true, false, List, [], ◌∷◌, ◌++◌, map, Option, Some, None, if◌then◌else◌, is_some, is_none, codes, unwrap_or}
-use Rattle.std.specs.List.{filter_map, flat_map}
+use Rattle.std.specs.Prelude.{ℕ, ◌==◌, true, false, List, [], ◌∷◌, ◌++◌, map, Option, Some, None, if◌then◌else◌, codes, unwrap_or}
 use Rattle.std.specs.Option.{option_map}
 use Rattle.kube_meta.specs.Reference.{ObjectType, Reference}
-use Rattle.kube_model.specs.declared.call.Call.{Call}
 use Rattle.kube_model.specs.declared.call.Answer.{Answer}
-use Rattle.kube_model.specs.declared.call.Answer.TheVariants.{Page, Opened, NotReady}
 use Rattle.kube_model.specs.declared.turn.Shutdown.TheVariants.{No}
-use Rattle.kube_model.specs.World.{World, Settings, Feed, Watched, default_settings, feed_of}
-use Rattle.kube_model.specs.History.{Message, Exchange, Finish, Finished, Outcome, Succeeded, Failed, Turn, TurnRecord, Taken, Step, exchanges_with, exchanges_of}
+use Rattle.kube_model.specs.World.{World, Feed, Watched, default_settings, feed_of}
+use Rattle.kube_model.specs.History.{Message, Exchange, Finish, Finished, Succeeded, Failed, Turn, TurnRecord, Step, exchanges_with, exchanges_of}
 use Rattle.kube_model.specs.Owed.{mark, owed}
 use Rattle.kube_model.specs.Fits.{error_of, requests_of_watch}
 use Rattle.kube_model.specs.Turns.{next_source, record_with}

@@ -1,6 +1,6 @@
 -- What the requests for one message have made of it, and which messages wait. M is the type of messages. (Crate: `scheduler`, told without its heap.)
-use Rattle.std.specs.Prelude.{ℕ, ◌+◌, ◌-◌, ◌^◌, min, Bool, true, false, not, ◌&&◌, ◌||◌, ◌==◌, nat_le, nat_lt, List, [], ◌∷◌, ◌++◌, Option, Some, None, if◌then◌else◌, is_some}
-use Rattle.std.specs.List.{fold, filter_map, count_by}
+use Rattle.std.specs.Prelude.{ℕ, ◌+◌, ◌-◌, ◌^◌, min, Bool, true, false, not, ◌&&◌, ◌||◌, ◌==◌, nat_le, nat_lt, List, [], ◌∷◌, Option, Some, None, if◌then◌else◌, is_some}
+use Rattle.std.specs.List.{fold, filter_map}
 
 -- a request for a message: the moment from which it counts, the moment at which it came, and its place among all requests
 pub record Request (M : Type 0) : Type 0 where
@@ -42,7 +42,7 @@ abbrev pub entry_of : {M : Type 0} → ℕ → Request M → Entry M
 entry_of debounce q =
     record { message = q.message; time = min (plus q.run_at debounce) (plus q.now longest_wait); number = q.number; settle = None }
 
--- a request makes an entry, or sets it anew where the entry isn't frozen and its time is not earlier than the request's
+-- a request makes an entry, or sets it anew where the entry isn't frozen and its time is not earlier than the request's `run_at`, which is without the debounce
 abbrev pub entry_requested : {M : Type 0} → ℕ → Request M → Option (Entry M) → Option (Entry M)
 entry_requested debounce q None = Some (entry_of debounce q)
 entry_requested debounce q (Some e) =
@@ -74,10 +74,14 @@ abbrev pub sorted_by : {A : Type 0} → (A → A → Bool) → List A → List A
 sorted_by before [] = []
 sorted_by before (x ∷ xs) = insert_by before x (sorted_by before xs)
 
+-- the entry as it is frozen by a settle, if it is and the request of this number set it
+abbrev pub frozen_entry : {M : Type 0} → ℕ → Entry M → Option ℕ → Option (Frozen M)
+frozen_entry number e None = None
+frozen_entry number e (Some settle) = if e.number == number then Some (record { settle = settle; entry = e }) else None
+
 abbrev pub frozen_by : {M : Type 0} → ℕ → Option (Entry M) → Option (Frozen M)
 frozen_by number None = None
-frozen_by number (Some e) =
-    elim (e.settle) [ None ↦ None | Some settle ↦ if e.number == number then Some (record { settle = settle; entry = e }) else None ]
+frozen_by number (Some e) = frozen_entry number e e.settle
 
 -- same says whether two messages are the same
 module _ {M : Type 0} (same : M → M → Bool) (debounce : ℕ) where

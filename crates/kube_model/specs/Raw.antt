@@ -50,7 +50,7 @@ abbrev pub IsNotOpened : {V : Type 0} → RawAnswer V → Type 0
 IsNotOpened Opens = ⊥
 IsNotOpened _ = Unit {0}
 
--- what is told has no watch that was opened
+-- it is told, and has no watch that was opened
 abbrev pub IsNeverOpened : {V : Type 0} → Option (List (Raw V)) → Type 0
 IsNeverOpened None = ⊥
 IsNeverOpened (Some raws) = AllByRecursion (λ r. IsNotOpened r.answer) raws

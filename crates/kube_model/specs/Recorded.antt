@@ -1,5 +1,5 @@
 -- How an exchange is recorded from the call that was made and the answer as it came (raw form). What came is kept in part, so one recorded exchange has many raw forms.
-use Rattle.std.specs.Prelude.{◌≡◌, ◌⊎◌, ℕ, Bool, true, false, List, [], ◌∷◌, ◌++◌, Option, Some, None, if◌then◌else◌, codes}
+use Rattle.std.specs.Prelude.{◌≡◌, ℕ, Bool, List, [], ◌∷◌, ◌++◌, Option, Some, None, if◌then◌else◌, IsTrue, codes}
 use Rattle.std.specs.List.{flat_map, list_any, AllByRecursion, AllZip}
 use Rattle.std.specs.Str.{bytes_eq}
 use Rattle.kube_model.specs.declared.call.Call.{Call}
@@ -49,13 +49,13 @@ items_of (GivesModified o) = o ∷ []
 items_of (GivesDeleted o) = o ∷ []
 items_of _ = []
 
--- the exchange of a watched root is recorded from this one: its items are those that came
+-- the exchange of a watched root is recorded from this raw form: its items are those that came
 pub record IsRecorded {V : Type 0} (version : V → Option (List ℕ)) (settings : Settings) (raw : Raw V) (x : Exchange V) : Type 0 where
   pub call : raw_call settings x.call ≡ Some raw.call
   pub answer : IsAnsweredBy version raw x.answer
   pub items : x.items ≡ items_of raw.answer
 
--- the exchange of a watched related source after those before it is recorded from this one: its items are mapped to requests, one list for each, in order; is_mapped says what the mapper answered of an object
+-- the exchange of a watched related source after those before it is recorded from this raw form: its items are mapped to requests, one list for each, in order; is_mapped says what the mapper answered of an object
 pub record IsRecordedMapped {O V : Type 0} (version : V → Option (List ℕ)) (is_mapped : V → List Message → Type 0) (settings : Settings) (before : List (Exchange O)) (raw : Raw V) (x : Exchange O) : Type 0 where
   pub call : raw_call settings x.call ≡ Some raw.call
   pub answer : IsAnsweredBy version raw x.answer
@@ -66,4 +66,15 @@ pub record IsRecordedMapped {O V : Type 0} (version : V → Option (List ℕ)) (
 
 -- the objects of a related source that must become references have names
 abbrev pub AreNamedRaw : {O V : Type 0} → (V → Bool) → List (Exchange O) → Raw V → Exchange O → Type 0
-AreNamedRaw is_named before raw x = has_references (mark before x) ≡ true → AllByRecursion (λ o. is_named o ≡ true) (items_of raw.answer)
+AreNamedRaw is_named before raw x = IsTrue (has_references (mark before x)) → AllByRecursion (λ o. IsTrue (is_named o)) (items_of raw.answer)
+
+-- the raw forms of a watched root's exchanges: one for each, in order
+abbrev pub AreRecorded : {V : Type 0} → (V → Option (List ℕ)) → Settings → List (Raw V) → List (Exchange V) → Type 0
+AreRecorded version settings raws xs = AllZip (IsRecorded version settings) raws xs
+
+-- those of a watched related source's exchanges after those before
+abbrev pub AreRecordedMapped : {O V : Type 0} → (V → Option (List ℕ)) → (V → List Message → Type 0) → Settings → List (Exchange O) → List (Raw V) → List (Exchange O) → Type 0
+AreRecordedMapped version is_mapped settings before [] xs = xs ≡ []
+AreRecordedMapped version is_mapped settings before (raw ∷ raws) [] = ⊥
+AreRecordedMapped version is_mapped settings before (raw ∷ raws) (x ∷ xs) =
+    IsRecordedMapped version is_mapped settings before raw x × AreRecordedMapped version is_mapped settings (before ++ x ∷ []) raws xs

@@ -1,17 +1,15 @@
 -- Exchanges and finishes that no record has, each after a page of a and a watch that was opened.
-use Rattle.std.specs.Prelude.{◌≡◌, ℕ, Bool, true, false, List, [], ◌∷◌, ◌++◌, map, Option, Some, None, codes}
+use Rattle.std.specs.Prelude.{ℕ, false, List, [], ◌∷◌, ◌++◌, map, Option, Some, None, codes}
 use Rattle.kube_model.specs.declared.call.Call.{Call}
 use Rattle.kube_model.specs.declared.call.Call.TheVariants.{List as ListCall, Watch, Next}
 use Rattle.kube_model.specs.declared.call.Answer.{Answer}
-use Rattle.kube_model.specs.declared.call.Answer.TheVariants.{Page, Opened, Modified, NotReady, Idle}
-use Rattle.kube_model.specs.declared.error.Error.{Error}
+use Rattle.kube_model.specs.declared.call.Answer.TheVariants.{Page, Opened, Modified, NotReady}
 use Rattle.kube_model.specs.Reason.{ObjectUpdated}
 use Rattle.kube_model.specs.World.{World}
-use Rattle.kube_model.specs.History.{Message, Exchange, Dated, dated, Finish, Finished, Succeeded}
-use Rattle.kube_model.specs.Fits.{IsFitting, AreNamed}
-use Rattle.kube_model.specs.Traces.{IsFinishOf}
-use Rattle.kube_model.specs.Plays.{Thing, thing, reference_to, plain_world, world_with, exchange_by, turn_at}
-use Rattle.kube_model.specs.Rows.{a, page_of_a, opened, related_world, by_pod, a_in_ns}
+use Rattle.kube_model.specs.History.{Message, Exchange, Dated, dated}
+use Rattle.kube_model.specs.Fits.{IsFitting}
+use Rattle.kube_model.specs.Plays.{Thing, thing, reference_to, plain_world}
+use Rattle.kube_model.specs.Rows.{a}
 
 -- an exchange of a source without requests and without an error
 abbrev pub exchange : ℕ → Call → Answer → List Thing → Exchange Thing

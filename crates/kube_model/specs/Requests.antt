@@ -1,15 +1,16 @@
 -- All requests of a turn, and what happens to the queue over a history.
-use Rattle.std.specs.Prelude.{ℕ, ◌+◌, Bool, true, false, not, ◌||◌, List, [], ◌∷◌, ◌++◌, map, length, Option, Some, None, if◌then◌else◌, slice_get, unwrap_or}
+use Rattle.std.specs.Prelude.{ℕ, ◌+◌, Bool, true, false, not, ◌&&◌, ◌||◌, List, [], ◌∷◌, ◌++◌, map, length, Option, Some, None, if◌then◌else◌, slice_get, unwrap_or, take}
 use Rattle.std.specs.List.{flat_map, list_any, count_by}
-use Rattle.kube_meta.specs.Reference.{Reference, reference_before}
+use Rattle.kube_meta.specs.Reference.{reference_before}
+use Rattle.kube_model.specs.declared.error.RunnerError.{RunnerError}
 use Rattle.kube_model.specs.declared.turn.Shutdown.{Shutdown}
 use Rattle.kube_model.specs.declared.turn.Shutdown.TheVariants.{No, Graceful, Forced}
 use Rattle.kube_model.specs.Reason.{Reason, Unknown, ReconcilerRequestedRetry, ErrorPolicyRequestedRetry, BulkReconcile}
-use Rattle.kube_model.specs.World.{World, Reads, Feed, Watched, Streamed, Queued, feed_of}
-use Rattle.kube_model.specs.History.{Message, same_message, Exchange, Outcome, Succeeded, Failed, Turn, Finished, TurnRecord, Step, Taken, exchanges, exchanges_with, exchanges_of}
+use Rattle.kube_model.specs.World.{World, Reads, Waits, IsReady, Fails, Feed, Watched, Streamed, Queued, feed_of}
+use Rattle.kube_model.specs.History.{Message, same_message, Exchange, Outcome, Succeeded, Failed, Turn, Finished, Step, Taken, exchanges, exchanges_with, exchanges_of}
 use Rattle.kube_model.specs.Store.{is_ready, store_of}
 use Rattle.kube_model.specs.Pause.{gave_up}
-use Rattle.kube_model.specs.Queue.{Request, QueueEvent, Requested, Settled, Took, is_request, is_settle, plus, sorted_by, Entry, Frozen, entry, waiting}
+use Rattle.kube_model.specs.Queue.{QueueEvent, Requested, Settled, Took, is_request, is_settle, plus, sorted_by, Entry, Frozen, entry, waiting}
 
 abbrev pub asks_shutdown : Shutdown → Bool
 asks_shutdown No = false
@@ -67,15 +68,51 @@ abbrev pub took : {O : Type 0} → List (Taken O) → List (QueueEvent Message)
 took taken = map (λ t. Took t.message) taken
 
 abbrev pub no_reads : {O : Type 0} → Reads O
-no_reads = record { is_ready = false; reloaded = []; looked_up = λ n. []; shown = []; failure = None }
+no_reads = record { readiness = Waits; reloaded = []; looked_up = λ n. []; shown = [] }
+
+abbrev pub told_ready : {O : Type 0} → Reads O → Bool
+told_ready r = elim (r.readiness) [ Waits ↦ false | IsReady ↦ true | Fails error ↦ false ]
+
+abbrev pub failure_told : {O : Type 0} → Reads O → Option RunnerError
+failure_told r = elim (r.readiness) [ Waits ↦ None | IsReady ↦ None | Fails error ↦ Some error ]
+
+-- what a turn reads of the store
+pub record Seen (O : Type 0) : Type 0 where
+  pub is_ready : Bool
+  pub reloaded : List O
+  pub looked_up : ℕ → List O
+  pub shown : List O
+  pub failure : Option RunnerError
 
 module _ {O B : Type 0} (w : World O B) where
   -- the root's store after these exchanges
   abbrev pub store_after : List (Step O) → List O
   store_after h = store_of w.key (exchanges_of 0 (exchanges h))
 
+  -- whether shutdown was asked or given up by now
+  abbrev pub is_over : List (Step O) → Turn → List (Exchange O) → Bool
+  is_over h t xs = is_shut h || asks_shutdown t.shutdown || gave_up w (exchanges_with h t xs)
+
+  -- what the reader answered in the turn after these
+  abbrev pub read_after : List (Step O) → Reads O
+  read_after h = unwrap_or (slice_get w.reads (length h)) no_reads
+
+  -- whether the reader told in a turn of these that the store is ready
+  abbrev pub was_ready : List (Step O) → Bool
+  was_ready h = list_any told_ready (take (length h) w.reads)
+
+  -- a reader is polled in each turn until it has told that the store is ready, and not after shutdown was asked or given up
+  abbrev pub seen_by_reader : Bool → Bool → Reads O → Seen O
+  seen_by_reader over ready r = record {
+    is_ready = ready || not over && told_ready r;
+    reloaded = r.reloaded;
+    looked_up = r.looked_up;
+    shown = r.shown;
+    failure = if over || ready then None else failure_told r;
+  }
+
   -- a watched root's store is that of its exchanges, wherever it is read; a stream's or a queue's is what the reader answered
-  abbrev pub reads_by : Feed → List (Step O) → Turn → List (Exchange O) → Reads O
+  abbrev pub reads_by : Feed → List (Step O) → Turn → List (Exchange O) → Seen O
   reads_by (Watched settings) h t xs = record {
     is_ready = is_ready (exchanges_of 0 (exchanges_with h t xs));
     reloaded = store_after h;
@@ -83,11 +120,11 @@ module _ {O B : Type 0} (w : World O B) where
     shown = store_of w.key (exchanges_of 0 (exchanges_with h t xs));
     failure = None;
   }
-  reads_by Streamed h t xs = unwrap_or (slice_get w.reads (length h)) no_reads
-  reads_by Queued h t xs = unwrap_or (slice_get w.reads (length h)) no_reads
+  reads_by Streamed h t xs = seen_by_reader (is_over h t xs) (was_ready h) (read_after h)
+  reads_by Queued h t xs = seen_by_reader (is_over h t xs) (was_ready h) (read_after h)
 
   -- what is read of the store in a turn after a history
-  abbrev pub reads_of : List (Step O) → Turn → List (Exchange O) → Reads O
+  abbrev pub reads_of : List (Step O) → Turn → List (Exchange O) → Seen O
   reads_of h t xs = reads_by (feed_of w 0) h t xs
 
   -- a reload requests the stored keys, by namespace with none first, then by name

@@ -1,16 +1,15 @@
 -- Worked rows: what comes in each turn.
-use Rattle.std.specs.Prelude.{ℕ, ◌+◌, ◌*◌, ◌-◌, ◌^◌, Bool, true, false, List, [], ◌∷◌, ◌++◌, map, Option, Some, None, codes}
-use Rattle.kube_meta.specs.Reference.{Reference, ObjectType}
+use Rattle.std.specs.Prelude.{ℕ, ◌+◌, ◌*◌, ◌-◌, ◌^◌, true, List, [], ◌∷◌, map, Option, Some, None, codes}
+use Rattle.kube_meta.specs.Reference.{Reference}
 use Rattle.kube_model.specs.declared.call.Call.{Call}
-use Rattle.kube_model.specs.declared.call.Answer.{Answer}
 use Rattle.kube_model.specs.declared.call.Answer.TheVariants.{Page, Opened, Added, Modified, Deleted, Bookmark, ErrorItem, End, NotReady, Idle}
 use Rattle.kube_model.specs.declared.error.Status.{Status}
 use Rattle.kube_model.specs.declared.turn.Shutdown.TheVariants.{Graceful}
 use Rattle.kube_model.specs.declared.turn.Stop.{Stop}
 use Rattle.kube_model.specs.Reason.{RelatedObjectUpdated}
-use Rattle.kube_model.specs.World.{World, Settings, Feed, Watched, default_settings}
-use Rattle.kube_model.specs.History.{Message, Finish, Succeeded, Turn, TurnRecord, Exchange}
-use Rattle.kube_model.specs.Plays.{Thing, Came, came, thing, reference_to, turn_at, world_with, plain_world, play}
+use Rattle.kube_model.specs.World.{World, Watched, default_settings}
+use Rattle.kube_model.specs.History.{Message, Succeeded, Turn, TurnRecord}
+use Rattle.kube_model.specs.Plays.{Thing, Came, came, thing, reference_to, turn_at, world_with}
 
 abbrev pub second : ℕ
 second = 1000000000
@@ -137,9 +136,11 @@ resumed =
 
 -- a list by a watch, whose ending bookmark has an empty version; then the watch ends
 abbrev pub streamed : List (Turn × List Came)
-streamed =
-    (turn_at 0 (6 ∷ []), opened ∷ came (Added (Some (codes "3"))) (thing a (codes "3") ∷ []) ∷ came (Deleted None) (record { name = codes "z"; version = None } ∷ [])
-    ∷ came (Bookmark [] true) [] ∷ came End [] ∷ opened ∷ []) ∷ []
+streamed = (
+  turn_at 0 (6 ∷ []),
+  opened ∷ came (Added (Some (codes "3"))) (thing a (codes "3") ∷ []) ∷ came (Deleted None) (record { name = codes "z"; version = None } ∷ [])
+      ∷ came (Bookmark [] true) [] ∷ came End [] ∷ opened ∷ [],
+) ∷ []
 
 abbrev pub streaming_world : World Thing (List (Option ℕ))
 streaming_world = world_with (Watched (record default_settings { streaming = true }) ∷ []) 0 0

@@ -1,11 +1,10 @@
--- Nothing stays unreconciled: every stored object was last handed over as it stands, or waits.
-use Rattle.std.specs.Prelude.{◌≡◌, ◌⊎◌, ℕ, Bool, true, false, List, [], ◌∷◌, ◌++◌, Option, Some, None, if◌then◌else◌, is_some}
+-- Nothing stays unreconciled: every object that a watched root stores was last handed over as it stands, or its key has an entry.
+use Rattle.std.specs.Prelude.{◌≡◌, ◌⊎◌, true, List, Option, Some, None, if◌then◌else◌, is_some}
 use Rattle.std.specs.List.{filter_map, flat_map, AllByRecursion}
-use Rattle.std.specs.Option.{option_map}
 use Rattle.kube_meta.specs.Reference.{Reference, same_reference}
 use Rattle.kube_model.specs.Reason.{Unknown}
 use Rattle.kube_model.specs.World.{World}
-use Rattle.kube_model.specs.History.{Message, Taken, Step}
+use Rattle.kube_model.specs.History.{Message, Step}
 use Rattle.kube_model.specs.Cuts.{last}
 use Rattle.kube_model.specs.Requests.{store_after, entry_in}
 

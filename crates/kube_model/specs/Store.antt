@@ -1,12 +1,12 @@
 -- Of one source's exchanges: its last complete list, what changed since, the store, and the list under way.
-use Rattle.std.specs.Prelude.{ℕ, Bool, true, false, not, ◌&&◌, List, [], ◌∷◌, map, Option, Some, None, if◌then◌else◌, is_some}
+use Rattle.std.specs.Prelude.{Bool, true, false, not, ◌&&◌, List, [], ◌∷◌, map, Option, Some, None, if◌then◌else◌, is_some}
 use Rattle.std.specs.List.{filter, flat_map, fold, find, list_any}
 use Rattle.std.specs.Option.{option_or}
 use Rattle.kube_meta.specs.Reference.{Reference, same_reference, without_namespace}
 use Rattle.kube_model.specs.declared.call.Call.{Call}
 use Rattle.kube_model.specs.declared.call.Call.TheVariants.{List as ListCall, Watch, Next, Stream}
 use Rattle.kube_model.specs.declared.call.Answer.{Answer}
-use Rattle.kube_model.specs.declared.call.Answer.TheVariants.{Page, Opened, Added, Modified, Deleted, Bookmark, ErrorItem, Fault, End, NotReady, Idle, Item, Spent}
+use Rattle.kube_model.specs.declared.call.Answer.TheVariants.{Page, Added, Modified, Deleted, Bookmark}
 use Rattle.kube_model.specs.History.{Exchange}
 use Rattle.kube_model.specs.Cuts.{last, up_to_last, after_last, from_last}
 use Rattle.kube_model.specs.Owed.{Marked, marks, is_initial, is_opened}

@@ -1,9 +1,9 @@
 -- Which references run, and which of the waiting messages a turn takes. (Crate: `Runner`, `applier`.)
-use Rattle.std.specs.Prelude.{ℕ, ◌+◌, ◌-◌, Bool, true, false, not, ◌||◌, ◌==◌, nat_lt, List, [], ◌∷◌, ◌++◌, length, Option, Some, None, if◌then◌else◌, is_some}
+use Rattle.std.specs.Prelude.{ℕ, ◌+◌, ◌-◌, Bool, not, ◌||◌, ◌==◌, nat_lt, List, [], ◌∷◌, ◌++◌, length, Option, if◌then◌else◌, is_some}
 use Rattle.std.specs.List.{filter, filter_map, flat_map, list_any}
 use Rattle.std.specs.Option.{option_map}
 use Rattle.kube_meta.specs.Reference.{Reference, same_reference}
-use Rattle.kube_model.specs.History.{Message, Taken, Finish, Turn, Step}
+use Rattle.kube_model.specs.History.{Message, Taken, Finish, Step}
 use Rattle.kube_model.specs.Queue.{Frozen}
 use Rattle.kube_model.specs.Store.{found}
 
@@ -40,7 +40,7 @@ abbrev pub has_room : ℕ → ℕ → ℕ → Bool
 has_room limit running n = (limit == 0) || nat_lt n (limit - running)
 
 module _ {O : Type 0} (key : O → Reference) where
-  -- of a candidate and those after it, which are taken, where n of the k candidates before are found
+  -- which of these candidates are taken, where k candidates stand before them, of which n are found
   abbrev pub taken_from : (ℕ → Bool) → (ℕ → List O) → ℕ → ℕ → List (Frozen Message) → List (Taken O)
   taken_from room look n k [] = []
   taken_from room look n k (e ∷ es) =

@@ -41,7 +41,7 @@ IsValid h t = refusal h t ≡ None
 
 -- Records.
 
--- an outcome's own action is the one taken; for a fault it is what the error policy answered
+-- an outcome's own action is the one taken; for a fault any: what the error policy answered is said by the run, over its own type of faults
 abbrev pub IsActionOf : Outcome → Option ℕ → Type 0
 IsActionOf (Succeeded own) action = action ≡ own
 IsActionOf Failed action = Unit {0}
@@ -62,6 +62,12 @@ abbrev pub steps : {O : Type 0} → List Turn → List (TurnRecord O) → List (
 steps [] rs = []
 steps (t ∷ ts) [] = []
 steps (t ∷ ts) (r ∷ rs) = step t r ∷ steps ts rs
+
+-- turns with these records after a history are valid where each one up to the first record that has ended is; so is the first that has no record yet, if none has ended
+abbrev pub AreValid : {O : Type 0} → List (Step O) → List Turn → List (TurnRecord O) → Type 0
+AreValid h [] rs = Unit {0}
+AreValid h (t ∷ ts) [] = has_ended h ≡ false → IsValid h t
+AreValid h (t ∷ ts) (r ∷ rs) = IsValid h t × AreValid (h ++ step t r ∷ []) ts rs
 
 module _ {O B : Type 0} (w : World O B) where
   -- the exchange is the next of a turn after those before it
@@ -87,6 +93,14 @@ module _ {O B : Type 0} (w : World O B) where
   EachIsNamed h t before [] = Unit {0}
   EachIsNamed h t before (x ∷ xs) = AreNamed w (exchanges_with h t before) x × EachIsNamed h t (before ++ x ∷ []) xs
 
+  -- a turn after a history is broken off at this exchange: it comes next after those before it, and is the first of which an item that must become a reference has no name
+  pub record IsUnnamedAt (h : List (Step O)) (t : Turn) (before : List (Exchange O)) (x : Exchange O) : Type 0 where
+    pub valid : IsValid h t
+    pub made : EachIsNext h t [] before
+    pub named : EachIsNamed h t [] before
+    pub next : IsNext h t before x
+    pub unnamed : AreNamed w (exchanges_with h t before) x → ⊥
+
   -- The trace.
 
   -- the records are the trace of turns after a history: each is its turn's after the history and the records before it, and the last is that of the last turn or the first that has ended
@@ -94,12 +108,6 @@ module _ {O B : Type 0} (w : World O B) where
   IsTrace h [] rs = rs ≡ []
   IsTrace h (t ∷ ts) [] = has_ended h ≡ true
   IsTrace h (t ∷ ts) (r ∷ rs) = (has_ended h ≡ false) × IsRecord h t r × IsTrace (h ++ step t r ∷ []) ts rs
-
-  -- turns are valid after a history where each up to the first record that has ended is; a turn after that isn't read
-  abbrev pub AreValid : List (Step O) → List Turn → List (TurnRecord O) → Type 0
-  AreValid h [] rs = Unit {0}
-  AreValid h (t ∷ ts) [] = Unit {0}
-  AreValid h (t ∷ ts) (r ∷ rs) = IsValid h t × AreValid (h ++ step t r ∷ []) ts rs
 
   -- the turn after those with these records is refused; the records are the trace of the turns before it
   abbrev pub IsRefusedAfter : List (Step O) → List Turn → List (TurnRecord O) → Refusal → Type 0

@@ -1,14 +1,14 @@
 -- The turn: who is asked next, why no more is asked, and the record that a turn's exchanges make.
-use Rattle.std.specs.Prelude.{ℕ, ◌+◌, ◌-◌, Bool, true, false, not, ◌&&◌, ◌||◌, ◌==◌, nat_lt, List, [], ◌∷◌, ◌++◌, length, map, Option, Some, None, if◌then◌else◌, is_some, slice_index}
+use Rattle.std.specs.Prelude.{ℕ, ◌+◌, ◌-◌, Bool, not, ◌&&◌, ◌||◌, ◌==◌, nat_lt, List, [], ◌++◌, length, map, Option, Some, None, if◌then◌else◌, is_some, slice_index}
 use Rattle.std.specs.List.{filter, filter_map, list_any, find, range_with_len}
 use Rattle.kube_model.specs.declared.turn.Stop.{Stop}
 use Rattle.kube_model.specs.declared.turn.Stop.TheVariants as stops
-use Rattle.kube_model.specs.World.{World, Reads, is_watched, feed_of}
-use Rattle.kube_model.specs.History.{Exchange, Dated, Turn, Finished, Taken, TurnRecord, Step, exchanges, exchanges_with, exchanges_of}
+use Rattle.kube_model.specs.World.{World, is_watched, feed_of}
+use Rattle.kube_model.specs.History.{Exchange, Dated, Turn, Finished, Taken, TurnRecord, Step, exchanges_with, exchanges_of}
 use Rattle.kube_model.specs.Cuts.{last}
 use Rattle.kube_model.specs.Owed.{is_not_ready, is_end}
-use Rattle.kube_model.specs.Pause.{gave_up, is_paused}
-use Rattle.kube_model.specs.Requests.{is_shut, asks_shutdown, is_forced, reads_of, waiting_in}
+use Rattle.kube_model.specs.Pause.{is_paused}
+use Rattle.kube_model.specs.Requests.{is_forced, is_over, reads_of, waiting_in}
 use Rattle.kube_model.specs.Takes.{Running, running, unfinished, started, taken_of}
 
 -- a source's exchanges in this turn
@@ -34,10 +34,6 @@ module _ {O B : Type 0} (w : World O B) where
   abbrev pub is_quiet : List (Step O) → Turn → List (Exchange O) → ℕ → Bool
   is_quiet h t xs source = told_not_ready source xs || has_run_dry (exchanges_with h t xs) source
 
-  -- whether shutdown was asked or given up by now
-  abbrev pub is_over : List (Step O) → Turn → List (Exchange O) → Bool
-  is_over h t xs = is_shut h || asks_shutdown t.shutdown || gave_up w (exchanges_with h t xs)
-
   abbrev pub may_be_asked : List (Step O) → Turn → List (Exchange O) → ℕ → Bool
   may_be_asked h t xs source = has_budget t xs source && not (is_quiet h t xs source)
 
@@ -53,14 +49,14 @@ module _ {O B : Type 0} (w : World O B) where
   -- the source that is asked next, after these exchanges of the turn
   abbrev pub next_source : List (Step O) → Turn → List (Exchange O) → Option ℕ
   next_source h t xs =
-      if is_over h t xs || is_paused w t.at (exchanges_with h t xs) then None
+      if is_over w h t xs || is_paused w t.at (exchanges_with h t xs) then None
       else find (may_be_asked h t xs) (in_turn (exchanges_with h t xs))
 
   -- why a source is asked no more
   abbrev pub stop_of : List (Step O) → Turn → List (Exchange O) → ℕ → Stop
   stop_of h t xs source =
       if is_quiet h t xs source then stops.NotReady
-      else if is_over h t xs then stops.Shutdown
+      else if is_over w h t xs then stops.Shutdown
       else if has_budget t xs source then stops.Paused
       else stops.Budget
 
@@ -74,7 +70,7 @@ module _ {O B : Type 0} (w : World O B) where
   -- what a turn takes: nothing where the store isn't ready, or shutdown was asked or given up
   abbrev pub taken_in : List (Step O) → Turn → List Finished → List (Exchange O) → List (Taken O)
   taken_in h t finished xs =
-      if (reads_of w h t xs).is_ready && not (is_over h t xs)
+      if (reads_of w h t xs).is_ready && not (is_over w h t xs)
       then taken_of w.key w.limit (reads_of w h t xs).looked_up (running_in h t) (waiting_in w h t finished xs)
       else []
 
@@ -85,7 +81,7 @@ module _ {O B : Type 0} (w : World O B) where
   -- a trace ends with a forced turn, with one by whose end shutdown was asked or given up and nothing runs, or where the runner failed
   abbrev pub is_last : List (Step O) → Turn → List (Exchange O) → List (Taken O) → Bool
   is_last h t xs taken =
-      is_forced t.shutdown || is_over h t xs && is_idle_after h t taken || is_some (reads_of w h t xs).failure
+      is_forced t.shutdown || is_over w h t xs && is_idle_after h t taken || is_some (reads_of w h t xs).failure
 
   -- the record that these finishes and exchanges make of a turn after a history
   abbrev pub record_with : List (Step O) → Turn → List Finished → List (Exchange O) → TurnRecord O

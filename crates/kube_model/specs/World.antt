@@ -2,7 +2,7 @@
 use Rattle.std.specs.Prelude.{ℕ, ◌+◌, ◌*◌, Bool, true, false, ◌==◌, if◌then◌else◌, List, [], ◌∷◌, Option, Some, None, unwrap_or, slice_get}
 use Rattle.kube_meta.specs.Reference.{Reference}
 use Rattle.kube_model.specs.declared.call.Call.{Call}
-use Rattle.kube_model.specs.declared.call.Call.TheVariants.{List as ListCall, Watch, Next, Stream}
+use Rattle.kube_model.specs.declared.call.Call.TheVariants.{List as ListCall, Watch}
 use Rattle.kube_model.specs.declared.error.RunnerError.{RunnerError}
 use Rattle.kube_model.specs.declared.params.ListParams.{ListParams}
 use Rattle.kube_model.specs.declared.params.WatchParams.{WatchParams}
@@ -40,8 +40,9 @@ is_queue Queued = true
 
 -- how long a watch may be silent, in nanoseconds: the timeout, or 290 seconds, and 5 seconds more; for a timeout of 0 for ever
 abbrev pub window_after : Option ℕ → Option ℕ
-window_after None = Some 295000000000
-window_after (Some timeout) = if timeout == 0 then None else Some ((timeout + 5) * 1000000000)
+window_after timeout =
+    let seconds = unwrap_or timeout 290 in
+    if seconds == 0 then None else Some ((seconds + 5) * 1000000000)
 
 abbrev pub window_of : Feed → Option ℕ
 window_of (Watched settings) = window_after settings.timeout
@@ -77,13 +78,18 @@ watch_params settings initial = record {
   send_initial_events = initial;
 }
 
+-- what a reader's `poll_ready` answered in a turn (crate: `Store::wait_until_ready`)
+pub data Readiness : Type 0 where
+  Waits : Readiness
+  IsReady : Readiness
+  Fails : (error : RunnerError) → Readiness
+
 -- what the reader of a root that is a stream or a queue answered in a turn
 pub record Reads (O : Type 0) : Type 0 where
-  pub is_ready : Bool  -- whether it answered in this turn or before that the store is ready
+  pub readiness : Readiness  -- polled after the asks; not read where the turn doesn't poll
   pub reloaded : List O  -- the objects that a reload requests
   pub looked_up : ℕ → List O  -- the objects that were there when the n-th candidate was looked up
   pub shown : List O
-  pub failure : Option RunnerError
 
 -- O is the type of objects, B that of a backoff's states
 pub record World (O B : Type 0) : Type 0 where
@@ -98,5 +104,6 @@ pub record World (O B : Type 0) : Type 0 where
   pub reset : B → B
   pub reads : List (Reads O)  -- turn by turn, where the root is a stream or a queue
 
+-- a source that isn't there, which is never asked, counts as a stream
 abbrev pub feed_of : {O B : Type 0} → World O B → ℕ → Feed
 feed_of w source = unwrap_or (slice_get w.feeds source) Streamed

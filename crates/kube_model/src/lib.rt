@@ -3,6 +3,7 @@
 
 pub mod call;
 pub mod error;
+pub mod laws;
 pub mod params;
 pub mod reason;
 pub mod refused;

@@ -20,8 +20,7 @@ pub fn idle_exactly_when_the_window_is_over()
     ensures too_late { IsFitting plain_world before_silence 295000000000 (next NotReady []) → ⊥ }
     ensures at_once { IsRefusedAt 0 (next Idle []) }
     ensures list { IsRefusedFirst plain_world (exchange 0 (ListCall None) Idle []) }
-{
-}
+{}
 
 /// The recorded objects are those that came: one of the item's version, and none where none comes.
 pub fn objects_are_those_that_came()
@@ -31,8 +30,7 @@ pub fn objects_are_those_that_came()
     ensures of_another_version { IsRefusedAt 0 (change (Some (codes "2")) (thing a (codes "9") ∷ [])) }
     ensures beside_not_ready { IsRefusedFirst plain_world (exchange 0 (ListCall None) NotReady (thing a (codes "1") ∷ [])) }
     ensures of_a_related_source { IsRefusedFirst related_world (exchange 1 (ListCall None) (Page None (Some (codes "1"))) (thing a (codes "1") ∷ [])) }
-{
-}
+{}
 
 /// Empty texts are recorded as none.
 pub fn empty_texts_are_none()
@@ -40,31 +38,27 @@ pub fn empty_texts_are_none()
     ensures version_of_a_page { IsRefusedFirst plain_world (exchange 0 (ListCall None) (Page None (Some [])) []) }
     ensures token_of_a_page { IsRefusedFirst plain_world (exchange 0 (ListCall None) (Page (Some []) (Some (codes "1"))) []) }
     ensures version_of_an_item { IsRefusedAt 0 (change (Some []) (thing a [] ∷ [])) }
-{
-}
+{}
 
 /// A related source requests only where its items become references, and for that reason.
 pub fn related_sources_request_for_their_items()
     ensures fits { IsFitting related_world [] 0 (requesting (by_pod a_in_ns ∷ []) (exchange 1 (ListCall None) (Page None (Some (codes "1"))) [])) }
     ensures while_waiting { IsRefusedFirst related_world (requesting (by_pod a_in_ns ∷ []) (exchange 1 (ListCall None) NotReady [])) }
     ensures for_another_reason { IsRefusedFirst related_world (requesting (record { reference = a_in_ns; reason = Unknown } ∷ []) (exchange 1 (ListCall None) (Page None (Some (codes "1"))) [])) }
-{
-}
+{}
 
 /// The root requests what came, in order and for that reason.
 pub fn root_requests_what_came()
     ensures nothing { IsRefusedAt 0 (next (Modified (Some (codes "2"))) (thing a (codes "2") ∷ [])) }
     ensures twice { IsRefusedAt 0 (requesting (for_a ∷ for_a ∷ []) (next (Modified (Some (codes "2"))) (thing a (codes "2") ∷ []))) }
     ensures for_another_reason { IsRefusedAt 0 (requesting (record { reference = reference_to a; reason = Unknown } ∷ []) (next (Modified (Some (codes "2"))) (thing a (codes "2") ∷ []))) }
-{
-}
+{}
 
 /// A reconcile that succeeded is given its own action.
 pub fn own_action_is_taken()
     ensures fits { IsFinishOf (record { reference = reference_to a; outcome = Succeeded None }) (record { finish = record { reference = reference_to a; outcome = Succeeded None }; action = None }) }
     ensures another { IsFinishOf (record { reference = reference_to a; outcome = Succeeded None }) (record { finish = record { reference = reference_to a; outcome = Succeeded None }; action = Some 5 }) → ⊥ }
-{
-}
+{}
 
 /// The call is the one that is owed.
 pub fn call_is_the_owed_one()
@@ -72,12 +66,10 @@ pub fn call_is_the_owed_one()
     ensures list_again { IsRefusedAt 0 (exchange 0 (ListCall None) NotReady []) }
     ensures watch_again { IsRefusedAt 0 (exchange 0 (Watch (codes "1") false) Opened []) }
     ensures watch_first { IsRefusedFirst plain_world (exchange 0 (Watch (codes "1") false) Opened []) }
-{
-}
+{}
 
 /// An object without a name can't be requested.
 pub fn unnamed_objects_are_not_named()
     ensures fits { AreNamed plain_world [] (exchange 0 (ListCall None) (Page None (Some (codes "1"))) (thing a (codes "1") ∷ [])) }
     ensures unnamed { AreNamed (record plain_world { is_named = λ o. false }) [] (exchange 0 (ListCall None) (Page None (Some (codes "1"))) (thing a (codes "1") ∷ [])) → ⊥ }
-{
-}
+{}

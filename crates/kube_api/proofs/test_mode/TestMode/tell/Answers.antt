@@ -1,6 +1,3 @@
-use Rattle.std.proofs.Common.{◌≡◌, subst, rules}
-use Rattle.std.specs.List.{AllByRecursion}
-use Rattle.kube_model.specs.Raw.{IsNotOpened}
 use Rattle.kube_api.proofs.TalkLemmas.{All-front}
 use Rattle.kube_api.proofs.test_mode.TestMode.tell.Goals as goal
 

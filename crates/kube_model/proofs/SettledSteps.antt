@@ -1,0 +1,207 @@
+-- Nothing stays unreconciled: one more turn, and a whole trace.
+use Rattle.std.proofs.Common.{◌≡◌, ℕ, Bool, true, false, not, ◌&&◌, ◌||◌, ◌==◌, List, [], ◌∷◌, ◌++◌, map, Some, None, if◌then◌else◌, is_some, refl, sym, ap, subst, ◌∙◌, ◌⊎◌, inl, inr, append_assoc, append-nil}
+use Rattle.std.specs.List.{filter_map, flat_map, list_any, last_or, AllByRecursion, count_by}
+use Rattle.std.proofs.lemmas.List.Elements.{filter_map-append}
+use Rattle.std.proofs.lemmas.List.Folds.{list_any-append}
+use Rattle.std.proofs.lemmas.Grind.{flat_map-append}
+use Rattle.std.proofs.Math.Bool.{or-true}
+use Rattle.std.specs.Cmp.{on_equiv}
+use Rattle.kube_meta.specs.ReferenceLaws.{same_reference_equiv}
+use Rattle.kube_model.specs.World.{World, Settings, Watched, feed_of}
+use Rattle.kube_model.specs.History.{Message, same_message, Exchange, Turn, TurnRecord, Step, Taken, dated, exchanges, exchanges_with, exchanges_of}
+use Rattle.kube_model.specs.Owed.{mark}
+use Rattle.kube_model.specs.Store.{completes, listed, store_of, changes_of}
+use Rattle.kube_model.specs.Fits.{ContentFits, RootRequestsFit, requests_of_watch, updated, put_of}
+use Rattle.kube_model.specs.Queue.{QueueEvent, is_request, is_settle}
+use Rattle.kube_model.specs.Requests.{is_over, Timed, requested_at, requests_of_exchanges, requests_of_turn, requested_and_settled, is_closed, is_shut, asks_shutdown, turn_events, events_of, took, store_after, reads_of, reads_by, entry_in, waiting_in, requests_of_finish, reload_requests, named_requests}
+use Rattle.kube_model.specs.Takes.{taken_of}
+use Rattle.kube_model.specs.Pause.{gave_up}
+use Rattle.kube_model.specs.Turns.{running_in, record_with}
+use Rattle.kube_model.specs.Traces.{step, steps, EachIsNext, IsRecord, IsTrace}
+use Rattle.kube_model.specs.Settled.{about, if_keyed, last_handed, IsSettledAt, IsSettled}
+use Rattle.kube_model.proofs.Alls.{all-both, all-map, all-left, all-right, all-of_map}
+use Rattle.kube_model.proofs.Stores.{IsFoundIn, each-found, distinct-store, requested, all-store}
+use Rattle.kube_model.proofs.Entries.{entry-append, entry_by, on_from, kept-requests, made-requests, kept-takes}
+use Rattle.kube_model.proofs.Waits.{entry-alike}
+use Rattle.kube_model.proofs.HandedOver.{IsLookUp, taken-looks, last_or-append, last-stays, last-taken}
+use Rattle.kube_model.proofs.Histories.{exchanges-push, exchanges_with-push, exchanges_of-own, exchanges_of-other, shut-before, shut-after, gave_up-before, events-push}
+
+or-three : (a b c : Bool) → a ≡ false → b ≡ false → c ≡ false → a || b || c ≡ false
+or-three a b c h k l = ap (λ x. x || b || c) h ∙ ap (λ x. x || c) k ∙ l
+
+-- each message that exchanges request is among their requests
+each-asked : (at : ℕ) (ms : List Message) → AllByRecursion (λ m. list_any (λ q. same_message q.message m) (map (requested_at at) ms) ≡ true) ms
+each-asked at [] = tt
+each-asked at (m ∷ ms) = (
+  ap (λ b. b || list_any (λ q. same_message q.message m) (map (requested_at at) ms)) (same_reference_equiv.refl m.reference),
+  all-map (λ n. list_any (λ q. same_message q.message n) (map (requested_at at) ms) ≡ true) (λ n. list_any (λ q. same_message q.message n) (map (requested_at at) (m ∷ ms)) ≡ true)
+      (λ n h. ap (λ b. same_message m n || b) h ∙ or-true (same_message m n)) ms (each-asked at ms),
+)
+
+any-last : {A : Type 0} (p : A → Bool) (xs ys : List A) → list_any p ys ≡ true → list_any p (xs ++ ys) ≡ true
+any-last p xs ys h = list_any-append p xs ys ∙ ap (λ b. list_any p xs || b) h ∙ or-true (list_any p xs)
+
+module _ {O B : Type 0} (w : World O B) (settings : Settings) (watched : feed_of w 0 ≡ Watched settings) where
+  -- what a watched root's exchange requests are the references of what it brings
+  requests-brought : (before : List (Exchange O)) (x : Exchange O) → requests_of_watch w before x ≡ map (updated w) (requested w.key before x)
+  requests-brought before x = go (completes (mark before x))
+    where
+      go : (b : Bool) → (if b then map (updated w) (listed (before ++ x ∷ [])) else map (updated w) (flat_map put_of (changes_of (mark before x))))
+          ≡ map (updated w) (if b then listed (before ++ x ∷ []) else flat_map put_of (changes_of (mark before x)))
+      go true = refl
+      go false = refl
+
+  module _ (h : List (Step O)) (t : Turn) where
+    -- P of what is stored, and Q of what is requested, goes through a turn's exchanges
+    walk : (P : O → Type 0) (Q : Message → Type 0) → ((o : O) → Q (updated w o) → P o) → (before xs : List (Exchange O)) → EachIsNext w h t before xs
+        → AllByRecursion P (store_of w.key (exchanges_of 0 (exchanges_with h t before))) → AllByRecursion Q (flat_map (λ x. x.requests) xs)
+        → AllByRecursion P (store_of w.key (exchanges_of 0 (exchanges_with h t (before ++ xs))))
+    walk P Q f before [] n p q = subst (λ ys. AllByRecursion P (store_of w.key (exchanges_of 0 (exchanges_with h t ys)))) (sym (append-nil before)) p
+    walk P Q f before (x ∷ xs) n p q =
+        subst (λ ys. AllByRecursion P (store_of w.key (exchanges_of 0 (exchanges_with h t ys)))) (append_assoc before (x ∷ []) xs)
+        (walk P Q f (before ++ x ∷ []) xs n.1
+        (subst (λ ds. AllByRecursion P (store_of w.key (exchanges_of 0 ds))) (sym (exchanges_with-push h t before x)) (go (x.source == 0) refl))
+        (all-right Q x.requests (flat_map (λ x. x.requests) xs) q))
+      where
+        fits : RootRequestsFit w (feed_of w 0) (exchanges_of 0 (exchanges_with h t before)) x → x.requests ≡ requests_of_watch w (exchanges_of 0 (exchanges_with h t before)) x
+        fits k = subst (λ feed. RootRequestsFit w feed (exchanges_of 0 (exchanges_with h t before)) x) watched k
+
+        go : (b : Bool) → (x.source == 0) ≡ b → AllByRecursion P (store_of w.key (exchanges_of 0 (exchanges_with h t before ++ record { at = t.at; exchange = x } ∷ [])))
+        go true e =
+            subst (λ ys. AllByRecursion P (store_of w.key ys)) (sym (exchanges_of-own 0 (exchanges_with h t before) (record { at = t.at; exchange = x }) e))
+            (all-store w.key P (exchanges_of 0 (exchanges_with h t before)) x p
+            (all-map (λ o. Q (updated w o)) P f (requested w.key (exchanges_of 0 (exchanges_with h t before)) x)
+            (all-of_map Q (updated w) (requested w.key (exchanges_of 0 (exchanges_with h t before)) x)
+            (subst (AllByRecursion Q) (fits (subst (λ b. ContentFits w b (exchanges_with h t before) x) e n.0.fits.content).1 ∙ requests-brought (exchanges_of 0 (exchanges_with h t before)) x)
+            (all-left Q x.requests (flat_map (λ x. x.requests) xs) q)))))
+        go false e = subst (λ ys. AllByRecursion P (store_of w.key ys)) (sym (exchanges_of-other 0 (exchanges_with h t before) (record { at = t.at; exchange = x }) e)) p
+
+  module _ (h : List (Step O)) (t : Turn) (r : TurnRecord O) (unshut : is_shut (h ++ step t r ∷ []) ≡ false) (going : gave_up w (exchanges (h ++ step t r ∷ [])) ≡ false) where
+    open-turn : is_closed w h t ≡ false
+    open-turn =
+        or-three (is_shut h) (asks_shutdown t.shutdown) (gave_up w (exchanges h)) (shut-before h (step t r ∷ []) unshut)
+        (asked (asks_shutdown t.shutdown) (shut-after h (step t r ∷ []) unshut))
+        (gave_up-before w (exchanges h) (dated t.at r.exchanges) (ap (gave_up w) (sym (exchanges-push h t r)) ∙ going))
+      where
+        asked : (b : Bool) → b || false ≡ false → b ≡ false
+        asked true e = e
+        asked false e = refl
+
+    -- the queue before the turn's takes, and the turn's requests
+    abbrev queue : List (QueueEvent Message)
+    queue = events_of w h ++ turn_events w h (events_of w h) t r.finished r.exchanges
+
+    abbrev turn_requests : List Timed
+    turn_requests = requests_of_turn w (reads_of w h t r.exchanges).reloaded t r.finished r.exchanges
+
+    queue-is : (m : Message) → entry_by w.debounce queue m ≡ on_from w.debounce m (entry_by w.debounce (events_of w h) m) (requested_and_settled (events_of w h) t.at turn_requests)
+    queue-is m =
+        ap (λ b. entry_by w.debounce (events_of w h ++ (if b then [] else requested_and_settled (events_of w h) t.at turn_requests)) m) open-turn
+        ∙ entry-append w.debounce (events_of w h) (requested_and_settled (events_of w h) t.at turn_requests) m
+
+    -- what had an entry has one, and so has what was requested
+    still : (m : Message) → is_some (entry_in w h m) ≡ true → is_some (entry_by w.debounce queue m) ≡ true
+    still m e =
+        ap is_some (queue-is m)
+        ∙ kept-requests w.debounce m (entry_by w.debounce (events_of w h) m) (count_by is_request (events_of w h)) t.at (count_by is_settle (events_of w h)) turn_requests e
+
+    asked-now : (m : Message) → list_any (λ q. same_message q.message m) turn_requests ≡ true → is_some (entry_by w.debounce queue m) ≡ true
+    asked-now m e =
+        ap is_some (queue-is m)
+        ∙ made-requests w.debounce m (entry_by w.debounce (events_of w h) m) (count_by is_request (events_of w h)) t.at (count_by is_settle (events_of w h)) turn_requests e
+
+    abbrev Waits : Message → Type 0
+    Waits m = is_some (entry_by w.debounce queue m) ≡ true
+
+    each-waits : AllByRecursion Waits (flat_map (λ x. x.requests) r.exchanges)
+    each-waits =
+        all-map (λ m. list_any (λ q. same_message q.message m) (requests_of_exchanges t.at r.exchanges) ≡ true) Waits
+        (λ m e. asked-now m (any-last (λ q. same_message q.message m)
+        (flat_map (requests_of_finish t.at) r.finished ++ reload_requests w (reads_of w h t r.exchanges).reloaded t ++ named_requests t)
+        (requests_of_exchanges t.at r.exchanges) e))
+        (flat_map (λ x. x.requests) r.exchanges) (each-asked t.at (flat_map (λ x. x.requests) r.exchanges))
+
+    -- it was last handed over as it stands, or waits before the takes
+    abbrev IsDue : O → Type 0
+    IsDue o = (last_handed w h (w.key o) ≡ Some o) ⊎ Waits (about (w.key o))
+
+    abbrev stored : List O
+    stored = store_of w.key (exchanges_of 0 (exchanges_with h t r.exchanges))
+
+    each-due : EachIsNext w h t [] r.exchanges → IsSettled w h → AllByRecursion IsDue stored
+    each-due n s =
+        walk h t IsDue Waits
+        (λ o k. inr (ap is_some (sym (entry-alike same_message (on_equiv (λ (m : Message). m.reference) same_reference_equiv) w.debounce queue (updated w o) (about (w.key o)) (same_reference_equiv.refl (w.key o)))) ∙ k))
+        [] r.exchanges n
+        (subst (λ ds. AllByRecursion IsDue (store_of w.key (exchanges_of 0 ds))) (sym (append-nil (exchanges h)))
+        (all-map (IsSettledAt w h) IsDue still-due (store_after w h) s)) each-waits
+      where
+        still-due : (o : O) → IsSettledAt w h o → IsDue o
+        still-due o (inl e) = inl e
+        still-due o (inr e) = inr (still (about (w.key o)) e)
+
+    if-looks : (b : Bool) (ts : List (Taken O)) → AllByRecursion (IsLookUp w stored) ts → AllByRecursion (IsLookUp w stored) (if b then ts else [])
+    if-looks true ts k = k
+    if-looks false ts k = tt
+
+    -- what is taken is looked up in the store as it is after the exchanges
+    each-looked-up : r ≡ record_with w h t r.finished r.exchanges → AllByRecursion (IsLookUp w stored) r.taken
+    each-looked-up e =
+        subst (AllByRecursion (IsLookUp w stored)) (sym (ap (λ (q : TurnRecord O). q.taken) e))
+        (subst (λ feed. AllByRecursion (IsLookUp w stored)
+        (if (reads_by w feed h t r.exchanges).is_ready && not (is_over w h t r.exchanges)
+        then taken_of w.key w.limit (reads_by w feed h t r.exchanges).looked_up (running_in w h t) (waiting_in w h t r.finished r.exchanges)
+        else []))
+        (sym watched)
+        (if-looks ((reads_by w (Watched settings) h t r.exchanges).is_ready && not (is_over w h t r.exchanges))
+        (taken_of w.key w.limit (λ n. stored) (running_in w h t) (waiting_in w h t r.finished r.exchanges))
+        (taken-looks w stored w.limit (running_in w h t) (waiting_in w h t r.finished r.exchanges))))
+
+    last-push : (o : O) → last_handed w (h ++ step t r ∷ []) (w.key o) ≡ last_or (last_handed w h (w.key o)) (filter_map (λ u. if_keyed w (w.key o) u.object) r.taken)
+    last-push o =
+        ap (λ us. last_or None (filter_map (λ u. if_keyed w (w.key o) u.object) us)) (flat_map-append (λ s. s.made.taken) h (step t r ∷ []) ∙ ap (λ us. flat_map (λ s. s.made.taken) h ++ us) (append-nil r.taken))
+        ∙ ap (last_or None) (filter_map-append (λ u. if_keyed w (w.key o) u.object) (flat_map (λ s. s.made.taken) h) r.taken)
+        ∙ last_or-append None (filter_map (λ u. if_keyed w (w.key o) u.object) (flat_map (λ s. s.made.taken) h)) (filter_map (λ u. if_keyed w (w.key o) u.object) r.taken)
+
+    entry-now : (m : Message) → entry_in w (h ++ step t r ∷ []) m ≡ on_from w.debounce m (entry_by w.debounce queue m) (took r.taken)
+    entry-now m = ap (λ es. entry_by w.debounce es m) (events-push w h (step t r)) ∙ entry-append w.debounce queue (took r.taken) m
+
+    settled-one : AllByRecursion (IsLookUp w stored) r.taken → AllByRecursion (IsFoundIn w.key stored) stored → (o : O) → IsDue o → IsFoundIn w.key stored o
+        → IsSettledAt w (h ++ step t r ∷ []) o
+    settled-one looks all o due found = go (list_any (λ u. same_message u.message (about (w.key o))) r.taken) refl due
+      where
+        go : (b : Bool) → list_any (λ u. same_message u.message (about (w.key o))) r.taken ≡ b → IsDue o → IsSettledAt w (h ++ step t r ∷ []) o
+        go true e due = inl (last-push o ∙ last-taken w stored all o found (last_handed w h (w.key o)) r.taken looks e)
+        go false e (inl k) =
+            inl (last-push o ∙ ap (λ z. last_or z (filter_map (λ u. if_keyed w (w.key o) u.object) r.taken)) k ∙ last-stays w stored all o found r.taken looks)
+        go false e (inr k) = inr (ap is_some (entry-now (about (w.key o)) ∙ kept-takes w.debounce (about (w.key o)) (entry_by w.debounce queue (about (w.key o))) r.taken e) ∙ k)
+
+    -- one more turn
+    pub settled-turn : IsRecord w h t r → IsSettled w h → IsSettled w (h ++ step t r ∷ [])
+    settled-turn k s =
+        subst (λ ds. AllByRecursion (IsSettledAt w (h ++ step t r ∷ [])) (store_of w.key (exchanges_of 0 ds))) (sym (exchanges-push h t r))
+        (all-both IsDue (IsFoundIn w.key stored) (IsSettledAt w (h ++ step t r ∷ []))
+        (settled-one (each-looked-up k.determined) (each-found w.key stored (distinct-store w.key (exchanges_of 0 (exchanges_with h t r.exchanges)))))
+        stored (each-due k.asked s) (each-found w.key stored (distinct-store w.key (exchanges_of 0 (exchanges_with h t r.exchanges)))))
+
+  exchanges-append : (g h : List (Step O)) → exchanges (g ++ h) ≡ exchanges g ++ exchanges h
+  exchanges-append g h = flat_map-append (λ s. dated s.turn.at s.made.exchanges) g h
+
+  settled-steps : (h : List (Step O)) (ts : List Turn) (rs : List (TurnRecord O)) → IsTrace w h ts rs → IsSettled w h
+      → is_shut (h ++ steps ts rs) ≡ false → gave_up w (exchanges (h ++ steps ts rs)) ≡ false → IsSettled w (h ++ steps ts rs)
+  settled-steps h [] rs k s u g = subst (IsSettled w) (sym (append-nil h)) s
+  settled-steps h (t ∷ ts) [] k s u g = subst (IsSettled w) (sym (append-nil h)) s
+  settled-steps h (t ∷ ts) (r ∷ rs) k s u g =
+      let assoc : h ++ step t r ∷ steps ts rs ≡ (h ++ step t r ∷ []) ++ steps ts rs = sym (append_assoc h (step t r ∷ []) (steps ts rs)) in
+      let unshut : is_shut ((h ++ step t r ∷ []) ++ steps ts rs) ≡ false = ap is_shut (sym assoc) ∙ u in
+      let going : gave_up w (exchanges ((h ++ step t r ∷ []) ++ steps ts rs)) ≡ false = ap (λ z. gave_up w (exchanges z)) (sym assoc) ∙ g in
+      subst (IsSettled w) (sym assoc)
+      (settled-steps (h ++ step t r ∷ []) ts rs k.2
+      (settled-turn h t r (shut-before (h ++ step t r ∷ []) (steps ts rs) unshut)
+      (gave_up-before w (exchanges (h ++ step t r ∷ [])) (exchanges (steps ts rs)) (ap (gave_up w) (sym (exchanges-append (h ++ step t r ∷ []) (steps ts rs))) ∙ going)) k.1 s)
+      unshut going)
+
+  -- in every trace until shutdown
+  pub settled-trace : (ts : List Turn) (rs : List (TurnRecord O)) → IsTrace w [] ts rs
+      → is_shut (steps ts rs) ≡ false → gave_up w (exchanges (steps ts rs)) ≡ false → IsSettled w (steps ts rs)
+  settled-trace ts rs k u g = settled-steps [] ts rs k tt u g
