@@ -1,0 +1,7 @@
+-- lemmas that the proofs cite
+mod AskSteps
+mod Put
+mod Finds
+mod LastOfEach
+mod ListedSteps
+mod TakeSteps

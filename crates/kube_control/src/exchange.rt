@@ -8,6 +8,7 @@ use std::sync::Arc;
 
 /// A call of one source with its answer.
 #[derive(Drop)]
+#[derive_where(Debug; K, K::DynamicType)]
 pub struct SourceExchange<K: Resource> {
     /// The source's number: the root is 0, related ones follow.
     pub source: u32,

@@ -9,6 +9,7 @@ use std::sync::Arc;
 
 /// A finish with the action that was taken for it.
 #[derive(Drop)]
+#[derive_where(Debug; K, E, K::DynamicType)]
 pub struct Finished<K: Resource, E: Drop> {
     pub reference: ObjectRef<K>,
     pub outcome: Result<Action, E>,
@@ -18,6 +19,7 @@ pub struct Finished<K: Resource, E: Drop> {
 
 /// What was taken of the messages that waited.
 #[derive(Drop)]
+#[derive_where(Debug; K, K::DynamicType)]
 pub enum Taken<K: Resource> {
     /// It was found and handed to the reconciler.
     Started {
@@ -36,6 +38,7 @@ pub enum Taken<K: Resource> {
 
 /// What a turn did.
 #[derive(Drop)]
+#[derive_where(Debug; K, E, K::DynamicType)]
 pub struct TurnRecord<K: Resource, E: Drop> {
     pub at: Moment,
     pub finished: List<Finished<K, E>>,
@@ -55,6 +58,7 @@ pub struct TurnRecord<K: Resource, E: Drop> {
 
 /// The records of a run's turns.
 #[derive(Drop)]
+#[derive_where(Debug; K, E, K::DynamicType)]
 pub struct Trace<K: Resource, E: Drop> {
     pub records: List<TurnRecord<K, E>>,
 }

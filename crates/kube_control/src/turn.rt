@@ -5,6 +5,7 @@ use kube_model::turn::Shutdown;
 
 /// A turn of a controller.
 #[derive(Drop)]
+#[derive_where(Debug; K, E, K::DynamicType)]
 pub struct Turn<K: Resource, E: Drop> {
     /// Its moment, at which all its steps are made. It is below 2^63 and never falls.
     pub at: Moment,
@@ -23,6 +24,7 @@ pub struct Turn<K: Resource, E: Drop> {
 
 /// A reconcile that ended.
 #[derive(Drop)]
+#[derive_where(Debug; K, E, K::DynamicType)]
 pub struct Finish<K: Resource, E: Drop> {
     pub reference: ObjectRef<K>,
     pub outcome: Result<Action, E>,
