@@ -19,6 +19,8 @@ use std::alloc::{AllocError, Global};
 use std::sync::Arc;
 use std::test::Fail;
 
+type Asks = List<SourceExchange<DynamicObject>>;
+
 /// A page, a watch that waits, and a turn.
 const SCRIPT: &str =
     r#"{"kind":{"group":"","version":"v1","kind":"ConfigMap","plural":"configmaps"},"root":{"lists":[{"items":[{"metadata":{"name":"a","resourceVersion":"1"}}],"metadata":{"resourceVersion":"1"}}],"watches":[[{"wait":1000000000}]]},"turns":[{"at":0,"budget":[3]}]}"#;
@@ -215,18 +217,61 @@ fn reference(alloc: Global) -> Result<ObjectRef<DynamicObject>, NoMemory> {
     ObjectRef::new_with(alloc, "a", Arc::new(alloc, kind)?)?.within(alloc, "n")
 }
 
+/// A text, or none for the empty one.
 fn some(alloc: Global, text: &str) -> Result<Option<Text>, NoMemory> {
+    if text.is_empty() {
+        return Ok(None);
+    }
     Ok(Some(Text::new(alloc, text)?))
 }
 
-/// Adds an exchange of the root that brings no objects and requests nothing.
+fn list(alloc: Global, token: &str) -> Result<Call, NoMemory> {
+    let token = some(alloc, token)?;
+    Ok(Call::List { token })
+}
+
+fn watch(alloc: Global, version: &str, initial: bool) -> Result<Call, NoMemory> {
+    let version = Text::new(alloc, version)?;
+    Ok(Call::Watch { version, initial })
+}
+
+fn page(alloc: Global, token: &str, version: &str) -> Result<Answer, NoMemory> {
+    let token = some(alloc, token)?;
+    let version = some(alloc, version)?;
+    Ok(Answer::Page { token, version })
+}
+
+/// What an API says of a call that came too late.
+fn gone(alloc: Global) -> Result<ApiStatus, NoMemory> {
+    let reason = Text::new(alloc, "Gone")?;
+    let message = Text::new(alloc, "gone")?;
+    Ok(ApiStatus {
+        code: 410,
+        reason,
+        message,
+        uid: None,
+    })
+}
+
+fn lost(alloc: Global) -> Result<ApiError, NoMemory> {
+    Ok(ApiError::Transport(Text::new(alloc, "lost")?))
+}
+
+fn unread(alloc: Global) -> Result<ApiError, NoMemory> {
+    Ok(ApiError::ReadEvents(Text::new(alloc, "read")?))
+}
+
+/// Adds an exchange of a source that brings no objects and requests nothing.
 fn ask(
+    asks: &mut Asks,
     alloc: Global,
-    asks: &mut List<SourceExchange<DynamicObject>>,
-    call: Call,
-    answer: Answer,
+    call: Result<Call, NoMemory>,
+    answer: Result<Answer, NoMemory>,
     error: Option<Error>,
 ) -> Result<(), NoMemory> {
+    let (Ok(call), Ok(answer)) = (call, answer) else {
+        return Err(NoMemory);
+    };
     asks.push(SourceExchange {
         source: 0,
         call,
@@ -237,21 +282,8 @@ fn ask(
     })
 }
 
-/// What an API says of a call that failed.
-fn api_status(alloc: Global, code: u16, message: &str) -> Result<ApiStatus, NoMemory> {
-    Ok(ApiStatus {
-        code,
-        reason: Text::new(alloc, "Gone")?,
-        message: Text::new(alloc, message)?,
-        uid: None,
-    })
-}
-
-/// Adds lists and watches with what they may be answered.
-fn add_calls(
-    alloc: Global,
-    asks: &mut List<SourceExchange<DynamicObject>>,
-) -> Result<(), NoMemory> {
+/// Adds a page with two objects, the second of which has no metadata, and a request.
+fn add_page(alloc: Global, asks: &mut Asks) -> Result<(), NoMemory> {
     let mut items = List::new(alloc);
     items.push(object(alloc)?)?;
     let metadata = ObjectMeta::empty();
@@ -264,94 +296,68 @@ fn add_calls(
     asks.push(SourceExchange {
         source: 0,
         call: Call::List { token: None },
-        answer: Answer::Page {
-            token: some(alloc, "t")?,
-            version: None,
-        },
+        answer: page(alloc, "t", "")?,
         items,
         requests,
         error: None,
-    })?;
-    let call = Call::List {
-        token: some(alloc, "t")?,
-    };
-    let version = some(alloc, "1")?;
-    ask(
-        alloc,
-        asks,
-        call,
-        Answer::Page {
-            token: None,
-            version,
-        },
-        None,
-    )?;
-    let fault = ApiError::Api(api_status(alloc, 410, "gone")?);
-    let error = Error::InitialListFailed(ApiError::Api(api_status(alloc, 410, "gone")?));
-    let call = Call::List { token: None };
-    ask(alloc, asks, call, Answer::Fault(fault), Some(error))?;
-    let version = Text::new(alloc, "0")?;
-    let call = Call::Watch {
-        version,
-        initial: true,
-    };
-    ask(alloc, asks, call, Answer::Opened, None)?;
-    let fault = ApiError::Transport(Text::new(alloc, "lost")?);
-    let error = Error::WatchStartFailed(ApiError::Transport(Text::new(alloc, "lost")?));
-    let version = Text::new(alloc, "1")?;
-    let call = Call::Watch {
-        version,
-        initial: false,
-    };
-    ask(alloc, asks, call, Answer::Fault(fault), Some(error))
+    })
+}
+
+/// Adds lists and watches with what they may be answered.
+fn add_calls(alloc: Global, asks: &mut Asks) -> Result<(), NoMemory> {
+    ask(asks, alloc, list(alloc, "t"), page(alloc, "", "1"), None)?;
+    let error = Error::InitialListFailed(ApiError::Api(gone(alloc)?));
+    let answer = gone(alloc).map(ApiError::Api).map(Answer::Fault);
+    ask(asks, alloc, list(alloc, ""), answer, Some(error))?;
+    let call = watch(alloc, "0", true);
+    ask(asks, alloc, call, Ok(Answer::Opened), None)?;
+    let error = Error::WatchStartFailed(lost(alloc)?);
+    let call = watch(alloc, "1", false);
+    let answer = lost(alloc).map(Answer::Fault);
+    ask(asks, alloc, call, answer, Some(error))
 }
 
 /// Adds what an open watch may give, with its version.
-fn add_events(
-    alloc: Global,
-    asks: &mut List<SourceExchange<DynamicObject>>,
-) -> Result<(), NoMemory> {
+fn add_events(alloc: Global, asks: &mut Asks) -> Result<(), NoMemory> {
     let version = some(alloc, "2")?;
-    ask(alloc, asks, Call::Next, Answer::Added { version }, None)?;
-    let answer = Answer::Modified { version: None };
-    ask(
-        alloc,
-        asks,
-        Call::Next,
-        answer,
-        Some(Error::NoResourceVersion),
-    )?;
+    let answer = Ok(Answer::Added { version });
+    ask(asks, alloc, Ok(Call::Next), answer, None)?;
+    let error = Error::NoResourceVersion;
+    let answer = Ok(Answer::Modified { version: None });
+    ask(asks, alloc, Ok(Call::Next), answer, Some(error))?;
     let version = some(alloc, "3")?;
-    ask(alloc, asks, Call::Next, Answer::Deleted { version }, None)?;
+    let answer = Ok(Answer::Deleted { version });
+    ask(asks, alloc, Ok(Call::Next), answer, None)?;
     let version = Text::new(alloc, "")?;
-    let answer = Answer::Bookmark {
-        version,
-        ending: true,
-    };
-    ask(alloc, asks, Call::Next, answer, None)?;
-    let answer = Answer::ErrorItem(api_status(alloc, 410, "gone")?);
-    let error = Error::WatchError(api_status(alloc, 410, "gone")?);
-    ask(alloc, asks, Call::Next, answer, Some(error))
+    let ending = true;
+    let answer = Ok(Answer::Bookmark { version, ending });
+    ask(asks, alloc, Ok(Call::Next), answer, None)
 }
 
-/// Adds answers that bring nothing.
-fn add_silences(
-    alloc: Global,
-    asks: &mut List<SourceExchange<DynamicObject>>,
-) -> Result<(), NoMemory> {
+/// Adds an error that a watch told of, and a call of another source that failed.
+fn add_errors(alloc: Global, asks: &mut Asks) -> Result<(), NoMemory> {
+    let error = Error::WatchError(gone(alloc)?);
+    let answer = gone(alloc).map(Answer::ErrorItem);
+    ask(asks, alloc, Ok(Call::Next), answer, Some(error))?;
+    let error = Error::WatchFailed(unread(alloc)?);
+    let answer = Answer::Fault(unread(alloc)?);
     asks.push(SourceExchange {
         source: 7,
         call: Call::Next,
-        answer: Answer::Fault(ApiError::ReadEvents(Text::new(alloc, "read")?)),
+        answer,
         items: List::new(alloc),
         requests: List::new(alloc),
-        error: Some(Error::WatchFailed(ApiError::ReadEvents(Text::new(alloc, "read")?))),
-    })?;
-    ask(alloc, asks, Call::Next, Answer::End, None)?;
-    ask(alloc, asks, Call::Next, Answer::NotReady, None)?;
-    ask(alloc, asks, Call::Next, Answer::Idle, None)?;
-    ask(alloc, asks, Call::Stream, Answer::Item, None)?;
-    ask(alloc, asks, Call::Stream, Answer::Spent, None)
+        error: Some(error),
+    })
+}
+
+/// Adds answers that bring nothing.
+fn add_silences(alloc: Global, asks: &mut Asks) -> Result<(), NoMemory> {
+    ask(asks, alloc, Ok(Call::Next), Ok(Answer::End), None)?;
+    ask(asks, alloc, Ok(Call::Next), Ok(Answer::NotReady), None)?;
+    ask(asks, alloc, Ok(Call::Next), Ok(Answer::Idle), None)?;
+    ask(asks, alloc, Ok(Call::Stream), Ok(Answer::Item), None)?;
+    ask(asks, alloc, Ok(Call::Stream), Ok(Answer::Spent), None)
 }
 
 /// One finish with an action of its own, and one with a fault.
@@ -394,26 +400,41 @@ fn takes(alloc: Global) -> Result<List<Taken<DynamicObject>>, NoMemory> {
     Ok(taken)
 }
 
-/// A record with calls, answers, errors, stops and takes of every kind.
-fn every_kind(alloc: Global) -> Result<ScriptRecord, NoMemory> {
-    let mut exchanges = List::new(alloc);
-    add_calls(alloc, &mut exchanges)?;
-    add_events(alloc, &mut exchanges)?;
-    add_silences(alloc, &mut exchanges)?;
+/// Calls, answers and errors of every kind.
+fn exchanges(alloc: Global) -> Result<Asks, NoMemory> {
+    let mut asks = List::new(alloc);
+    add_page(alloc, &mut asks)?;
+    add_calls(alloc, &mut asks)?;
+    add_events(alloc, &mut asks)?;
+    add_errors(alloc, &mut asks)?;
+    add_silences(alloc, &mut asks)?;
+    Ok(asks)
+}
+
+fn stops(alloc: Global) -> Result<List<Stop>, NoMemory> {
     let mut stops = List::new(alloc);
     stops.push(Stop::NotReady)?;
     stops.push(Stop::Shutdown)?;
     stops.push(Stop::Budget)?;
     stops.push(Stop::Paused)?;
+    Ok(stops)
+}
+
+fn store(alloc: Global) -> Result<List<Arc<DynamicObject>>, NoMemory> {
     let mut store = List::new(alloc);
     store.push(object(alloc)?)?;
+    Ok(store)
+}
+
+/// A record with calls, answers, errors, stops and takes of every kind.
+fn every_kind(alloc: Global) -> Result<ScriptRecord, NoMemory> {
     Ok(ScriptRecord {
         at: Moment(u64::MAX),
         finished: finishes(alloc)?,
-        exchanges,
-        stops,
+        exchanges: exchanges(alloc)?,
+        stops: stops(alloc)?,
         taken: takes(alloc)?,
-        store: Some(store),
+        store: Some(store(alloc)?),
         runner: None,
         ended: true,
     })
@@ -424,6 +445,52 @@ fn writes_every_kind(rt: HostRuntime) -> Result<(), Fail> {
     let alloc = rt.alloc();
     let written = record_line(alloc, 9, &every_kind(alloc)?)?;
     let wanted = line(alloc, EVERY_KIND)?;
+    assert_eq!(rt; written.as_slice(), wanted.as_slice());
+    Ok(())
+}
+
+/// The script of a page with the same object a thousand times, and of a turn that shows the store.
+fn thousandfold(alloc: Global) -> Result<String, AllocError> {
+    let mut script = String::from_str(
+        alloc,
+        r#"{"kind":{"group":"","version":"v1","kind":"ConfigMap","plural":"configmaps"},"root":{"lists":[{"items":["#,
+    )?;
+    for _ in 0..999 {
+        script.push_str(r#"{"metadata":{"name":"a","resourceVersion":"1"}},"#)?;
+    }
+    script.push_str(
+        r#"{"metadata":{"name":"a","resourceVersion":"1"}}],"metadata":{"resourceVersion":"1"}}],"watches":[[{"wait":1000000000000}]]},"turns":[{"at":0,"budget":[1],"show":true}]}"#,
+    )?;
+    Ok(script)
+}
+
+/// Its trace.
+fn thousandfold_trace(alloc: Global) -> Result<String, AllocError> {
+    let mut trace = String::from_str(
+        alloc,
+        r#"{"asks":[{"answer":"page","call":"list","from":null,"items":["#,
+    )?;
+    for _ in 0..999 {
+        trace.push_str(r#"{"metadata":{"name":"a","resourceVersion":"1"}},"#)?;
+    }
+    trace.push_str(r#"{"metadata":{"name":"a","resourceVersion":"1"}}],"requests":["#)?;
+    for _ in 0..999 {
+        trace.push_str(r#""ConfigMap.v1./a","#)?;
+    }
+    trace.push_str(
+        r#""ConfigMap.v1./a"],"source":0,"token":null,"version":"1"}],"at":0,"ended":false,"finished":[],"stops":["budget"],"store":[{"metadata":{"name":"a","resourceVersion":"1"}}],"taken":[{"found":true,"object":{"metadata":{"name":"a","resourceVersion":"1"}},"reason":"object updated","ref":"ConfigMap.v1./a"}],"turn":0}"#,
+    )?;
+    Ok(trace)
+}
+
+#[test]
+fn takes_one_object_once(rt: HostRuntime) -> Result<(), Fail> {
+    let alloc = rt.alloc();
+    let script = thousandfold(alloc)?;
+    let (status, written) = outcome(alloc, "run", script.as_bytes())?;
+    assert_eq!(rt; status, 0);
+    let wanted = thousandfold_trace(alloc)?;
+    let wanted = line(alloc, wanted.as_str())?;
     assert_eq!(rt; written.as_slice(), wanted.as_slice());
     Ok(())
 }
