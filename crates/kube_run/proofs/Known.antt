@@ -1,5 +1,5 @@
 -- Bytes that were taken or written one piece after another.
-use Rattle.std.proofs.Common.{◌≡◌, ℕ, ◌+◌, ◌-◌, ◌≤◌, ◌<◌, IfSome, subst, Result, Ok, Err, OnErr, append-nil, List, [], ◌∷◌, ◌++◌, Option, Some, None, refl, sym, append_assoc, arith, take, drop, length, length-drop, length-append, Bool, true, if◌then◌else◌}
+use Rattle.std.proofs.Common.{◌≡◌, ℕ, ◌+◌, ◌-◌, ◌≤◌, ◌<◌, IfSome, subst, Result, Ok, Err, OnErr, append-nil, List, [], ◌++◌, Option, Some, None, refl, sym, append_assoc, arith, take, drop, length, length-drop, length-append, Bool, true, if◌then◌else◌}
 use Rattle.std.proofs.lemmas.List.{take_all, take-append-le, length-take-le}
 use Rattle.std.proofs.Math.Seq.{take-add}
 use Rattle.std.specs.Io.KnownBytes.{Consumes, Appends, Keeps}

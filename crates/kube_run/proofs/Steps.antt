@@ -1,10 +1,9 @@
 -- The steps of a watch that only waits.
-use Rattle.std.proofs.Common.{◌≡◌, ℕ, List, [], ◌∷◌, map, refl, ap}
+use Rattle.std.proofs.Common.{◌≡◌, List, [], ◌∷◌, map, refl, ap}
 use Rattle.kube_meta.specs.declared.dynamic.DynamicObject.{DynamicObject}
-use Rattle.kube_api.specs.declared.sequence.SequenceStep.{SequenceStep}
 use Rattle.kube_api.specs.declared.sequence.SequenceStep.TheVariants as steps
 use Rattle.kube_api.specs.Sequences.{steps_of}
-use Rattle.kube_api.specs.TestScript.{Step, Pauses}
+use Rattle.kube_api.specs.TestScript.{Pauses}
 use Rattle.kube_run.specs.declared.script.Wait.{Wait}
 use Rattle.kube_run.specs.Script.{pauses}
 

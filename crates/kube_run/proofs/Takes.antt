@@ -1,5 +1,5 @@
 -- The tokens of what was taken.
-use Rattle.std.proofs.Common.{◌≡◌, List, [], ◌∷◌, ◌++◌, Option, Some, None, map, refl}
+use Rattle.std.proofs.Common.{◌≡◌, List, ◌++◌, Option, Some, None, map, refl}
 use Rattle.std.specs.List.{cons_option}
 use Rattle.kube_meta.specs.declared.dynamic.DynamicObject.{DynamicObject}
 use Rattle.kube_model.specs.History.{Taken}

@@ -1,6 +1,6 @@
 -- The text of a trace: a line for each record, which is an object in the compact text, with its members by the bytes of their names.
-use Rattle.std.specs.Prelude.{ℕ, suc, Bool, true, false, List, [], ◌∷◌, ◌++◌, Option, Some, None, map, option_map, is_some, codes}
-use Rattle.serde_json.specs.Data.{Data, null, boolean, number, unsigned, string, object, Members, no_members, member}
+use Rattle.std.specs.Prelude.{ℕ, Bool, List, [], ◌∷◌, ◌++◌, Option, Some, None, option_map, is_some, codes}
+use Rattle.serde_json.specs.Data.{Data, boolean, number, unsigned, string, object, Members, no_members, member}
 use Rattle.serde_json.specs.Written.{compact_text}
 use Rattle.kube_meta.specs.Reference.{Reference, shown}
 use Rattle.kube_meta.specs.declared.metadata.ObjectMeta.{ObjectMeta}

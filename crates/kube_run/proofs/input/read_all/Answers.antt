@@ -1,4 +1,4 @@
-use Rattle.std.proofs.Common.{arith, length-append, length-take, ◌∷◌, [], List, ℕ, length, take, drop, ◌++◌, ◌≤◌, ◌≡◌, is_ok, is_err, true}
+use Rattle.std.proofs.Common.{arith, length-append, length-take, take, drop, ◌++◌}
 use Rattle.kube_run.proofs.Known.{taken_then, more_taken, length_grown}
 use Rattle.kube_run.proofs.input.read_all.Goals as goal
 
