@@ -1,5 +1,5 @@
 -- One ask, and one more.
-use Rattle.std.proofs.Common.{◌≡◌, ℕ, ◌+◌, ◌-◌, ◌<◌, ◌||◌, Bool, true, false, nat_le, List, [], ◌∷◌, ◌++◌, Option, Some, None, length, map, refl, sym, ◌∙◌, ap, ap₂, subst, inl, inr, arith}
+use Rattle.std.proofs.Common.{◌≡◌, ℕ, ◌+◌, ◌<◌, ◌||◌, Bool, true, false, nat_le, List, [], ◌∷◌, ◌++◌, Option, Some, None, length, map, refl, sym, ◌∙◌, ap, ap₂, subst, inl, inr, arith}
 use Rattle.std.proofs.lemmas.List.{length-append}
 use Rattle.std.specs.List.{fold, list_any}
 use Rattle.kube_meta.specs.declared.metadata.ObjectMeta.{ObjectMeta}
@@ -9,17 +9,19 @@ use Rattle.kube_model.specs.declared.call.Call.TheVariants.{List as ListCall, Ne
 use Rattle.kube_model.specs.Raw.{Raw, grown, grown_by}
 use Rattle.kube_control.specs.declared.watcher.State.{State}
 use Rattle.kube_control.specs.declared.watcher.State.TheVariants.{Start, From, Open}
-use Rattle.kube_control.specs.Asks.{is_not_ready}
-use Rattle.kube_control.specs.Exchanges.{Exchange, Kept, AskedFrom, Asked, AreAll, AreAsked, IsCalledFrom, any_not_ready, but_last, is_idle, or_now, window}
+use Rattle.kube_model.specs.Owed.{is_not_ready}
+use Rattle.kube_model.specs.History.{Exchange}
+use Rattle.kube_model.specs.Fits.{is_window_over}
+use Rattle.kube_control.specs.Exchanges.{Kept, AskedFrom, Asked, AreAll, AreAsked, IsCalledFrom, any_not_ready, but_last, or_now, window}
 use Rattle.kube_control.specs.Keyed.{keyed, updated}
-use Rattle.kube_control.specs.Messages.{Message}
+use Rattle.kube_model.specs.History.{Message}
 use Rattle.kube_control.specs.Stores.{put_stored}
 use Rattle.kube_control.specs.Unbuilt.{any_unnamed}
 use Rattle.kube_control.proofs.TakeSteps.{grown_by-append}
 
-not_idle : (now since : ℕ) (s : Option ℕ) → since ≡ or_now now s → nat_le window (now - since) ≡ false → is_idle now s ≡ false
-not_idle now since None e f = refl
-not_idle now since (Some s) e f = ap (λ n. nat_le window (now - n)) (sym e) ∙ f
+within : (now since : ℕ) (s : Option ℕ) → since ≡ or_now now s → nat_le (since + window) now ≡ false → is_window_over (Some window) s now ≡ false
+within now since None e f = refl
+within now since (Some s) e f = ap (λ n. nat_le (n + window) now) (sym e) ∙ f
 
 module _ {O : Type 0} (t : ObjectType) (meta : O → ObjectMeta) where
   pub page_asked : (p : Kept O) (now : ℕ) (version copy : List ℕ) (os : List O) (ms : List Message) (ps : List (Reference × O))
@@ -34,12 +36,12 @@ module _ {O : Type 0} (t : ObjectType) (meta : O → ObjectMeta) where
   )
 
   pub next_asked : (p : Kept O) (now since : ℕ) (os : List O) (ms : List Message) → os ≡ [] → ms ≡ [] → p.state ≡ Open
-      → since ≡ or_now now p.silent_since → nat_le window (now - since) ≡ false
+      → since ≡ or_now now p.silent_since → nat_le (since + window) now ≡ false
       → AskedFrom t meta Open p now (record { source = 0; call = Next; answer = NotReady; items = os; requests = ms; error = None })
       (record { state = p.state; stored = p.stored; silent_since = Some since })
   next_asked p now since os ms e f s g i = (
     ap₂ (λ (ps : List O) (ns : List Message). let x : Exchange O = record { source = 0; call = Next; answer = NotReady; items = ps; requests = ns; error = None } in x) e f,
-    not_idle now since p.silent_since g i,
+    within now since p.silent_since g i,
     ap₂ (λ (w : State) (n : ℕ). let q : Kept O = record { state = w; stored = p.stored; silent_since = Some n } in q) s g,
   )
 

@@ -3,7 +3,8 @@ use Rattle.std.proofs.Common.{◌≡◌, true, false, cond, List, [], ◌∷◌,
 use Rattle.std.proofs.lemmas.List.{append_assoc, map-append}
 use Rattle.std.specs.List.{list_any}
 use Rattle.kube_meta.specs.Reference.{same_reference}
-use Rattle.kube_control.specs.Messages.{Message, same_message, last_of_each}
+use Rattle.kube_model.specs.History.{Message, same_message}
+use Rattle.kube_control.specs.Messages.{last_of_each}
 
 module _ {Q : Type 0} (seen : Q → Message) where
   any-seen : (qs : List Q) (m : Message) → list_any (λ q. same_reference (seen q).reference m.reference) qs ≡ list_any (λ n. same_message n m) (map seen qs)

@@ -9,7 +9,7 @@ use Rattle.std.proofs.lemmas.List.Sums.{fold_push}
 use Rattle.kube_meta.specs.Reference.{Reference}
 use Rattle.kube_control.specs.declared.fault.Fault.{Fault}
 use Rattle.kube_control.specs.declared.fault.Fault.TheVariants.{NoMemory, NotBuilt}
-use Rattle.kube_control.specs.Messages.{Message}
+use Rattle.kube_model.specs.History.{Message}
 use Rattle.kube_control.specs.Stores.{put_stored}
 use Rattle.kube_control.specs.Unbuilt.{IfNotBuilt}
 

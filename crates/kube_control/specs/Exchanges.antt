@@ -1,29 +1,20 @@
 -- Exchanges of a controller's root as plain data, and what one leaves of what the root keeps. O is the type of objects.
-use Rattle.std.specs.Prelude.{◌≡◌, ◌⊎◌, ℕ, ◌-◌, Bool, true, false, nat_le, List, [], ◌∷◌, ◌++◌, Option, Some, None, length, map, ◌<◌, ◌≤◌}
+use Rattle.std.specs.Prelude.{◌≡◌, ◌⊎◌, ℕ, Bool, true, false, List, [], ◌∷◌, ◌++◌, Option, Some, None, length, map, ◌<◌, ◌≤◌}
 use Rattle.std.specs.List.{flat_map, fold, list_any}
 use Rattle.kube_meta.specs.declared.metadata.ObjectMeta.{ObjectMeta}
 use Rattle.kube_meta.specs.Reference.{ObjectType, Reference}
-use Rattle.kube_model.specs.declared.call.Answer.{Answer}
 use Rattle.kube_model.specs.declared.call.Answer.TheVariants.{Page, Opened, NotReady}
-use Rattle.kube_model.specs.declared.call.Call.{Call}
 use Rattle.kube_model.specs.declared.call.Call.TheVariants.{List as ListCall, Watch, Next}
-use Rattle.kube_model.specs.declared.error.Error.{Error}
+use Rattle.kube_model.specs.Fits.{is_window_over, nonempty}
+use Rattle.kube_model.specs.History.{Exchange, Message, same_message}
+use Rattle.kube_model.specs.Owed.{is_not_ready}
 use Rattle.kube_model.specs.Raw.{Raw, RawAnswer, ListAsked, WatchAsked, NextAsked, Waits, GivesPage, Opens, grown_by}
 use Rattle.kube_control.specs.declared.watcher.State.{State}
 use Rattle.kube_control.specs.declared.watcher.State.TheVariants.{Start, From, Open}
-use Rattle.kube_control.specs.Asks.{is_not_ready}
-use Rattle.kube_control.specs.Messages.{Message, last_of_each, same_message}
+use Rattle.kube_control.specs.Messages.{last_of_each}
 use Rattle.kube_control.specs.Stores.{put_stored}
-use Rattle.kube_control.specs.Unbuilt.{nonempty, first_page_params, bookmarks_params, any_unnamed, IsUnbuiltPage, IsUnbuiltOpening, IsUnbuiltNext}
+use Rattle.kube_control.specs.Unbuilt.{first_page_params, bookmarks_params, any_unnamed, IsUnbuiltPage, IsUnbuiltOpening, IsUnbuiltNext}
 use Rattle.kube_control.specs.Keyed.{keyed, updated}
-
-pub record Exchange (O : Type 0) : Type 0 where
-  pub source : ℕ
-  pub call : Call
-  pub answer : Answer
-  pub items : List O
-  pub requests : List Message
-  pub error : Option Error
 
 -- what a root keeps: how far its watch has come, what is stored, and since when the watch is silent
 pub record Kept (O : Type 0) : Type 0 where
@@ -31,14 +22,9 @@ pub record Kept (O : Type 0) : Type 0 where
   pub stored : List (Reference × O)
   pub silent_since : Option ℕ
 
--- 295 seconds (crate: the watcher's idle timeout)
+-- how long a watch may be silent, in nanoseconds: 295 seconds (crate: the watcher's idle timeout)
 abbrev pub window : ℕ
 window = 295000000000
-
--- whether a watch that is silent since then counts as over
-abbrev pub is_idle : ℕ → Option ℕ → Bool
-is_idle now None = false
-is_idle now (Some since) = nat_le window (now - since)
 
 abbrev pub or_now : ℕ → Option ℕ → ℕ
 or_now now None = now
@@ -72,7 +58,7 @@ module _ {O : Type 0} (t : ObjectType) (meta : O → ObjectMeta) where
       × (q ≡ record { state = From version; stored = fold put_stored [] (map (keyed t meta) x.items); silent_since = None })
   AskedFrom (From version) p now x q = (x ≡ opened_exchange version) × (q ≡ record { state = Open; stored = p.stored; silent_since = None })
   AskedFrom Open p now x q =
-      (x ≡ silent_exchange) × (is_idle now p.silent_since ≡ false)
+      (x ≡ silent_exchange) × (is_window_over (Some window) p.silent_since now ≡ false)
       × (q ≡ record { state = Open; stored = p.stored; silent_since = Some (or_now now p.silent_since) })
 
   abbrev pub Asked : Kept O → ℕ → Exchange O → Kept O → Type 0
@@ -94,7 +80,7 @@ HasUnnamed meta _ = ⊥
 abbrev pub IsUnbuiltFrom : {O : Type 0} → (O → ObjectMeta) → State → ℕ → Option ℕ → Raw O → Type 0
 IsUnbuiltFrom meta Start now since raw = (raw.call ≡ ListAsked first_page_params) × (IsUnbuiltPage raw.answer ⊎ HasUnnamed meta raw.answer)
 IsUnbuiltFrom meta (From version) now since raw = (raw.call ≡ WatchAsked bookmarks_params version) × IsUnbuiltOpening raw.answer
-IsUnbuiltFrom meta Open now since raw = (raw.call ≡ NextAsked) × (IsUnbuiltNext raw.answer ⊎ (is_idle now since ≡ true))
+IsUnbuiltFrom meta Open now since raw = (raw.call ≡ NextAsked) × (IsUnbuiltNext raw.answer ⊎ (is_window_over (Some window) since now ≡ true))
 
 abbrev pub any_not_ready : {O : Type 0} → List (Exchange O) → Bool
 any_not_ready xs = list_any (λ x. is_not_ready x.answer) xs

@@ -1,7 +1,7 @@
 -- What was done with the finishes of a turn, with their faults and actions.
-use Rattle.std.specs.Prelude.{◌≡◌, ℕ, List, [], ◌∷◌, Option, Some, None, Result, Ok, Err}
+use Rattle.std.specs.Prelude.{◌≡◌, List, Option, Some, None, Result, Ok, Err}
 use Rattle.std.specs.List.{find, AllZip}
-use Rattle.kube_meta.specs.Reference.{ObjectType, Reference, same_reference}
+use Rattle.kube_meta.specs.Reference.{ObjectType, same_reference}
 use Rattle.kube_meta.specs.Keys.{reference_of}
 use Rattle.kube_meta.specs.declared.action.Action.{Action}
 use Rattle.kube_model.specs.Takes.{Running}

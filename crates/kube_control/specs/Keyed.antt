@@ -3,7 +3,7 @@ use Rattle.kube_meta.specs.declared.metadata.ObjectMeta.{ObjectMeta}
 use Rattle.kube_meta.specs.Reference.{ObjectType, Reference}
 use Rattle.kube_meta.specs.Keys.{key_of}
 use Rattle.kube_model.specs.Reason.{ObjectUpdated}
-use Rattle.kube_control.specs.Messages.{Message}
+use Rattle.kube_model.specs.History.{Message}
 
 module _ {O : Type 0} (t : ObjectType) (meta : O → ObjectMeta) where
   -- an object beside its own reference

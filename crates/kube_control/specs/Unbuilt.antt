@@ -1,36 +1,25 @@
 -- The calls that a root makes, and the answers that end its run since they are not built yet.
-use Rattle.std.specs.Prelude.{◌≡◌, ◌⊎◌, ℕ, ◌<◌, ◌≤◌, ◌^◌, Bool, true, false, not, List, [], ◌∷◌, Option, Some, None, is_some, ⊤}
+use Rattle.std.specs.Prelude.{◌≡◌, ◌⊎◌, ℕ, ◌<◌, ◌≤◌, ◌^◌, Bool, true, false, not, List, [], None, is_some, ⊤}
 use Rattle.std.specs.List.{list_any}
 use Rattle.kube_meta.specs.declared.metadata.ObjectMeta.{ObjectMeta}
 use Rattle.kube_meta.specs.Keys.{is_named}
 use Rattle.kube_model.specs.declared.params.ListParams.{ListParams}
 use Rattle.kube_model.specs.declared.params.WatchParams.{WatchParams}
 use Rattle.kube_model.specs.declared.turn.Shutdown.TheVariants.{No}
+use Rattle.kube_model.specs.Fits.{nonempty}
+use Rattle.kube_model.specs.World.{default_settings, list_params, watch_params}
 use Rattle.kube_model.specs.Raw.{RawAnswer, Waits, GivesPage, Opens}
 use Rattle.kube_control.specs.declared.fault.Fault.{Fault}
 use Rattle.kube_control.specs.declared.fault.Fault.TheVariants.{NoMemory, NotBuilt}
 use Rattle.kube_control.specs.declared.turn.Turn.{Turn}
 
--- an empty text counts as none
-abbrev pub nonempty : Option (List ℕ) → Option (List ℕ)
-nonempty None = None
-nonempty (Some []) = None
-nonempty (Some (c ∷ cs)) = Some (c ∷ cs)
-
--- the first page of at most 500 objects (crate: `watcher::Config`'s default)
+-- the first page of a list (crate: by `watcher::Config::default`)
 abbrev pub first_page_params : ListParams
-first_page_params = record {
-  label_selector = None;
-  field_selector = None;
-  limit = Some 500;
-  continue_token = None;
-  resource_version = None;
-  version_match = None;
-}
+first_page_params = list_params default_settings None
 
--- a watch with bookmarks (crate: `watcher::Config`'s default)
+-- a watch from a version, with bookmarks
 abbrev pub bookmarks_params : WatchParams
-bookmarks_params = record { label_selector = None; field_selector = None; timeout = None; bookmarks = true; send_initial_events = false }
+bookmarks_params = watch_params default_settings false
 
 -- P, where the fault is not want of memory
 abbrev pub IfNotBuilt : Fault → Type 0 → Type 0

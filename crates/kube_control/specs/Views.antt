@@ -14,8 +14,8 @@ use Rattle.kube_control.specs.declared.record.Taken.{Taken}
 use Rattle.kube_control.specs.declared.record.Taken.TheVariants.{Started, NotFound, Nothing}
 use Rattle.kube_control.specs.declared.watcher.Root.{Root}
 use Rattle.kube_control.specs.declared.request.ReconcileRequest.{ReconcileRequest}
-use Rattle.kube_control.specs.Exchanges.{Exchange, Kept}
-use Rattle.kube_control.specs.Messages.{Message, Take}
+use Rattle.kube_model.specs.History.{Exchange, Message, Taken as Take}
+use Rattle.kube_control.specs.Exchanges.{Kept}
 
 module _ {K D : Type 0} where
   abbrev pub object_of : Stored K D → K

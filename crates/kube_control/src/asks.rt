@@ -2,7 +2,7 @@
 
 ghost use Rattle.std.specs.Prelude.{◌≡◌, List, IfOk, IfErr, map, if◌then◌else◌};
 ghost use Rattle.std.specs.List.{list_any};
-ghost use Rattle.kube_control.specs.Asks.{is_not_ready as answered_not_ready};
+ghost use Rattle.kube_model.specs.Owed.{is_not_ready as answered_not_ready};
 ghost use Rattle.kube_model.specs.Raw.{Raw, grown_by};
 ghost use Rattle.kube_control.specs.Exchanges.{AreAll, AreAsked, IsStoppedAsking};
 ghost use Rattle.kube_control.specs.Unbuilt.{IfNotBuilt};

@@ -3,7 +3,8 @@
 ghost use Rattle.std.specs.Prelude.{◌≡◌, ℕ, List, Option, Some, None, IfOk, IfErr, OnOk, map};
 ghost use Rattle.std.specs.Arc.{arc_value};
 ghost use Rattle.kube_model.specs.Raw.{Raw, grown, ListAsked, WatchAsked, NextAsked, GivesPage, Opens, Waits};
-ghost use Rattle.kube_control.specs.Unbuilt.{nonempty, first_page_params, bookmarks_params, IfNotBuilt, IsUnbuiltPage, IsUnbuiltOpening, IsUnbuiltNext};
+ghost use Rattle.kube_model.specs.Fits.{nonempty};
+ghost use Rattle.kube_control.specs.Unbuilt.{first_page_params, bookmarks_params, IfNotBuilt, IsUnbuiltPage, IsUnbuiltOpening, IsUnbuiltNext};
 
 use crate::fault::Fault;
 use kube_api::{ApiMode, ListParams, Page, WatchParams};

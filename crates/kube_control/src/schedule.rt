@@ -4,7 +4,8 @@ ghost use Rattle.std.specs.Prelude.{◌≡◌, ◌++◌, IfOk, OnOk, map};
 ghost use Rattle.std.specs.List.{list_any};
 ghost use Rattle.kube_meta.specs.Keys.{reference_of};
 ghost use Rattle.kube_meta.specs.Reference.{same_reference};
-ghost use Rattle.kube_control.specs.Messages.{last_of_each as last_messages, same_message};
+ghost use Rattle.kube_model.specs.History.{same_message};
+ghost use Rattle.kube_control.specs.Messages.{last_of_each as last_messages};
 ghost use Rattle.kube_control.specs.Exchanges.{requested};
 ghost use Rattle.kube_control.specs.Views.{exchange_of, message_of};
 

@@ -4,7 +4,7 @@ ghost use Rattle.std.specs.Prelude.{◌≡◌, ◌⊎◌, [], ◌∷◌, List, f
 ghost use Rattle.std.specs.List.{filter_map, list_any};
 ghost use Rattle.kube_model.specs.declared.turn.Stop.TheVariants.{NotReady, Budget};
 ghost use Rattle.kube_model.specs.Raw.{Raw, grown_by};
-ghost use Rattle.kube_control.specs.Asks.{is_not_ready};
+ghost use Rattle.kube_model.specs.Owed.{is_not_ready};
 ghost use Rattle.kube_control.specs.Exchanges.{AreAll, AreAsked, IsStoppedAsking, waiting_after};
 ghost use Rattle.kube_control.specs.Messages.{take_of, handed};
 ghost use Rattle.kube_control.specs.Unbuilt.{DoesMore, IfNotBuilt, OnlyAsks};

@@ -1,4 +1,4 @@
-use Rattle.std.proofs.Common.{◌≡◌, ◌-◌, arith, false, nat_le, map, ap}
+use Rattle.std.proofs.Common.{◌≡◌, ◌+◌, arith, false, nat_le, map, ap}
 use Rattle.std.specs.Arc.{arc_value}
 use Rattle.std.proofs.lemmas.Bool.Decides.{nat_tests}
 use Rattle.kube_control.specs.Exchanges.{window}
@@ -12,6 +12,6 @@ returns-clause-asked g c =
     let meta = g.A.Value.Resource.meta_of in
     let l = c.if-saturating_sub-ge-IDLE_WINDOW.false in
     let d = c.saturating_sub.ensures in
-    let within : nat_le window (c.args.now.0 - c.silence_start-since.result.0) ≡ false = grind (arith, nat_tests, l, d) in
+    let within : nat_le (c.silence_start-since.result.0 + window) c.args.now.0 ≡ false = grind (arith, nat_tests, l, d) in
     next_asked (type_of c.args.root.now.dyntype) meta (kept_of type_of c.args.root.now) c.args.now.0 c.silence_start-since.result.0 _ _
     (ap (map arc_value) c.new.ensures) (ap (map (message_of type_of)) c.new-2.ensures) c.requires c.silence_start-since.ensures within
