@@ -1,0 +1,9 @@
+pub mod Known
+pub mod Loop
+pub mod Steps
+pub mod Utf8
+pub mod Shown
+pub mod Takes
+pub mod Text
+pub mod Records
+pub mod Served

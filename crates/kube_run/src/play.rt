@@ -1,0 +1,42 @@
+//! A controller that takes the turns of a script.
+
+use crate::script::Script;
+use kube_api::TestMode;
+use kube_control::{Controller, Recorder, RunError, Trace};
+use kube_meta::{Action, DynamicObject, List, Text};
+use std::alloc::Global;
+use std::sync::Arc;
+
+/// The trace of a script's turns.
+pub type ScriptTrace = Trace<DynamicObject, Text>;
+
+/// Why the turns of a script end early.
+pub type ScriptError = RunError<DynamicObject, Text>;
+
+/// Makes the controller that a script tells of, and takes its turns.
+///
+/// Its objects are listed and watched at an API in memory, and a reconcile that failed awaits a change.
+pub fn play(alloc: Global, script: Script) -> Result<ScriptTrace, ScriptError> {
+    let Script { kind, root, turns } = script;
+    let (Ok(kind), Ok(context)) = (Arc::new(alloc, kind), Arc::new(alloc, ())) else {
+        return Err(no_memory(alloc));
+    };
+    if turns.len() > u32::MAX as usize {
+        return Err(no_memory(alloc));
+    }
+    let api = TestMode::new(alloc, root.lists, root.watches);
+    let mut controller = Controller::new_with(alloc, api, kind);
+    let mut recorder = Recorder::new(alloc);
+    let policy = |_object: Arc<DynamicObject>, _error: &Text, _context: Arc<
+        (),
+    >| Action::await_change();
+    controller.run(alloc, &mut recorder, &policy, context, turns)
+}
+
+fn no_memory(alloc: Global) -> ScriptError {
+    RunError::NoMemory {
+        trace: Trace {
+            records: List::new(alloc),
+        },
+    }
+}

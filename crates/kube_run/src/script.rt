@@ -1,0 +1,275 @@
+//! The script that the program runs a controller by.
+
+ghost use Rattle.std.specs.Prelude.{◌≡◌, ℕ, List, Option, map, IfOk};
+ghost use Rattle.kube_meta.specs.declared.poll.Polled.TheVariants.{Ready};
+ghost use Rattle.kube_meta.specs.declared.metadata.ObjectMeta.{ObjectMeta as meta_record};
+ghost use Rattle.kube_meta.specs.declared.dynamic.DynamicObject.{DynamicObject as object_record};
+ghost use Rattle.kube_meta.specs.declared.dynamic.ApiResource.{ApiResource as resource_record};
+ghost use Rattle.kube_model.specs.Raw.{RawAnswer};
+ghost use Rattle.kube_model.specs.History.{Turn as plain_turn};
+ghost use Rattle.kube_api.specs.Answers.{list_answer};
+ghost use Rattle.kube_api.specs.TestScript.{Step};
+ghost use Rattle.serde_json.specs.View.{view};
+ghost use Rattle.kube_run.specs.Reading.{Gives};
+ghost use Rattle.kube_run.specs.Script.{api_version as api_version_of, kind_at, meta_names, meta_at, item_at, page_version_at, page_at, pauses, wait_at, watch_at, Root as root_record, root_at, seen_root, seen_turn, turn_at, Script as script_record, seen_script, script_at};
+
+use crate::fault::ReadError;
+use crate::row::{Row, has_member, is_object, list_member, maybe_member, member, only};
+use kube_api::{ApiError, Page, Sequence, SequenceStep};
+use kube_control::{Shutdown, Turn};
+use kube_meta::{ApiResource, DynamicObject, List, Moment, NoMemory, ObjectMeta, Text};
+use serde_json::Value;
+use std::alloc::Global;
+
+/// The turns of a script. A reconcile's fault is a text.
+pub type ScriptTurn = Turn<DynamicObject, Text>;
+
+/// What a list call is answered.
+pub type Listed = Result<Page<DynamicObject>, ApiError>;
+
+/// A script: what the objects are, what the API answers, and the turns.
+#[derive(Drop)]
+pub struct Script {
+    pub kind: ApiResource,
+    pub root: Root,
+    pub turns: Vec<ScriptTurn>,
+}
+
+/// What the API answers, in order.
+#[derive(Drop)]
+pub struct Root {
+    pub lists: Vec<Listed>,
+    pub watches: Vec<Sequence<DynamicObject>>,
+}
+
+impl Row for ApiResource {
+    ghost Seen = { resource_record };
+
+    ghost seen = { λ r. r };
+
+    ghost reads = { kind_at };
+
+    #[tactic(auto, unfolding(crate::specs::Script::kind_at))]
+    fn read(alloc: Global, value: &Value) -> Result<ApiResource, ReadError> {
+        is_object(alloc, value)?;
+        let group: Text = member(alloc, value, "group")?;
+        let version: Text = member(alloc, value, "version")?;
+        let kind = member(alloc, value, "kind")?;
+        let plural = member(alloc, value, "plural")?;
+        let api_version = api_version(alloc, &group, &version)?;
+        Ok(ApiResource {
+            group,
+            version,
+            api_version,
+            kind,
+            plural,
+        })
+    }
+}
+
+/// A group and a version as an object's `apiVersion` has them (Kubernetes API concept "API groups").
+fn api_version(alloc: Global, group: &Text, version: &Text) -> Result<Text, NoMemory>
+    ensures { IfOk result (λ t. t ≡ api_version_of group.now version.now) }
+{
+    if group.is_empty() {
+        return version.copy(alloc);
+    }
+    let mut text = String::from_str(alloc, group.as_str())?;
+    text.push('/')?;
+    text.push_str(version.as_str())?;
+    Ok(Text::from(text))
+}
+
+impl Row for ObjectMeta {
+    ghost Seen = { meta_record };
+
+    ghost seen = { λ m. m };
+
+    ghost reads = { meta_at };
+
+    #[tactic(auto, unfolding(crate::specs::Script::meta_at))]
+    fn read(alloc: Global, value: &Value) -> Result<ObjectMeta, ReadError> {
+        only_meta(alloc, value)?;
+        let name = maybe_member(alloc, value, "name")?;
+        let namespace = maybe_member(alloc, value, "namespace")?;
+        let resource_version = maybe_member(alloc, value, "resourceVersion")?;
+        Ok(ObjectMeta {
+            name,
+            namespace,
+            uid: None,
+            resource_version,
+        })
+    }
+}
+
+#[tactic(auto, unfolding(crate::specs::Script::meta_names))]
+fn only_meta(alloc: Global, value: &Value) -> Result<(), ReadError>
+    ensures { Gives (λ x. x) result (meta_names (view value.now)) }
+{
+    only(alloc, value, &["name", "namespace", "resourceVersion"])
+}
+
+impl Row for DynamicObject {
+    ghost Seen = { object_record };
+
+    ghost seen = { λ o. o };
+
+    ghost reads = { item_at };
+
+    #[tactic(auto, unfolding(crate::specs::Script::item_at))]
+    fn read(alloc: Global, value: &Value) -> Result<DynamicObject, ReadError> {
+        only(alloc, value, &["metadata"])?;
+        let metadata = match maybe_member(alloc, value, "metadata")? {
+            Some(metadata) => metadata,
+            None => ObjectMeta::empty(),
+        };
+        Ok(DynamicObject { metadata })
+    }
+}
+
+/// The metadata of a page.
+#[derive(Drop)]
+struct PageMeta {
+    version: Option<Text>,
+}
+
+impl Row for PageMeta {
+    ghost Seen = { Option (List ℕ) };
+
+    ghost seen = { λ m. m.version };
+
+    ghost reads = { page_version_at };
+
+    #[tactic(auto, unfolding(crate::specs::Script::page_version_at))]
+    fn read(alloc: Global, value: &Value) -> Result<PageMeta, ReadError> {
+        only(alloc, value, &["resourceVersion"])?;
+        let version = maybe_member(alloc, value, "resourceVersion")?;
+        Ok(PageMeta { version })
+    }
+}
+
+impl Row for Listed {
+    ghost Seen = { RawAnswer object_record };
+
+    ghost seen = { λ page. list_answer (Ready page) };
+
+    ghost reads = { page_at };
+
+    #[tactic(auto, unfolding(crate::specs::Script::page_at))]
+    fn read(alloc: Global, value: &Value) -> Result<Listed, ReadError> {
+        only(alloc, value, &["items", "metadata"])?;
+        let items = list_member(alloc, value, "items")?;
+        let version = match maybe_member(alloc, value, "metadata")? {
+            Some(PageMeta { version }) => version,
+            None => None,
+        };
+        Ok(Ok(Page {
+            items: List::from(items),
+            token: None,
+            version,
+        }))
+    }
+}
+
+/// A step of a watch: nanoseconds in which nothing comes.
+#[derive(Clone, Copy, Debug)]
+struct Wait(u64);
+
+impl Row for Wait {
+    ghost Seen = { ℕ };
+
+    ghost seen = { λ w. w.0 };
+
+    ghost reads = { wait_at };
+
+    #[tactic(auto, unfolding(crate::specs::Script::wait_at))]
+    fn read(alloc: Global, value: &Value) -> Result<Wait, ReadError> {
+        only(alloc, value, &["wait"])?;
+        Ok(Wait(member(alloc, value, "wait")?))
+    }
+}
+
+impl Row for Sequence<DynamicObject> {
+    ghost Seen = { List (Step object_record) };
+
+    ghost seen = { λ s. s };
+
+    ghost reads = { watch_at };
+
+    #[tactic(auto, unfolding(crate::specs::Script::watch_at))]
+    fn read(alloc: Global, value: &Value) -> Result<Sequence<DynamicObject>, ReadError> {
+        let waits: Vec<Wait> = Row::read(alloc, value)?;
+        Ok(sequence(alloc, waits.as_slice())?)
+    }
+}
+
+/// A watch that waits so often, and is then over.
+fn sequence(alloc: Global, waits: &[Wait]) -> Result<Sequence<DynamicObject>, NoMemory>
+    ensures { IfOk result (λ s. s ≡ pauses (map (λ w. w.0) waits.now)) }
+{
+    let mut steps = Vec::new(alloc);
+    for wait in waits {
+        steps.push(SequenceStep::Wait(wait.0))?;
+    }
+    Ok(Sequence::new(steps))
+}
+
+impl Row for Root {
+    ghost Seen = { root_record };
+
+    ghost seen = { seen_root };
+
+    ghost reads = { root_at };
+
+    #[tactic(auto, unfolding(crate::specs::Script::root_at))]
+    fn read(alloc: Global, value: &Value) -> Result<Root, ReadError> {
+        only(alloc, value, &["lists", "watches"])?;
+        has_member(alloc, value, "lists")?;
+        has_member(alloc, value, "watches")?;
+        let lists = list_member(alloc, value, "lists")?;
+        let watches = list_member(alloc, value, "watches")?;
+        Ok(Root { lists, watches })
+    }
+}
+
+impl Row for ScriptTurn {
+    ghost Seen = { plain_turn };
+
+    ghost seen = { seen_turn };
+
+    ghost reads = { turn_at };
+
+    #[tactic(auto, unfolding(crate::specs::Script::turn_at))]
+    fn read(alloc: Global, value: &Value) -> Result<ScriptTurn, ReadError> {
+        only(alloc, value, &["at", "budget", "show"])?;
+        let at = member(alloc, value, "at")?;
+        let budget: Vec<u32> = list_member(alloc, value, "budget")?;
+        let show = maybe_member(alloc, value, "show")?;
+        Ok(Turn {
+            at: Moment(at),
+            budget: List::from(budget),
+            finishes: List::new(alloc),
+            reload: false,
+            on: List::new(alloc),
+            shutdown: Shutdown::No,
+            show: show.unwrap_or(false),
+        })
+    }
+}
+
+impl Row for Script {
+    ghost Seen = { script_record };
+
+    ghost seen = { seen_script };
+
+    ghost reads = { script_at };
+
+    #[tactic(auto, unfolding(crate::specs::Script::script_at))]
+    fn read(alloc: Global, value: &Value) -> Result<Script, ReadError> {
+        only(alloc, value, &["kind", "root", "turns"])?;
+        let kind = member(alloc, value, "kind")?;
+        let root = member(alloc, value, "root")?;
+        let turns = list_member(alloc, value, "turns")?;
+        Ok(Script { kind, root, turns })
+    }
+}

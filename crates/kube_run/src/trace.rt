@@ -1,0 +1,93 @@
+//! The lines of a trace, to a sink.
+
+ghost use Rattle.std.specs.Prelude.{◌≡◌, ◌≤◌, ◌++◌, OnOk, OnErr, IsErrOf};
+ghost use Rattle.std.specs.Io.KnownBytes.{Appends};
+ghost use Rattle.kube_run.specs.Causes.{Rose};
+ghost use Rattle.kube_run.specs.Lines.{not_built_line as not_built_text};
+ghost use Rattle.kube_run.specs.Part.{AppendsPart};
+ghost use Rattle.kube_run.specs.TraceText.{line_text, lines_text};
+ghost use Rattle.kube_run.specs.TraceView.{seen_record, seen_records};
+
+use crate::output::write_all;
+use crate::record::{ScriptRecord, not_built_line, record_line};
+use crate::sink::Sink;
+use std::alloc::Global;
+
+/// Why a line was not written whole.
+#[derive(Clone, Copy, Debug, PartialEq, Eq)]
+pub enum Unwritten {
+    /// A write failed.
+    Fault,
+    /// Memory could not be had.
+    NoMemory,
+}
+
+/// Writes the records of turns, each as a line. Where that fails the first bytes of their text were written, or none.
+pub fn write_records<W: Sink>(
+    alloc: Global,
+    records: &[ScriptRecord],
+    sink: &mut W,
+) -> Result<(), Unwritten>
+    ensures all { OnOk result (Appends (W.written sink.old) (W.written sink.new) (lines_text (seen_records 0 records.now))) }
+    ensures part { OnErr result (AppendsPart (W.written sink.old) (W.written sink.new) (lines_text (seen_records 0 records.now))) }
+    ensures fault { IsErrOf result Unwritten.Fault → Rose (W.faults sink.old) (W.faults sink.new) }
+    ensures later { W.faults sink.old ≤ W.faults sink.new }
+{
+    for turn in 0..records.len() {
+        write_record(alloc, turn as u64, &records[turn], sink)?;
+    }
+    Ok(())
+}
+
+/// Writes the records of turns, and that the turn of this number is not built.
+pub fn write_refused<W: Sink>(
+    alloc: Global,
+    records: &[ScriptRecord],
+    turn: u32,
+    sink: &mut W,
+) -> Result<(), Unwritten>
+    ensures all { OnOk result (Appends (W.written sink.old) (W.written sink.new) (lines_text (seen_records 0 records.now) ++ not_built_text turn)) }
+    ensures fault { IsErrOf result Unwritten.Fault → Rose (W.faults sink.old) (W.faults sink.new) }
+    ensures later { W.faults sink.old ≤ W.faults sink.new }
+{
+    write_records(alloc, records, sink)?;
+    write_not_built(alloc, turn, sink)?;
+    Ok(())
+}
+
+/// Writes the record of the turn of this number as a line.
+fn write_record<W: Sink>(
+    alloc: Global,
+    turn: u64,
+    record: &ScriptRecord,
+    sink: &mut W,
+) -> Result<(), Unwritten>
+    ensures all { OnOk result (Appends (W.written sink.old) (W.written sink.new) (line_text (seen_record turn «record».now))) }
+    ensures part { OnErr result (AppendsPart (W.written sink.old) (W.written sink.new) (line_text (seen_record turn «record».now))) }
+    ensures fault { IsErrOf result Unwritten.Fault → Rose (W.faults sink.old) (W.faults sink.new) }
+    ensures later { W.faults sink.old ≤ W.faults sink.new }
+{
+    let Ok(line) = record_line(alloc, turn, record) else {
+        return Err(Unwritten::NoMemory);
+    };
+    match write_all(sink, &line) {
+        Ok(()) => Ok(()),
+        Err(_) => Err(Unwritten::Fault),
+    }
+}
+
+/// Writes the line of a turn that is not built.
+fn write_not_built<W: Sink>(alloc: Global, turn: u32, sink: &mut W) -> Result<(), Unwritten>
+    ensures all { OnOk result (Appends (W.written sink.old) (W.written sink.new) (not_built_text turn)) }
+    ensures part { OnErr result (AppendsPart (W.written sink.old) (W.written sink.new) (not_built_text turn)) }
+    ensures fault { IsErrOf result Unwritten.Fault → Rose (W.faults sink.old) (W.faults sink.new) }
+    ensures later { W.faults sink.old ≤ W.faults sink.new }
+{
+    let Ok(line) = not_built_line(alloc, turn) else {
+        return Err(Unwritten::NoMemory);
+    };
+    match write_all(sink, &line) {
+        Ok(()) => Ok(()),
+        Err(_) => Err(Unwritten::Fault),
+    }
+}
