@@ -11,3 +11,4 @@ pub mod TurnAsks
 pub mod OneRecord
 pub mod TurnSteps
 pub mod Grows
+pub mod Causes

@@ -95,7 +95,7 @@ module _ {O : Type 0} (t : ObjectType) (meta : O → ObjectMeta) where
         ∙ ap (find (may_be_asked (world_of t meta) h tn before)) (root-turn (exchanges_with h tn before) k.root)
         ∙ ap (λ ys. if (nat_lt (length ys) (slice_index tn.budget 0) && not (list_any (λ x. is_not_ready x.answer) ys || false)) then Some 0 else None) (made-all before r)
 
-    next-root : (p : Kept O) (before : List (Exchange O)) → IsKept t meta (exchanges_with h tn before) p → AreRoots before → any_not_ready before ≡ false
+    pub next-root : (p : Kept O) (before : List (Exchange O)) → IsKept t meta (exchanges_with h tn before) p → AreRoots before → any_not_ready before ≡ false
         → length before < slice_index tn.budget 0 → next_source (world_of t meta) h tn before ≡ Some 0
     next-root p before k r n l =
         next-is p before k r
@@ -129,7 +129,7 @@ module _ {O : Type 0} (t : ObjectType) (meta : O → ObjectMeta) where
       pub came : AllZip (IsRecorded (world_of t meta).version default_settings) raws xs
       pub roots : AreRoots xs
 
-    walk : (before xs : List (Exchange O)) (raws : List (Raw O)) (p q : Kept O) → IsKept t meta (exchanges_with h tn before) p → AreRoots before
+    pub walk : (before xs : List (Exchange O)) (raws : List (Raw O)) (p q : Kept O) → IsKept t meta (exchanges_with h tn before) p → AreRoots before
         → any_not_ready before ≡ false → length before + length xs ≤ slice_index tn.budget 0 → any_not_ready (but_last xs) ≡ false → AreAsked t meta tn.at p xs raws q
         → AreMade before xs raws q
     walk before [] [] p q k r n l m a =

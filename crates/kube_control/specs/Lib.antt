@@ -13,3 +13,4 @@ pub mod Worlds
 pub mod Stands
 pub mod Records
 pub mod StandsFor
+pub mod NotBuilt

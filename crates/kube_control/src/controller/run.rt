@@ -10,6 +10,7 @@ ghost use Rattle.kube_model.specs.Traces.{IsTrace, steps};
 ghost use Rattle.kube_model.specs.World.{default_settings};
 ghost use Rattle.kube_control.specs.Controllers.{is_spent, api_of, dyntype_of, records_before, IfNotBuiltTurn, IfSpent, IsSpent};
 ghost use Rattle.kube_control.specs.Messages.{handed};
+ghost use Rattle.kube_control.specs.NotBuilt.{IsNotBuiltAfter};
 ghost use Rattle.kube_control.specs.Records.{records_of, turns_of};
 ghost use Rattle.kube_control.specs.StandsFor.{StandsFor, exchanges_in, taken_in, world};
 
@@ -111,8 +112,11 @@ impl<A: ApiMode> Controller<WatchRoot<A>, NoRelated, ()> {
         ensures spent_by_error { OnErr result (is_spent self.new ≡ true) }
         ensures unspent { OnOk result (is_spent self.new ≡ false) }
 
-        // The turn that is not built comes after those that have records.
+        // The turn that is not built comes after those that have records, and has a cause.
         ensures not_built { IfErr result (λ e. IfNotBuiltTurn e (λ turn records. turn ≡ length records)) }
+        ensures cause { (h : List (Step A.Value)) → StandsFor A.Value.type_of A.Value.meta_of h self.old
+            → IfErr result (λ e. IfNotBuiltTurn e (λ turn records. IsNotBuiltAfter (A.Value.type_of (dyntype_of self.old)) A.Value.meta_of A.Value.type_of h turns.items
+            (records_of A.Value.type_of records) (A.talk (api_of self.old)) (A.talk (api_of self.new)))) }
     {
         let mut records = List::new(alloc);
         if self.spent {

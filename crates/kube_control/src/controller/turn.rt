@@ -108,7 +108,7 @@ pub fn take_turn<A: ApiMode, Ctx: Drop, Rc: Reconciler<A::Value, Ctx>, E: Drop>(
     ensures plain { IfOk result (λ r. (r.finished ≡ []) × (r.runner ≡ None) × (r.ended ≡ false)) }
     // It does more than ask, or an answer came that is not built.
     ensures cause { IfErr result (λ f. IfNotBuilt f (DoesMore turn.now last.0
-        ⊎ IsStoppedAsking (A.Value.type_of root.old.state.dyntype) A.Value.meta_of turn.now.at.0 (slice_index turn.now.budget 0)
+        ⊎ OnlyAsks turn.now last.0 × IsStoppedAsking (A.Value.type_of root.old.state.dyntype) A.Value.meta_of turn.now.at.0 (slice_index turn.now.budget 0)
         (kept_of A.Value.type_of root.old.state) (A.talk root.old.api) (A.talk root.new.api))) }
     ensures dyntype { root.new.state.dyntype ≡ root.old.state.dyntype }
 {

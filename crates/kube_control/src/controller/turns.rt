@@ -1,6 +1,6 @@
 //! Turns, one after another.
 
-ghost use Rattle.std.specs.Prelude.{◌≡◌, ◌≤◌, ◌++◌, [], ◌∷◌, List, length, take, IfOk, OnOk, OnErr};
+ghost use Rattle.std.specs.Prelude.{◌≡◌, ◌≤◌, ◌++◌, [], ◌∷◌, List, length, take, IfErr, IfOk, OnOk, OnErr};
 ghost use Rattle.std.specs.List.{filter_map, AllZip};
 ghost use Rattle.kube_model.specs.History.{Step};
 ghost use Rattle.kube_model.specs.Raw.{Raw, grown_by};
@@ -9,8 +9,10 @@ ghost use Rattle.kube_model.specs.Traces.{IsRecord, IsTrace, step, steps};
 ghost use Rattle.kube_model.specs.World.{default_settings};
 ghost use Rattle.kube_control.specs.Controllers.{api_of, dyntype_of};
 ghost use Rattle.kube_control.specs.Messages.{handed};
+ghost use Rattle.kube_control.specs.NotBuilt.{IsNotBuilt, IsNotBuiltAfter};
 ghost use Rattle.kube_control.specs.Records.{record_of, records_of, turn_of, turns_of};
 ghost use Rattle.kube_control.specs.StandsFor.{StandsFor, exchanges_in, taken_in, world};
+ghost use Rattle.kube_control.specs.Unbuilt.{IfNotBuilt};
 
 use crate::controller::Controller;
 use crate::controller::turn::take_turn;
@@ -41,6 +43,10 @@ fn next_turn<A: ApiMode, Ctx: Drop, Rc: Reconciler<A::Value, Ctx>, E: Drop>(
         × (A.talk (api_of controller.new) ≡ grown_by (A.talk (api_of controller.old)) raws)) }
     ensures handed { IfOk result (λ r. Rc.handed reconciler.new
         ≡ grown_by (Rc.handed reconciler.old) (filter_map handed (record_of A.Value.type_of r).taken)) }
+    // Why the turn is not built.
+    ensures cause { (h : List (Step A.Value)) → StandsFor A.Value.type_of A.Value.meta_of h controller.old
+        → IfErr result (λ f. IfNotBuilt f (IsNotBuilt (A.Value.type_of (dyntype_of controller.old)) A.Value.meta_of A.Value.type_of h turn.now
+        (A.talk (api_of controller.old)) (A.talk (api_of controller.new)))) }
     ensures dyntype { dyntype_of controller.new ≡ dyntype_of controller.old }
     ensures spent { controller.new.spent ≡ controller.old.spent }
 {
@@ -73,6 +79,10 @@ pub fn take_turns<A: ApiMode, Ctx: Drop, Rc: Reconciler<A::Value, Ctx>, E: Drop>
         × (A.talk (api_of controller.new) ≡ grown_by (A.talk (api_of controller.old)) raws)) }
     ensures handed { OnOk result (Rc.handed reconciler.new
         ≡ grown_by (Rc.handed reconciler.old) (filter_map handed (taken_in (records_of A.Value.type_of records.new)))) }
+    // Why the turn after those that have records is not built.
+    ensures cause { (h : List (Step A.Value)) → StandsFor A.Value.type_of A.Value.meta_of h controller.old
+        → IfErr result (λ f. IfNotBuilt f (IsNotBuiltAfter (A.Value.type_of (dyntype_of controller.old)) A.Value.meta_of A.Value.type_of h turns.now
+        (records_of A.Value.type_of records.new) (A.talk (api_of controller.old)) (A.talk (api_of controller.new)))) }
     ensures dyntype { dyntype_of controller.new ≡ dyntype_of controller.old }
     ensures spent { controller.new.spent ≡ controller.old.spent }
 {

@@ -5,6 +5,8 @@ use Rattle.kube_control.specs.Exchanges.{waiting_after}
 use Rattle.kube_control.specs.Messages.{handed, take_of}
 use Rattle.kube_control.specs.Views.{exchange_of, kept_of, taken_of}
 use Rattle.kube_control.proofs.TurnSteps.{turn-taken, record-is, asked-recorded, filter_map-some}
+use Rattle.std.proofs.lemmas.Result.{err_from_is_err_and}
+use Rattle.kube_control.proofs.Causes.{cause-weaker, turn-cause}
 use Rattle.kube_control.proofs.controller.turns.next_turn.Goals as goal
 
 pub returns-clause-made : goal.returns-clause-made
@@ -40,3 +42,12 @@ returns-clause-handed g c =
     e.handed
     ∙ ap (λ ts. grown_by (g.Rc.Reconciler.handed c.args.reconciler.now) (filter_map handed ts))
     (sym (filter_map-some (taken_of type_of) (take_of stored) c.in_ok-record.record.taken (waiting_after (map (exchange_of type_of) c.in_ok-record.record.exchanges)) e.taken))
+
+pub returns-in_err-record-clause-cause : goal.returns-in_err-record-clause-cause
+returns-in_err-record-clause-cause g c h s =
+    let type_of = g.A.Value.Resource.type_of in
+    let old = c.args.controller.now.root.state in
+    let p = err_from_is_err_and c.from_residual.result c.from_residual.ensures.1 in
+    rw (p.1, p.2) (cause-weaker c.in_err-record.field-0.0
+    (turn-cause (type_of old.dyntype) g.A.Value.Resource.meta_of type_of h (kept_of type_of old) c.args.controller.now.last.0 c.args.turn.now _ _ s.stands)
+    c.in_err-record.ensures.cause)

@@ -1,4 +1,4 @@
-use Rattle.std.proofs.Common.{◌≡◌, ◌++◌, ◌+◌, [], ◌∷◌, length, take, refl, sym, ap, subst, ◌∙◌, append-nil, length-append, arith}
+use Rattle.std.proofs.Common.{◌≡◌, ◌++◌, ◌+◌, ◌<◌, [], ◌∷◌, length, take, slice_get, refl, sym, ap, subst, ◌∙◌, append-nil, length-append, arith}
 use Rattle.std.specs.List.{filter_map, AllZip}
 use Rattle.std.proofs.lemmas.List.{map-append, length-map, length-take-le, take_more}
 use Rattle.std.proofs.lemmas.List.Elements.{filter_map-append}
@@ -6,11 +6,15 @@ use Rattle.kube_model.specs.Raw.{grown_by}
 use Rattle.kube_model.specs.Recorded.{IsRecorded}
 use Rattle.kube_model.specs.Traces.{IsRecord, steps}
 use Rattle.kube_model.specs.World.{default_settings}
-use Rattle.kube_control.specs.Controllers.{api_of}
+use Rattle.kube_control.specs.Controllers.{api_of, dyntype_of}
 use Rattle.kube_control.specs.Messages.{handed}
 use Rattle.kube_control.specs.Records.{record_of, records_of, turn_of, turns_of}
 use Rattle.kube_control.specs.StandsFor.{StandsFor, exchanges_in, taken_in, world}
 use Rattle.kube_control.specs.Worlds.{world_of}
+use Rattle.std.proofs.lemmas.Option.{slice_get_read}
+use Rattle.std.proofs.lemmas.Result.{err_from_is_err_and}
+use Rattle.kube_control.specs.NotBuilt.{IsNotBuilt}
+use Rattle.kube_control.proofs.Causes.{cause-weaker}
 use Rattle.kube_control.proofs.Grows.{grown-nil, grown-append, zip-append}
 use Rattle.kube_control.proofs.TurnSteps.{trace-goes-on, exchanges-push, taken-push}
 use Rattle.kube_control.proofs.controller.turns.take_turns.Goals as goal
@@ -78,3 +82,30 @@ loop-turn-preserved g c =
           ∙ filter_map-append handed (taken_in (records_of type_of c.loop-turn.records)) (record_of type_of c.in_ok-record.record).taken));
       dyntype = e.dyntype ∙ i.dyntype;
     }
+
+pub returns-in_err-record-clause-cause : goal.returns-in_err-record-clause-cause
+returns-in_err-record-clause-cause g c h s =
+    let type_of = g.A.Value.Resource.type_of in
+    let meta = g.A.Value.Resource.meta_of in
+    let i = c.loop-turn.invariant in
+    let n = c.loop-turn.turn-index in
+    let turns = c.args.turns.now in
+    let rs = records_of type_of c.loop-turn.records in
+    let here : n < length turns = omega arith in
+    let many : length rs ≡ n = length-map c.loop-turn.records (record_of type_of) ∙ i.count in
+    let p = err_from_is_err_and c.from_residual.result c.from_residual.ensures.1 in
+    rw (p.1, p.2) (cause-weaker c.in_err-record.field-0.0
+    (λ nb. record {
+      turn = c.turn-item.result;
+      there = ap (slice_get turns) many ∙ slice_get_read turns (length turns) n c.turn-item.result refl here c.turn-item.is;
+      raws = i.talk.0;
+      recorded = i.talk.1;
+      cause =
+          subst (λ m. IsNotBuilt (type_of (dyntype_of c.args.controller.now)) meta type_of (h ++ steps (turns_of type_of (take m turns)) rs) c.turn-item.result
+              (grown_by (g.A.ApiMode.talk (api_of c.args.controller.now)) i.talk.0) (g.A.ApiMode.talk (api_of c.next_turn.new.controller))) (sym many)
+          (subst (λ o. IsNotBuilt (type_of (dyntype_of c.args.controller.now)) meta type_of (h ++ steps (turns_of type_of (take n turns)) rs) c.turn-item.result
+              o (g.A.ApiMode.talk (api_of c.next_turn.new.controller))) i.talk.2
+          (subst (λ d. IsNotBuilt (type_of d) meta type_of (h ++ steps (turns_of type_of (take n turns)) rs) c.turn-item.result
+              (g.A.ApiMode.talk (api_of c.loop-turn.controller)) (g.A.ApiMode.talk (api_of c.next_turn.new.controller))) i.dyntype nb));
+    })
+    (c.in_err-record.ensures.cause (h ++ steps (turns_of type_of (take n turns)) rs) (i.trace h s).1))

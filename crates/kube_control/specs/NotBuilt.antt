@@ -1,0 +1,55 @@
+-- Why a turn after a history is not built.
+use Rattle.std.specs.Prelude.{◌≡◌, ◌⊎◌, Bool, true, List, [], ◌∷◌, ◌++◌, length, take, slice_get, Option, Some}
+use Rattle.std.specs.List.{AllZip}
+use Rattle.kube_meta.specs.declared.metadata.ObjectMeta.{ObjectMeta}
+use Rattle.kube_meta.specs.Reference.{ObjectType}
+use Rattle.kube_model.specs.declared.call.Call.{Call}
+use Rattle.kube_model.specs.declared.call.Call.TheVariants.{List as ListCall, Watch, Next, Stream}
+use Rattle.kube_model.specs.World.{Watched, default_settings}
+use Rattle.kube_model.specs.Raw.{Raw, RawAnswer, grown_by}
+use Rattle.kube_model.specs.History.{Exchange, Turn, TurnRecord, Step, exchanges_with, exchanges_of, dated_of}
+use Rattle.kube_model.specs.Owed.{owed}
+use Rattle.kube_model.specs.Fits.{is_window_over, silent_since}
+use Rattle.kube_model.specs.Recorded.{IsRecorded, raw_call}
+use Rattle.kube_model.specs.Turns.{next_source}
+use Rattle.kube_model.specs.Traces.{EachIsNext, last_moment, steps}
+use Rattle.kube_control.specs.declared.turn.Turn.{Turn as HeldTurn}
+use Rattle.kube_control.specs.Exchanges.{HasUnnamed, window}
+use Rattle.kube_control.specs.Records.{turn_of, turns_of}
+use Rattle.kube_control.specs.StandsFor.{exchanges_in}
+use Rattle.kube_control.specs.Unbuilt.{DoesMore, IsUnbuiltPage, IsUnbuiltOpening, IsUnbuiltNext}
+use Rattle.kube_control.specs.Worlds.{world_of}
+
+-- an answer to a call that is not built: to a list anything but a page with a version and no token whose objects have names; to a watch anything but that it is open; to a look at it anything but not ready, and that too where its window is over
+abbrev pub IsUnbuiltAnswer : {O : Type 0} → (O → ObjectMeta) → Bool → Call → RawAnswer O → Type 0
+IsUnbuiltAnswer meta over (ListCall token) answer = IsUnbuiltPage answer ⊎ HasUnnamed meta answer
+IsUnbuiltAnswer meta over (Watch version initial) answer = IsUnbuiltOpening answer
+IsUnbuiltAnswer meta over Next answer = IsUnbuiltNext answer ⊎ (over ≡ true)
+IsUnbuiltAnswer meta over Stream answer = ⊥
+
+module _ {O : Type 0} (t : ObjectType) (meta : O → ObjectMeta) where
+  -- in a turn after a history the root made these exchanges, was asked once more by the call that it owes, and was answered by what is not built; the API's talk grew by all of these
+  pub record IsAnsweredUnbuilt (h : List (Step O)) (turn : Turn) (old new : Option (List (Raw O))) : Type 0 where
+    pub before : List (Exchange O)
+    pub made : EachIsNext (world_of t meta) h turn [] before
+    pub next : next_source (world_of t meta) h turn before ≡ Some 0
+    pub raws : List (Raw O)
+    pub recorded : AllZip (IsRecorded (world_of t meta).version default_settings) raws before
+    pub unbuilt : Raw O
+    pub call : raw_call default_settings (owed (Watched default_settings) (exchanges_of 0 (exchanges_with h turn before))) ≡ Some unbuilt.call
+    pub answer : IsUnbuiltAnswer meta (is_window_over (Some window) (silent_since (dated_of 0 (exchanges_with h turn before))) turn.at)
+        (owed (Watched default_settings) (exchanges_of 0 (exchanges_with h turn before))) unbuilt.answer
+    pub told : new ≡ grown_by old (raws ++ unbuilt ∷ [])
+
+  -- a turn after a history is not built: its moment is too late or falls, it has finishes, named references, a reload or a shutdown, or an answer in it is not built
+  pub data IsNotBuilt {D E : Type 0} (type_of : D → ObjectType) (h : List (Step O)) (turn : HeldTurn O E D) (old new : Option (List (Raw O))) : Type 0 where
+    Asks : DoesMore turn (last_moment h) → IsNotBuilt type_of h turn old new
+    Answered : IsAnsweredUnbuilt h (turn_of type_of turn) old new → IsNotBuilt type_of h turn old new
+
+  -- the turn after those with these records is not built; the API's talk grew by the records' exchanges before it
+  pub record IsNotBuiltAfter {D E : Type 0} (type_of : D → ObjectType) (h : List (Step O)) (turns : List (HeldTurn O E D)) (records : List (TurnRecord O)) (old new : Option (List (Raw O))) : Type 0 where
+    pub turn : HeldTurn O E D
+    pub there : slice_get turns (length records) ≡ Some turn
+    pub raws : List (Raw O)
+    pub recorded : AllZip (IsRecorded (world_of t meta).version default_settings) raws (exchanges_in records)
+    pub cause : IsNotBuilt type_of (h ++ steps (turns_of type_of (take (length records) turns)) records) turn (grown_by old raws) new
