@@ -50,8 +50,8 @@ module _ {O : Type 0} (t : ObjectType) (meta : O → ObjectMeta) where
       → IsStoppedAsking t meta tn.at (slice_index tn.budget 0) p old new → IsAnsweredUnbuilt t meta h tn old new
   answered-unbuilt h p last tn old new s open_turn stop =
       let made : AreMade t meta h tn s.unshut open_turn [] stop.before stop.raws stop.kept =
-          walk t meta h tn s.unshut open_turn [] stop.before stop.raws p stop.kept (subst (λ ds. IsKept t meta ds p) (sym (append-nil (exchanges h))) s.kept) tt refl
-          (let r = stop.room in omega arith) (ready-but-last stop.before stop.ready) stop.asked in
+      walk t meta h tn s.unshut open_turn [] stop.before stop.raws p stop.kept (subst (λ ds. IsKept t meta ds p) (sym (append-nil (exchanges h))) s.kept) tt refl
+      (let r = stop.room in omega arith) (ready-but-last stop.before stop.ready) stop.asked in
       record {
         before = stop.before;
         made = made.next;

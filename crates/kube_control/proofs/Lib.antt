@@ -12,3 +12,4 @@ pub mod OneRecord
 pub mod TurnSteps
 pub mod Grows
 pub mod Causes
+pub mod BuiltTurns

@@ -14,3 +14,4 @@ pub mod Stands
 pub mod Records
 pub mod StandsFor
 pub mod NotBuilt
+pub mod Built

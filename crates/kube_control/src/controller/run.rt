@@ -8,6 +8,7 @@ ghost use Rattle.kube_model.specs.Recorded.{IsRecorded};
 ghost use Rattle.kube_model.specs.Settled.{IsSettled};
 ghost use Rattle.kube_model.specs.Traces.{IsTrace, steps};
 ghost use Rattle.kube_model.specs.World.{default_settings};
+ghost use Rattle.kube_control.specs.Built.{IsBuilt};
 ghost use Rattle.kube_control.specs.Controllers.{is_spent, api_of, dyntype_of, records_before, IfNotBuiltTurn, IfSpent, IsSpent};
 ghost use Rattle.kube_control.specs.Messages.{handed};
 ghost use Rattle.kube_control.specs.NotBuilt.{IsNotBuiltAfter};
@@ -112,7 +113,11 @@ impl<A: ApiMode> Controller<WatchRoot<A>, NoRelated, ()> {
         ensures spent_by_error { OnErr result (is_spent self.new ≡ true) }
         ensures unspent { OnOk result (is_spent self.new ≡ false) }
 
-        // The turn that is not built comes after those that have records, and has a cause.
+        // The turns that have records are built.
+        ensures built { IfOk result (λ r. AllZip (IsBuilt A.Value.type_of A.Value.meta_of) (take (length r.records) turns.items) r.records) }
+        ensures built_before { IfErr result (λ e. AllZip (IsBuilt A.Value.type_of A.Value.meta_of) (take (length (records_before e)) turns.items) (records_before e)) }
+
+        // The turn that is not built comes after those, and has a cause.
         ensures not_built { IfErr result (λ e. IfNotBuiltTurn e (λ turn records. turn ≡ length records)) }
         ensures cause { (h : List (Step A.Value)) → StandsFor A.Value.type_of A.Value.meta_of h self.old
             → IfErr result (λ e. IfNotBuiltTurn e (λ turn records. IsNotBuiltAfter (A.Value.type_of (dyntype_of self.old)) A.Value.meta_of A.Value.type_of h turns.items

@@ -7,6 +7,7 @@ ghost use Rattle.kube_model.specs.Raw.{Raw, grown_by};
 ghost use Rattle.kube_model.specs.Recorded.{IsRecorded};
 ghost use Rattle.kube_model.specs.Traces.{IsRecord, IsTrace, step, steps};
 ghost use Rattle.kube_model.specs.World.{default_settings};
+ghost use Rattle.kube_control.specs.Built.{IsBuilt};
 ghost use Rattle.kube_control.specs.Controllers.{api_of, dyntype_of};
 ghost use Rattle.kube_control.specs.Messages.{handed};
 ghost use Rattle.kube_control.specs.NotBuilt.{IsNotBuilt, IsNotBuiltAfter};
@@ -43,6 +44,7 @@ fn next_turn<A: ApiMode, Ctx: Drop, Rc: Reconciler<A::Value, Ctx>, E: Drop>(
         × (A.talk (api_of controller.new) ≡ grown_by (A.talk (api_of controller.old)) raws)) }
     ensures handed { IfOk result (λ r. Rc.handed reconciler.new
         ≡ grown_by (Rc.handed reconciler.old) (filter_map handed (record_of A.Value.type_of r).taken)) }
+    ensures built { IfOk result (λ r. IsBuilt A.Value.type_of A.Value.meta_of turn.now r) }
     // Why the turn is not built.
     ensures cause { (h : List (Step A.Value)) → StandsFor A.Value.type_of A.Value.meta_of h controller.old
         → IfErr result (λ f. IfNotBuilt f (IsNotBuilt (A.Value.type_of (dyntype_of controller.old)) A.Value.meta_of A.Value.type_of h turn.now
@@ -79,7 +81,9 @@ pub fn take_turns<A: ApiMode, Ctx: Drop, Rc: Reconciler<A::Value, Ctx>, E: Drop>
         × (A.talk (api_of controller.new) ≡ grown_by (A.talk (api_of controller.old)) raws)) }
     ensures handed { OnOk result (Rc.handed reconciler.new
         ≡ grown_by (Rc.handed reconciler.old) (filter_map handed (taken_in (records_of A.Value.type_of records.new)))) }
-    // Why the turn after those that have records is not built.
+    // The turns that have records are built.
+    ensures built { AllZip (IsBuilt A.Value.type_of A.Value.meta_of) (take (length records.new) turns.now) records.new }
+    // Why the turn after those is not built.
     ensures cause { (h : List (Step A.Value)) → StandsFor A.Value.type_of A.Value.meta_of h controller.old
         → IfErr result (λ f. IfNotBuilt f (IsNotBuiltAfter (A.Value.type_of (dyntype_of controller.old)) A.Value.meta_of A.Value.type_of h turns.now
         (records_of A.Value.type_of records.new) (A.talk (api_of controller.old)) (A.talk (api_of controller.new)))) }

@@ -6,6 +6,7 @@ use Rattle.kube_control.specs.Messages.{handed, take_of}
 use Rattle.kube_control.specs.Views.{exchange_of, kept_of, taken_of}
 use Rattle.kube_control.proofs.TurnSteps.{turn-taken, record-is, asked-recorded, filter_map-some}
 use Rattle.std.proofs.lemmas.Result.{err_from_is_err_and}
+use Rattle.kube_control.proofs.BuiltTurns.{all-built, each-some}
 use Rattle.kube_control.proofs.Causes.{cause-weaker, turn-cause}
 use Rattle.kube_control.proofs.controller.turns.next_turn.Goals as goal
 
@@ -51,3 +52,20 @@ returns-in_err-record-clause-cause g c h s =
     rw (p.1, p.2) (cause-weaker c.in_err-record.field-0.0
     (turn-cause (type_of old.dyntype) g.A.Value.Resource.meta_of type_of h (kept_of type_of old) c.args.controller.now.last.0 c.args.turn.now _ _ s.stands)
     c.in_err-record.ensures.cause)
+
+pub returns-clause-built : goal.returns-clause-built
+returns-clause-built g c =
+    let type_of = g.A.Value.Resource.type_of in
+    let meta = g.A.Value.Resource.meta_of in
+    let e = c.in_ok-record.ensures in
+    let old = c.args.controller.now.root.state in
+    let new = c.take_turn.new.root.state in
+    let xs = map (exchange_of type_of) c.in_ok-record.record.exchanges in
+    record {
+      finishes = e.only_asks.finishes;
+      reload = e.only_asks.reload;
+      on = e.only_asks.on;
+      shutdown = e.only_asks.shutdown;
+      exchanges = all-built (type_of old.dyntype) meta c.args.turn.now.at.0 (kept_of type_of old) xs e.asked.0 (kept_of type_of new) e.asked.1;
+      taken = each-some (taken_of type_of) (take_of (kept_of type_of new).stored) c.in_ok-record.record.taken (waiting_after xs) e.taken;
+    }

@@ -6,6 +6,7 @@ use Rattle.kube_model.specs.Raw.{grown_by}
 use Rattle.kube_model.specs.Recorded.{IsRecorded}
 use Rattle.kube_model.specs.Traces.{IsRecord, steps}
 use Rattle.kube_model.specs.World.{default_settings}
+use Rattle.kube_control.specs.Built.{IsBuilt}
 use Rattle.kube_control.specs.Controllers.{api_of, dyntype_of}
 use Rattle.kube_control.specs.Messages.{handed}
 use Rattle.kube_control.specs.Records.{record_of, records_of, turn_of, turns_of}
@@ -34,6 +35,7 @@ loop-turn-init g c =
       );
       handed =
           sym (ap (λ rs. grown_by (g.Rc.Reconciler.handed c.args.reconciler.now) (filter_map handed (taken_in rs))) none ∙ grown-nil (g.Rc.Reconciler.handed c.args.reconciler.now));
+      built = subst (λ rs. AllZip (IsBuilt type_of g.A.Value.Resource.meta_of) [] rs) (sym c.requires) tt;
       dyntype = refl;
     }
 
@@ -80,6 +82,10 @@ loop-turn-preserved g c =
           ∙ ap (grown_by (g.Rc.Reconciler.handed c.args.reconciler.now))
           (sym (ap (filter_map handed) (taken-push (records_of type_of c.loop-turn.records) (records_of type_of c.push.new.self) (record_of type_of c.in_ok-record.record) rs)
           ∙ filter_map-append handed (taken_in (records_of type_of c.loop-turn.records)) (record_of type_of c.in_ok-record.record).taken));
+      built =
+          subst (λ ts. AllZip (IsBuilt type_of meta) ts c.push.new.self) (sym more)
+          (subst (AllZip (IsBuilt type_of meta) (take n turns ++ c.turn-item.result ∷ [])) (sym c.in_ok-push.ensures.ok)
+          (zip-append (IsBuilt type_of meta) (take n turns) c.loop-turn.records (c.turn-item.result ∷ []) (c.in_ok-record.record ∷ []) i.built (e.built, tt)));
       dyntype = e.dyntype ∙ i.dyntype;
     }
 
@@ -102,10 +108,10 @@ returns-in_err-record-clause-cause g c h s =
       recorded = i.talk.1;
       cause =
           subst (λ m. IsNotBuilt (type_of (dyntype_of c.args.controller.now)) meta type_of (h ++ steps (turns_of type_of (take m turns)) rs) c.turn-item.result
-              (grown_by (g.A.ApiMode.talk (api_of c.args.controller.now)) i.talk.0) (g.A.ApiMode.talk (api_of c.next_turn.new.controller))) (sym many)
+          (grown_by (g.A.ApiMode.talk (api_of c.args.controller.now)) i.talk.0) (g.A.ApiMode.talk (api_of c.next_turn.new.controller))) (sym many)
           (subst (λ o. IsNotBuilt (type_of (dyntype_of c.args.controller.now)) meta type_of (h ++ steps (turns_of type_of (take n turns)) rs) c.turn-item.result
-              o (g.A.ApiMode.talk (api_of c.next_turn.new.controller))) i.talk.2
+          o (g.A.ApiMode.talk (api_of c.next_turn.new.controller))) i.talk.2
           (subst (λ d. IsNotBuilt (type_of d) meta type_of (h ++ steps (turns_of type_of (take n turns)) rs) c.turn-item.result
-              (g.A.ApiMode.talk (api_of c.loop-turn.controller)) (g.A.ApiMode.talk (api_of c.next_turn.new.controller))) i.dyntype nb));
+          (g.A.ApiMode.talk (api_of c.loop-turn.controller)) (g.A.ApiMode.talk (api_of c.next_turn.new.controller))) i.dyntype nb));
     })
     (c.in_err-record.ensures.cause (h ++ steps (turns_of type_of (take n turns)) rs) (i.trace h s).1))

@@ -5,6 +5,7 @@ use Rattle.kube_model.specs.Raw.{Raw, grown_by}
 use Rattle.kube_model.specs.Recorded.{IsRecorded}
 use Rattle.kube_model.specs.Traces.{IsTrace, steps}
 use Rattle.kube_model.specs.World.{default_settings}
+use Rattle.kube_control.specs.Built.{IsBuilt}
 use Rattle.kube_control.specs.Controllers.{api_of, dyntype_of}
 use Rattle.kube_control.specs.Messages.{handed}
 use Rattle.kube_control.specs.Records.{records_of, turns_of}
@@ -25,5 +26,6 @@ invariant-loop-turn g l =
       talk : (raws : List (Raw _)) × AllZip (IsRecorded (world type_of meta l.fn.controller).version default_settings) raws (exchanges_in rs)
           × (g.A.ApiMode.talk (api_of l.controller) ≡ grown_by (g.A.ApiMode.talk (api_of l.fn.controller)) raws);
       handed : g.Rc.Reconciler.handed l.reconciler ≡ grown_by (g.Rc.Reconciler.handed l.fn.reconciler) (filter_map handed (taken_in rs));
+      built : AllZip (IsBuilt type_of meta) (take l.turn-index l.turns) l.records;
       dyntype : dyntype_of l.controller ≡ dyntype_of l.fn.controller;
     }
