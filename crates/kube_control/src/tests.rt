@@ -5,6 +5,7 @@ use crate::{
     Shutdown, Stop, Taken, Trace, Turn, TurnRecord, WatchRoot,
 };
 use kube_api::{Page, Sequence, SequenceStep, TestMode};
+use kube_meta::text::copy_option;
 use kube_meta::{ApiResource, DynamicObject, List, Moment, NoMemory, ObjectMeta, ObjectRef, Text};
 use std::alloc::Global;
 use std::sync::Arc;
@@ -356,5 +357,18 @@ fn waits_within_the_window_alone(rt: HostRuntime) -> Result<(), Fail> {
         )?;
         assert_eq!(rt; end_of(&played), want, "at {at}");
     }
+    Ok(())
+}
+
+#[test]
+fn copies_are_equal(rt: HostRuntime) -> Result<(), Fail> {
+    let alloc = rt.alloc();
+    let text = Text::new(alloc, "ab")?;
+    let cloned = text.clone()?;
+    assert!(rt; cloned == text);
+    assert!(rt; copy_option(alloc, &Some(cloned))? == Some(text.copy(alloc)?));
+    let reason = ReconcileReason::Custom { reason: text };
+    let copied = reason.copy(alloc)?;
+    assert!(rt; matches!(copied, ReconcileReason::Custom { .. }));
     Ok(())
 }

@@ -93,6 +93,10 @@ impl<A: ApiMode> Controller<WatchRoot<A>, NoRelated, ()> {
         ensures handed { IfOk result (λ r. Rc.handed reconciler.new
             ≡ grown_by (Rc.handed reconciler.old) (filter_map handed (taken_in (records_of A.Value.type_of r.records)))) }
 
+        // So it does where a turn is not built: that turn starts nothing.
+        ensures handed_before { IfErr result (λ e. IfNotBuiltTurn e (λ turn records. Rc.handed reconciler.new
+            ≡ grown_by (Rc.handed reconciler.old) (filter_map handed (taken_in (records_of A.Value.type_of records))))) }
+
         // Each stored object was last handed over as it stands, or its key has an entry.
         ensures settled { (ts : List PlainTurn) (rs : List (PlainRecord A.Value)) → IsTrace (world A.Value.type_of A.Value.meta_of self.old) [] ts rs
             → StandsFor A.Value.type_of A.Value.meta_of (steps ts rs) self.old

@@ -110,6 +110,8 @@ pub fn take_turn<A: ApiMode, Ctx: Drop, Rc: Reconciler<A::Value, Ctx>, E: Drop>(
     ensures cause { IfErr result (λ f. IfNotBuilt f (DoesMore turn.now last.0
         ⊎ OnlyAsks turn.now last.0 × IsStoppedAsking (A.Value.type_of root.old.state.dyntype) A.Value.meta_of turn.now.at.0 (slice_index turn.now.budget 0)
         (kept_of A.Value.type_of root.old.state) (A.talk root.old.api) (A.talk root.new.api))) }
+    // A turn that is not built starts nothing.
+    ensures starts_nothing { IfErr result (λ f. IfNotBuilt f (Rc.handed reconciler.new ≡ Rc.handed reconciler.old)) }
     ensures dyntype { root.new.state.dyntype ≡ root.old.state.dyntype }
 {
     test(turn, last)?;

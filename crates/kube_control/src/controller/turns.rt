@@ -45,6 +45,7 @@ fn next_turn<A: ApiMode, Ctx: Drop, Rc: Reconciler<A::Value, Ctx>, E: Drop>(
     ensures handed { IfOk result (λ r. Rc.handed reconciler.new
         ≡ grown_by (Rc.handed reconciler.old) (filter_map handed (record_of A.Value.type_of r).taken)) }
     ensures built { IfOk result (λ r. IsBuilt A.Value.type_of A.Value.meta_of turn.now r) }
+    ensures starts_nothing { IfErr result (λ f. IfNotBuilt f (Rc.handed reconciler.new ≡ Rc.handed reconciler.old)) }
     // Why the turn is not built.
     ensures cause { (h : List (Step A.Value)) → StandsFor A.Value.type_of A.Value.meta_of h controller.old
         → IfErr result (λ f. IfNotBuilt f (IsNotBuilt (A.Value.type_of (dyntype_of controller.old)) A.Value.meta_of A.Value.type_of h turn.now
@@ -81,6 +82,8 @@ pub fn take_turns<A: ApiMode, Ctx: Drop, Rc: Reconciler<A::Value, Ctx>, E: Drop>
         × (A.talk (api_of controller.new) ≡ grown_by (A.talk (api_of controller.old)) raws)) }
     ensures handed { OnOk result (Rc.handed reconciler.new
         ≡ grown_by (Rc.handed reconciler.old) (filter_map handed (taken_in (records_of A.Value.type_of records.new)))) }
+    ensures handed_before { IfErr result (λ f. IfNotBuilt f (Rc.handed reconciler.new
+        ≡ grown_by (Rc.handed reconciler.old) (filter_map handed (taken_in (records_of A.Value.type_of records.new))))) }
     // The turns that have records are built.
     ensures built { AllZip (IsBuilt A.Value.type_of A.Value.meta_of) (take (length records.new) turns.now) records.new }
     // Why the turn after those is not built.

@@ -115,3 +115,9 @@ returns-in_err-record-clause-cause g c h s =
           (g.A.ApiMode.talk (api_of c.loop-turn.controller)) (g.A.ApiMode.talk (api_of c.next_turn.new.controller))) i.dyntype nb));
     })
     (c.in_err-record.ensures.cause (h ++ steps (turns_of type_of (take n turns)) rs) (i.trace h s).1))
+
+pub returns-in_err-record-clause-handed_before : goal.returns-in_err-record-clause-handed_before
+returns-in_err-record-clause-handed_before g c =
+    let i = c.loop-turn.invariant in
+    let p = err_from_is_err_and c.from_residual.result c.from_residual.ensures.1 in
+    rw (p.1, p.2) (cause-weaker c.in_err-record.field-0.0 (λ same. same ∙ i.handed) c.in_err-record.ensures.starts_nothing)
