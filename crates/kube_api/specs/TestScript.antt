@@ -1,5 +1,5 @@
 -- What a scripted API has left to answer, and what each call is answered. V is the type of objects. (kube-runtime's `TestMode` of its watcher tests.)
-use Rattle.std.specs.Prelude.{ℕ, ◌+◌, ◌-◌, ◌^◌, ◌<◌, min, nat_le, if◌then◌else◌, List, [], ◌∷◌, ◌++◌, drop, Option, Some, None, unwrap_or, codes}
+use Rattle.std.specs.Prelude.{◌≡◌, ℕ, ◌+◌, ◌-◌, ◌^◌, ◌<◌, min, nat_le, if◌then◌else◌, List, [], ◌∷◌, ◌++◌, drop, Option, Some, None, unwrap_or, codes}
 use Rattle.kube_model.specs.declared.params.ListParams.{ListParams}
 use Rattle.kube_model.specs.declared.params.WatchParams.{WatchParams}
 use Rattle.kube_model.specs.declared.error.ApiError.TheVariants.{ReadEvents}
@@ -103,3 +103,20 @@ polled now s = poll_current now s.current
 
 abbrev pub after_next : {V : Type 0} → ℕ → Script V → Script V
 after_next now s = told NextAsked (polled now s) (record s { current = left_current now s.current })
+
+-- what a call is answered at a moment
+abbrev pub answered : {V : Type 0} → RawCall → ℕ → Script V → RawAnswer V
+answered (ListAsked params) now s = listed s
+answered (WatchAsked params version) now s = watched s
+answered NextAsked now s = polled now s
+
+-- what it leaves
+abbrev pub left_by : {V : Type 0} → RawCall → ℕ → Script V → Script V
+left_by (ListAsked params) now s = after_list params s
+left_by (WatchAsked params version) now s = after_watch params version s
+left_by NextAsked now s = after_next now s
+
+-- a call at a moment is answered as the script has it, and leaves what the script then has left
+pub record IsMove {V : Type 0} (old : Script V) (now : ℕ) (raw : Raw V) (new : Script V) : Type 0 where
+  pub answer : raw.answer ≡ answered raw.call now old
+  pub left : new ≡ left_by raw.call now old

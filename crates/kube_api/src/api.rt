@@ -11,7 +11,7 @@ use std::alloc::Global;
 /// The open watch lives in the value: a watch call that opens closes the old one. Want of memory takes nothing
 /// from what the API tells.
 pub trait ApiMode: Drop {
-    ghost use Rattle.std.specs.Prelude.{ℕ, List, Option, IfOk, OnErr, ◌≡◌, ◌≤◌};
+    ghost use Rattle.std.specs.Prelude.{ℕ, List, Option, IfOk, OnErr, ⊤, ◌≡◌, ◌≤◌};
     ghost use Rattle.kube_model.specs.Raw.{Raw, grown, ListAsked, WatchAsked, NextAsked, Ends, FaultRose, IsNeverOpened, is_fault};
     ghost use Rattle.kube_api.specs.Answers.{list_answer, watch_answer, next_answer, is_watch_fault};
 
@@ -24,6 +24,10 @@ pub trait ApiMode: Drop {
     /// How often a call failed.
     ghost faults: { Self → ℕ };
 
+    /// What a call with its answer, at a moment in nanoseconds, makes of the API, where it says so: the API before it, the
+    /// moment, the call with its answer, the API after it. Where it doesn't say so that may be anything.
+    ghost moves: { Self → ℕ → Raw Self.Value → Self → Type 0 } = { λ _ _ _ _. ⊤ };
+
     /// A page of a list.
     fn list(
         &mut self,
@@ -33,6 +37,7 @@ pub trait ApiMode: Drop {
     ) -> Result<Polled<Result<Page<Self::Value>, ApiError>>, NoMemory>
         ensures grows { IfOk result (λ a. talk self.new ≡ grown (talk self.old) (record { call = ListAsked params.now; answer = list_answer a })) }
         ensures unchanged { OnErr result (talk self.new ≡ talk self.old) }
+        ensures moves { IfOk result (λ a. moves self.old now.0 (record { call = ListAsked params.now; answer = list_answer a }) self.new) }
         ensures faults { IfOk result (λ a. FaultRose (is_fault (list_answer a)) (faults self.old) (faults self.new)) }
         ensures rises { faults self.old ≤ faults self.new };
 
@@ -46,6 +51,7 @@ pub trait ApiMode: Drop {
     ) -> Result<Polled<Result<(), ApiError>>, NoMemory>
         ensures grows { IfOk result (λ a. talk self.new ≡ grown (talk self.old) (record { call = WatchAsked params.now version.now; answer = watch_answer a })) }
         ensures unchanged { OnErr result (talk self.new ≡ talk self.old) }
+        ensures moves { IfOk result (λ a. moves self.old now.0 (record { call = WatchAsked params.now version.now; answer = watch_answer a }) self.new) }
         ensures faults { IfOk result (λ a. FaultRose (is_watch_fault a) (faults self.old) (faults self.new)) }
         ensures rises { faults self.old ≤ faults self.new };
 
@@ -57,6 +63,7 @@ pub trait ApiMode: Drop {
     ) -> Result<Polled<Option<Result<WatchEvent<Self::Value>, ApiError>>>, NoMemory>
         ensures grows { IfOk result (λ a. talk self.new ≡ grown (talk self.old) (record { call = NextAsked; answer = next_answer a })) }
         ensures unchanged { OnErr result (talk self.new ≡ talk self.old) }
+        ensures moves { IfOk result (λ a. moves self.old now.0 (record { call = NextAsked; answer = next_answer a }) self.new) }
         ensures never_opened { IsNeverOpened (talk self.old) → IfOk result (λ a. next_answer a ≡ Ends) }
         ensures faults { IfOk result (λ a. FaultRose (is_fault (next_answer a)) (faults self.old) (faults self.new)) }
         ensures rises { faults self.old ≤ faults self.new };

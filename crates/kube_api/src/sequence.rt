@@ -50,6 +50,7 @@ impl<K: Drop> Sequence<K> {
             steps: Vec::new(alloc),
         }
     }
+
     /// Its steps.
     pub(crate) fn into_steps(self) -> Vec<SequenceStep<K>>
         ensures { steps_of result.items ≡ self }

@@ -4,7 +4,7 @@ ghost use Rattle.std.specs.Prelude.{◌≡◌, ◌≤◌, [], IfOk, OnOk, OnErr,
 ghost use Rattle.kube_model.specs.Raw.{grown, ListAsked, WatchAsked, NextAsked, Ends, FaultRose, IsNeverOpened, is_fault};
 ghost use Rattle.kube_api.specs.Answers.{list_answer, watch_answer, next_answer, is_watch_fault};
 ghost use Rattle.kube_api.specs.Recordings.{call_of, answer_of};
-ghost use Rattle.kube_api.specs.TestScript.{told, first_page, listed, after_list, first_watch, watch_after, watched, after_watch, poll_current, left_current, polled, after_next, IsSilent};
+ghost use Rattle.kube_api.specs.TestScript.{told, first_page, listed, after_list, first_watch, watch_after, watched, after_watch, poll_current, left_current, polled, after_next, IsSilent, IsMove};
 ghost use Rattle.kube_api.specs.Ready.{IsReady, IsNotReady};
 
 use crate::api::ApiMode;
@@ -111,6 +111,8 @@ impl<K: Resource> ApiMode for TestMode<K> {
 
     ghost faults = { λ t. t.failures };
 
+    ghost moves = { IsMove };
+
     fn list(
         &mut self,
         alloc: Global,
@@ -126,6 +128,7 @@ impl<K: Resource> ApiMode for TestMode<K> {
         ensures grows { IfOk result (λ a. Some self.new.talk
             ≡ grown (Some self.old.talk) (record { call = ListAsked params.now; answer = list_answer a })) }
         ensures unchanged { OnErr result (Some self.new.talk ≡ Some self.old.talk) }
+        ensures moves { IfOk result (λ a. IsMove self.old _now.0 (record { call = ListAsked params.now; answer = list_answer a }) self.new) }
         ensures faults { IfOk result (λ a. FaultRose (is_fault (list_answer a)) self.old.failures self.new.failures) }
         ensures rises { self.old.failures ≤ self.new.failures }
     {
@@ -153,6 +156,7 @@ impl<K: Resource> ApiMode for TestMode<K> {
         ensures grows { IfOk result (λ a. Some self.new.talk
             ≡ grown (Some self.old.talk) (record { call = WatchAsked params.now version.now; answer = watch_answer a })) }
         ensures unchanged { OnErr result (Some self.new.talk ≡ Some self.old.talk) }
+        ensures moves { IfOk result (λ a. IsMove self.old _now.0 (record { call = WatchAsked params.now version.now; answer = watch_answer a }) self.new) }
         ensures faults { IfOk result (λ a. FaultRose (is_watch_fault a) self.old.failures self.new.failures) }
         ensures rises { self.old.failures ≤ self.new.failures }
     {
@@ -179,6 +183,7 @@ impl<K: Resource> ApiMode for TestMode<K> {
         ensures grows { IfOk result (λ a. Some self.new.talk
             ≡ grown (Some self.old.talk) (record { call = NextAsked; answer = next_answer a })) }
         ensures unchanged { OnErr result (Some self.new.talk ≡ Some self.old.talk) }
+        ensures moves { IfOk result (λ a. IsMove self.old now.0 (record { call = NextAsked; answer = next_answer a }) self.new) }
         ensures never_opened { IsNeverOpened (Some self.old.talk) → IfOk result (λ a. next_answer a ≡ Ends) }
         ensures faults { IfOk result (λ a. FaultRose (is_fault (next_answer a)) self.old.failures self.new.failures) }
         ensures rises { self.old.failures ≤ self.new.failures }

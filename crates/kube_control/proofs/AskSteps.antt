@@ -12,11 +12,13 @@ use Rattle.kube_control.specs.declared.watcher.State.TheVariants.{Start, From, O
 use Rattle.kube_model.specs.Owed.{is_not_ready}
 use Rattle.kube_model.specs.History.{Exchange}
 use Rattle.kube_model.specs.Fits.{is_window_over}
-use Rattle.kube_control.specs.Exchanges.{Kept, AskedFrom, Asked, AreAll, AreAsked, IsCalledFrom, any_not_ready, but_last, or_now, window}
+use Rattle.kube_control.specs.Exchanges.{Kept, AskedFrom, Asked, AreAll, AreAsked, IsCalledFrom, IsStoppedAsking, IsUnbuiltFrom, any_not_ready, but_last, or_now, window}
+use Rattle.kube_control.specs.Calls.{AreMoves, made_at}
 use Rattle.kube_control.specs.Keyed.{keyed, updated}
 use Rattle.kube_model.specs.History.{Message}
 use Rattle.kube_control.specs.Stores.{put_stored}
 use Rattle.kube_control.specs.Unbuilt.{any_unnamed}
+use Rattle.kube_control.proofs.Moves.{moves-append, made_at-append}
 use Rattle.kube_control.proofs.TakeSteps.{grown_by-append}
 
 within : (now since : ℕ) (s : Option ℕ) → since ≡ or_now now s → nat_le (since + window) now ≡ false → is_window_over (Some window) s now ≡ false
@@ -58,6 +60,13 @@ grown_by-push : {A : Type 0} (o : Option (List A)) (xs : List A) (x : A) → gro
 grown_by-push None xs x = refl
 grown_by-push (Some os) xs x = grown_by-append (Some os) xs (x ∷ [])
 
+-- one more call
+moved_more : {A O : Type 0} (moves : A → ℕ → Raw O → A → Type 0) (now : ℕ) (old mid new : A) (raws : List (Raw O)) (raw : Raw O)
+    → AreMoves moves old (made_at now raws) mid → moves mid now raw new → AreMoves moves old (made_at now (raws ++ raw ∷ [])) new
+moved_more moves now old mid new raws raw h k =
+    subst (λ made. AreMoves moves old made new) (sym (made_at-append now raws (raw ∷ [])))
+    (moves-append moves old mid new (made_at now raws) (made_at now (raw ∷ [])) h (new, k, refl))
+
 but_last-push : {A : Type 0} (xs : List A) (x : A) → but_last (xs ++ x ∷ []) ≡ xs
 but_last-push [] x = refl
 but_last-push (y ∷ []) x = refl
@@ -77,16 +86,39 @@ any-last f (y ∷ ys) x b e g = or_rest (f y) (list_any f ys) (list_any f (ys ++
     or_rest false c d b e k = k e
 
 module _ {O : Type 0} (t : ObjectType) (meta : O → ObjectMeta) where
-  -- one more ask, with what the API told
-  pub asked_more : (now : ℕ) (p : Kept O) (xs : List (Exchange O)) (q : Kept O) (x : Exchange O) (r : Kept O) (old mid new : Option (List (Raw O)))
-      → (raws : List (Raw O)) × AreAsked t meta now p xs raws q × (mid ≡ grown_by old raws)
-      → Asked t meta q now x r → (raw : Raw O) × IsCalledFrom q.state x raw × (new ≡ grown mid raw)
-      → (raws : List (Raw O)) × AreAsked t meta now p (xs ++ x ∷ []) raws r × (new ≡ grown_by old raws)
-  asked_more now p xs q x r old mid new a b c = (
+  -- one more ask, with what the API told and what it was made by the call
+  pub asked_more : {A : Type 0} (moves : A → ℕ → Raw O → A → Type 0) (talk : A → Option (List (Raw O)))
+      (now : ℕ) (p : Kept O) (xs : List (Exchange O)) (q : Kept O) (x : Exchange O) (r : Kept O) (old mid new : A)
+      → (raws : List (Raw O)) × AreAsked t meta now p xs raws q × (talk mid ≡ grown_by (talk old) raws) × AreMoves moves old (made_at now raws) mid
+      → Asked t meta q now x r → (raw : Raw O) × IsCalledFrom q.state x raw × (talk new ≡ grown (talk mid) raw) × moves mid now raw new
+      → (raws : List (Raw O)) × AreAsked t meta now p (xs ++ x ∷ []) raws r × (talk new ≡ grown_by (talk old) raws) × AreMoves moves old (made_at now raws) new
+  asked_more moves talk now p xs q x r old mid new a b c = (
     a.0 ++ c.0 ∷ [],
     AreAsked-push t meta now p xs a.0 q x c.0 r a.1 b c.1,
-    c.2 ∙ (ap (λ o. grown o c.0) a.2 ∙ grown_by-push old a.0 c.0),
+    c.2 ∙ (ap (λ o. grown o c.0) a.2 ∙ grown_by-push (talk old) a.0 c.0),
+    moved_more moves now old mid new a.0 c.0 a.3 c.3,
   )
+
+module _ {O : Type 0} (t : ObjectType) (meta : O → ObjectMeta) where
+  -- an answer came that is not built
+  pub stopped : {A : Type 0} (moves : A → ℕ → Raw O → A → Type 0) (talk : A → Option (List (Raw O)))
+      (now budget : ℕ) (p : Kept O) (xs : List (Exchange O)) (q : Kept O) (old mid new : A)
+      → (raws : List (Raw O)) × AreAsked t meta now p xs raws q × (talk mid ≡ grown_by (talk old) raws) × AreMoves moves old (made_at now raws) mid
+      → length xs < budget → any_not_ready xs ≡ false
+      → (raw : Raw O) × IsUnbuiltFrom meta q.state now q.silent_since raw × (talk new ≡ grown (talk mid) raw) × moves mid now raw new
+      → IsStoppedAsking t meta moves talk now budget p old new
+  stopped moves talk now budget p xs q old mid new a room ready u = record {
+    before = xs;
+    raws = a.0;
+    kept = q;
+    asked = a.1;
+    room = room;
+    ready = ready;
+    unbuilt = u.0;
+    is = u.1;
+    told = u.2 ∙ (ap (λ o. grown o u.0) a.2 ∙ grown_by-push (talk old) a.0 u.0);
+    moved = moved_more moves now old mid new a.0 u.0 a.3 u.3;
+  }
 
 length-push : {A : Type 0} (xs : List A) (x : A) → length (xs ++ x ∷ []) ≡ length xs + 1
 length-push xs x = length-append xs (x ∷ [])

@@ -14,10 +14,8 @@ use Rattle.kube_control.specs.declared.watcher.State.{State}
 use Rattle.kube_control.specs.declared.watcher.State.TheVariants.{Start, From, Open}
 use Rattle.kube_control.specs.declared.fault.Fault.{Fault}
 use Rattle.kube_control.specs.declared.fault.Fault.TheVariants.{NoMemory, NotBuilt}
-use Rattle.kube_control.specs.declared.turn.Turn.{Turn as HeldTurn}
 use Rattle.kube_control.specs.Exchanges.{Kept, IsStoppedAsking, IsUnbuiltFrom, any_not_ready, but_last, window}
 use Rattle.kube_control.specs.NotBuilt.{IsAnsweredUnbuilt, IsNotBuilt, Asks, Answered, IsUnbuiltAnswer}
-use Rattle.kube_control.specs.Records.{turn_of}
 use Rattle.kube_control.specs.Stands.{IsKept, Stands, call_in}
 use Rattle.kube_control.specs.Unbuilt.{DoesMore, IfNotBuilt, OnlyAsks}
 use Rattle.kube_control.proofs.TurnAsks.{AreMade, walk, next-root}
@@ -46,9 +44,9 @@ module _ {O : Type 0} (t : ObjectType) (meta : O → ObjectMeta) where
   unbuilt-answer Open raw now since u = u.1
 
   -- asks that stopped at an answer that is not built
-  answered-unbuilt : (h : List (Step O)) (p : Kept O) (last : ℕ) (tn : Turn) (old new : Option (List (Raw O))) → Stands t meta h p last → asks_shutdown tn.shutdown ≡ false
-      → IsStoppedAsking t meta tn.at (slice_index tn.budget 0) p old new → IsAnsweredUnbuilt t meta h tn old new
-  answered-unbuilt h p last tn old new s open_turn stop =
+  answered-unbuilt : {A : Type 0} (moves : A → ℕ → Raw O → A → Type 0) (talk : A → Option (List (Raw O))) (h : List (Step O)) (p : Kept O) (last : ℕ) (tn : Turn) (old new : A) → Stands t meta h p last → asks_shutdown tn.shutdown ≡ false
+      → IsStoppedAsking t meta moves talk tn.at (slice_index tn.budget 0) p old new → IsAnsweredUnbuilt moves talk t meta h tn old new
+  answered-unbuilt moves talk h p last tn old new s open_turn stop =
       let made : AreMade t meta h tn s.unshut open_turn [] stop.before stop.raws stop.kept =
       walk t meta h tn s.unshut open_turn [] stop.before stop.raws p stop.kept (subst (λ ds. IsKept t meta ds p) (sym (append-nil (exchanges h))) s.kept) tt refl
       (let r = stop.room in omega arith) (ready-but-last stop.before stop.ready) stop.asked in
@@ -65,10 +63,11 @@ module _ {O : Type 0} (t : ObjectType) (meta : O → ObjectMeta) where
             (subst (λ call. IsUnbuiltAnswer meta (is_window_over (Some window) stop.kept.silent_since tn.at) call stop.unbuilt.answer) (sym made.kept.owes)
             (unbuilt-answer stop.kept.state stop.unbuilt tn.at stop.kept.silent_since stop.is));
         told = stop.told;
+        moved = stop.moved;
       }
 
-  pub turn-cause : {D E : Type 0} (type_of : D → ObjectType) (h : List (Step O)) (p : Kept O) (last : ℕ) (turn : HeldTurn O E D) (old new : Option (List (Raw O))) → Stands t meta h p last
-      → DoesMore turn last ⊎ OnlyAsks turn last × IsStoppedAsking t meta turn.at.0 (slice_index turn.budget 0) p old new → IsNotBuilt t meta type_of h turn old new
-  turn-cause type_of h p last turn old new s (inl more) = Asks (subst (DoesMore turn) (sym s.moment) more)
-  turn-cause type_of h p last turn old new s (inr stop) =
-      Answered (answered-unbuilt h p last (turn_of type_of turn) old new s (ap asks_shutdown stop.0.shutdown) stop.1)
+  pub turn-cause : {A : Type 0} (moves : A → ℕ → Raw O → A → Type 0) (talk : A → Option (List (Raw O))) (h : List (Step O)) (p : Kept O) (last : ℕ) (turn : Turn) (old new : A) → Stands t meta h p last
+      → DoesMore turn last × (new ≡ old) ⊎ OnlyAsks turn last × IsStoppedAsking t meta moves talk turn.at (slice_index turn.budget 0) p old new → IsNotBuilt moves talk t meta h turn old new
+  turn-cause moves talk h p last turn old new s (inl more) = Asks (subst (DoesMore turn) (sym s.moment) more.0) more.1
+  turn-cause moves talk h p last turn old new s (inr stop) =
+      Answered (answered-unbuilt moves talk h p last turn old new s (ap asks_shutdown stop.0.shutdown) stop.1)

@@ -11,5 +11,6 @@ pub mod TurnAsks
 pub mod OneRecord
 pub mod TurnSteps
 pub mod Grows
+pub mod Moves
 pub mod Causes
 pub mod BuiltTurns

@@ -4,12 +4,11 @@ use Rattle.std.specs.List.{cons_option, filter_map, list_any, AllZip}
 use Rattle.std.proofs.lemmas.Grind.{flat_map-append}
 use Rattle.kube_meta.specs.declared.metadata.ObjectMeta.{ObjectMeta}
 use Rattle.kube_meta.specs.Reference.{ObjectType}
-use Rattle.kube_meta.specs.Keys.{reference_of}
 use Rattle.kube_model.specs.declared.turn.Stop.TheVariants as stops
 use Rattle.kube_model.specs.Raw.{Raw}
 use Rattle.kube_model.specs.Owed.{is_not_ready}
 use Rattle.kube_model.specs.World.{World, default_settings}
-use Rattle.kube_model.specs.History.{Exchange, Turn, TurnRecord, Step}
+use Rattle.kube_model.specs.History.{Exchange, Turn, TurnRecord, Step, dated}
 use Rattle.kube_model.specs.Traces.{step, steps, IsRecord, IsTrace, has_ended}
 use Rattle.kube_model.specs.Recorded.{IsRecorded}
 use Rattle.kube_model.proofs.Joins.{joined}
@@ -22,8 +21,9 @@ use Rattle.kube_control.specs.Messages.{take_of}
 use Rattle.kube_control.specs.Unbuilt.{OnlyAsks}
 use Rattle.kube_control.specs.Views.{exchange_of, kept_of, object_of, stored_of, shown_objects, taken_of}
 use Rattle.kube_control.specs.Stands.{Stands}
-use Rattle.kube_control.specs.Records.{turn_of, record_of, finished_of, finish_of}
-use Rattle.kube_control.specs.StandsFor.{exchanges_in, taken_in}
+use Rattle.kube_control.specs.Records.{turn_of, record_of, finished_of}
+use Rattle.kube_control.specs.StandsFor.{taken_in}
+use Rattle.kube_control.specs.Calls.{dated_in}
 use Rattle.kube_control.specs.Worlds.{world_of}
 use Rattle.kube_control.proofs.TurnAsks.{recorded}
 use Rattle.kube_control.proofs.OneRecord.{plain_turn, plain_record, is-record, stands-now}
@@ -46,13 +46,13 @@ any-exchanges type_of [] = refl
 any-exchanges type_of (x ∷ xs) = ap (λ b. is_not_ready x.answer || b) (any-exchanges type_of xs)
 
 module _ {K D E : Type 0} (type_of : D → ObjectType) (meta : K → ObjectMeta) where
-  turn-is : (t : HeldTurn K E D) (last : ℕ) → OnlyAsks t last → turn_of type_of t ≡ plain_turn t.at.0 t.budget t.show
+  turn-is : (t : HeldTurn K E D) (last : ℕ) → OnlyAsks (turn_of type_of t) last → turn_of type_of t ≡ plain_turn t.at.0 t.budget t.show
   turn-is t last only = λ i. record {
     at = t.at.0;
     budget = t.budget;
-    finishes = map (finish_of type_of) (only.finishes i);
+    finishes = only.finishes i;
     reload = only.reload i;
-    on = map (λ r. reference_of type_of r) (only.on i);
+    on = only.on i;
     shutdown = only.shutdown i;
     show = t.show;
   }
@@ -78,7 +78,7 @@ module _ {K D E : Type 0} (type_of : D → ObjectType) (meta : K → ObjectMeta)
   -- a turn that was taken is the definitions' turn, and the root stands for the history with it
   pub turn-taken : (t : HeldTurn K E D) (old new : Root K D) (r : HeldRecord K E D) (raws : List (Raw K)) (last : ℕ) (h : List (Step K))
       → new.dyntype ≡ old.dyntype
-      → OnlyAsks t last
+      → OnlyAsks (turn_of type_of t) last
       → AreAsked (type_of old.dyntype) meta t.at.0 (kept_of type_of old) (map (exchange_of type_of) r.exchanges) raws (kept_of type_of new)
       → AreAll (slice_index t.budget 0) (map (exchange_of type_of) r.exchanges)
       → record_of type_of r ≡ plain_record t.at.0 t.show (kept_of type_of new).stored (map (exchange_of type_of) r.exchanges)
@@ -128,8 +128,8 @@ trace-goes-on {O} w h ts us rs qs t r e f l k going made =
       sym (ap₂ (λ vs (ps : List (TurnRecord O)). h ++ steps vs ps) e f ∙ p.1),
     )
 
-pub exchanges-push : {O : Type 0} (rs qs : List (TurnRecord O)) (r : TurnRecord O) → qs ≡ rs ++ r ∷ [] → exchanges_in qs ≡ exchanges_in rs ++ r.exchanges
-exchanges-push {O} rs qs r e = ap exchanges_in e ∙ flat_map-append (λ (q : TurnRecord O). q.exchanges) rs (r ∷ []) ∙ ap (λ xs. exchanges_in rs ++ xs) (append-nil r.exchanges)
+pub dated-push : {O : Type 0} (rs qs : List (TurnRecord O)) (r : TurnRecord O) → qs ≡ rs ++ r ∷ [] → dated_in qs ≡ dated_in rs ++ dated r.at r.exchanges
+dated-push {O} rs qs r e = ap dated_in e ∙ flat_map-append (λ (q : TurnRecord O). dated q.at q.exchanges) rs (r ∷ []) ∙ ap (λ ds. dated_in rs ++ ds) (append-nil (dated r.at r.exchanges))
 
 pub taken-push : {O : Type 0} (rs qs : List (TurnRecord O)) (r : TurnRecord O) → qs ≡ rs ++ r ∷ [] → taken_in qs ≡ taken_in rs ++ r.taken
 taken-push {O} rs qs r e = ap taken_in e ∙ flat_map-append (λ (q : TurnRecord O). q.taken) rs (r ∷ []) ∙ ap (λ us. taken_in rs ++ us) (append-nil r.taken)

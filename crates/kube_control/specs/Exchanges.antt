@@ -11,6 +11,7 @@ use Rattle.kube_model.specs.Owed.{is_not_ready}
 use Rattle.kube_model.specs.Raw.{Raw, RawAnswer, ListAsked, WatchAsked, NextAsked, Waits, GivesPage, Opens, grown_by}
 use Rattle.kube_control.specs.declared.watcher.State.{State}
 use Rattle.kube_control.specs.declared.watcher.State.TheVariants.{Start, From, Open}
+use Rattle.kube_control.specs.Calls.{AreMoves, made_at}
 use Rattle.kube_control.specs.Messages.{last_of_each}
 use Rattle.kube_control.specs.Stores.{put_stored}
 use Rattle.kube_control.specs.Unbuilt.{first_page_params, bookmarks_params, any_unnamed, IsUnbuiltPage, IsUnbuiltOpening, IsUnbuiltNext}
@@ -93,8 +94,8 @@ module _ {O : Type 0} (t : ObjectType) (meta : O → ObjectMeta) where
   AreAsked now p [] (raw ∷ raws) q = ⊥
   AreAsked now p (x ∷ xs) [] q = ⊥
 
-  -- the exchanges after which an answer came that is not built; the API's talk grew by their calls and by this one
-  pub record IsStoppedAsking (now budget : ℕ) (p : Kept O) (old new : Option (List (Raw O))) : Type 0 where
+  -- the exchanges after which an answer came that is not built. The API went from one state to another by their calls and by this one, and told them
+  pub record IsStoppedAsking {A : Type 0} (moves : A → ℕ → Raw O → A → Type 0) (talk : A → Option (List (Raw O))) (now budget : ℕ) (p : Kept O) (old new : A) : Type 0 where
     pub before : List (Exchange O)
     pub raws : List (Raw O)
     pub kept : Kept O
@@ -103,7 +104,8 @@ module _ {O : Type 0} (t : ObjectType) (meta : O → ObjectMeta) where
     pub ready : any_not_ready before ≡ false
     pub unbuilt : Raw O
     pub is : IsUnbuiltFrom meta kept.state now kept.silent_since unbuilt
-    pub told : new ≡ grown_by old (raws ++ unbuilt ∷ [])
+    pub told : talk new ≡ grown_by (talk old) (raws ++ unbuilt ∷ [])
+    pub moved : AreMoves moves old (made_at now (raws ++ unbuilt ∷ [])) new
 
 -- all but the last
 abbrev pub but_last : {A : Type 0} → List A → List A

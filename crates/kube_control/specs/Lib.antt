@@ -1,4 +1,5 @@
 -- the definitions that the contracts cite
+pub mod Calls
 pub mod Controllers
 pub mod Exchanges
 pub mod Faults

@@ -1,5 +1,5 @@
 -- Why a turn after a history is not built.
-use Rattle.std.specs.Prelude.{◌≡◌, ◌⊎◌, Bool, true, List, [], ◌∷◌, ◌++◌, length, take, slice_get, Option, Some}
+use Rattle.std.specs.Prelude.{◌≡◌, ◌⊎◌, ℕ, Bool, true, false, List, [], ◌∷◌, ◌++◌, length, take, slice_get, Option, Some}
 use Rattle.std.specs.List.{AllZip}
 use Rattle.kube_meta.specs.declared.metadata.ObjectMeta.{ObjectMeta}
 use Rattle.kube_meta.specs.Reference.{ObjectType}
@@ -12,11 +12,9 @@ use Rattle.kube_model.specs.Owed.{owed}
 use Rattle.kube_model.specs.Fits.{is_window_over, silent_since}
 use Rattle.kube_model.specs.Recorded.{IsRecorded, raw_call}
 use Rattle.kube_model.specs.Turns.{next_source}
-use Rattle.kube_model.specs.Traces.{EachIsNext, last_moment, steps}
-use Rattle.kube_control.specs.declared.turn.Turn.{Turn as HeldTurn}
+use Rattle.kube_model.specs.Traces.{EachIsNext, has_ended, last_moment, steps}
+use Rattle.kube_control.specs.Calls.{AreMadeBy, AreMoves, dated_in, made_at}
 use Rattle.kube_control.specs.Exchanges.{HasUnnamed, window}
-use Rattle.kube_control.specs.Records.{turn_of, turns_of}
-use Rattle.kube_control.specs.StandsFor.{exchanges_in}
 use Rattle.kube_control.specs.Unbuilt.{DoesMore, IsUnbuiltPage, IsUnbuiltOpening, IsUnbuiltNext}
 use Rattle.kube_control.specs.Worlds.{world_of}
 
@@ -27,9 +25,10 @@ IsUnbuiltAnswer meta over (Watch version initial) answer = IsUnbuiltOpening answ
 IsUnbuiltAnswer meta over Next answer = IsUnbuiltNext answer ⊎ (over ≡ true)
 IsUnbuiltAnswer meta over Stream answer = ⊥
 
-module _ {O : Type 0} (t : ObjectType) (meta : O → ObjectMeta) where
-  -- in a turn after a history the root made these exchanges, was asked once more by the call that it owes, and was answered by what is not built; the API's talk grew by all of these
-  pub record IsAnsweredUnbuilt (h : List (Step O)) (turn : Turn) (old new : Option (List (Raw O))) : Type 0 where
+-- moves says what a call makes of an API, and talk what it tells
+module _ {A O : Type 0} (moves : A → ℕ → Raw O → A → Type 0) (talk : A → Option (List (Raw O))) (t : ObjectType) (meta : O → ObjectMeta) where
+  -- in a turn after a history the root made these exchanges, was asked once more by the call that it owes, and was answered by what is not built. The API went from one state to another by all these calls, and told them
+  pub record IsAnsweredUnbuilt (h : List (Step O)) (turn : Turn) (old new : A) : Type 0 where
     pub before : List (Exchange O)
     pub made : EachIsNext (world_of t meta) h turn [] before
     pub next : next_source (world_of t meta) h turn before ≡ Some 0
@@ -39,17 +38,19 @@ module _ {O : Type 0} (t : ObjectType) (meta : O → ObjectMeta) where
     pub call : raw_call default_settings (owed (Watched default_settings) (exchanges_of 0 (exchanges_with h turn before))) ≡ Some unbuilt.call
     pub answer : IsUnbuiltAnswer meta (is_window_over (Some window) (silent_since (dated_of 0 (exchanges_with h turn before))) turn.at)
         (owed (Watched default_settings) (exchanges_of 0 (exchanges_with h turn before))) unbuilt.answer
-    pub told : new ≡ grown_by old (raws ++ unbuilt ∷ [])
+    pub told : talk new ≡ grown_by (talk old) (raws ++ unbuilt ∷ [])
+    pub moved : AreMoves moves old (made_at turn.at (raws ++ unbuilt ∷ [])) new
 
-  -- a turn after a history is not built: its moment is too late or falls, it has finishes, named references, a reload or a shutdown, or an answer in it is not built
-  pub data IsNotBuilt {D E : Type 0} (type_of : D → ObjectType) (h : List (Step O)) (turn : HeldTurn O E D) (old new : Option (List (Raw O))) : Type 0 where
-    Asks : DoesMore turn (last_moment h) → IsNotBuilt type_of h turn old new
-    Answered : IsAnsweredUnbuilt h (turn_of type_of turn) old new → IsNotBuilt type_of h turn old new
+  -- a turn after a history is not built: its moment is too late or falls, it has finishes, named references, a reload or a shutdown, and nothing is asked in it; or an answer in it is not built
+  pub data IsNotBuilt (h : List (Step O)) (turn : Turn) (old new : A) : Type 0 where
+    Asks : DoesMore turn (last_moment h) → new ≡ old → IsNotBuilt h turn old new
+    Answered : IsAnsweredUnbuilt h turn old new → IsNotBuilt h turn old new
 
-  -- the turn after those with these records is not built; the API's talk grew by the records' exchanges before it
-  pub record IsNotBuiltAfter {D E : Type 0} (type_of : D → ObjectType) (h : List (Step O)) (turns : List (HeldTurn O E D)) (records : List (TurnRecord O)) (old new : Option (List (Raw O))) : Type 0 where
-    pub turn : HeldTurn O E D
+  -- the turn after those with these records is not built; the records' exchanges were made by calls of the API before it
+  pub record IsNotBuiltAfter (h : List (Step O)) (turns : List Turn) (records : List (TurnRecord O)) (old new : A) : Type 0 where
+    pub turn : Turn
     pub there : slice_get turns (length records) ≡ Some turn
-    pub raws : List (Raw O)
-    pub recorded : AllZip (IsRecorded (world_of t meta).version default_settings) raws (exchanges_in records)
-    pub cause : IsNotBuilt type_of (h ++ steps (turns_of type_of (take (length records) turns)) records) turn (grown_by old raws) new
+    pub going : has_ended (h ++ steps (take (length records) turns) records) ≡ false
+    pub middle : A
+    pub before : AreMadeBy moves talk (world_of t meta).version (dated_in records) old middle
+    pub cause : IsNotBuilt (h ++ steps (take (length records) turns) records) turn middle new

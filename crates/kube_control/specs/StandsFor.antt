@@ -3,7 +3,7 @@ use Rattle.std.specs.Prelude.{◌≡◌, false, List}
 use Rattle.kube_meta.specs.declared.metadata.ObjectMeta.{ObjectMeta}
 use Rattle.kube_meta.specs.Reference.{ObjectType}
 use Rattle.kube_model.specs.World.{World}
-use Rattle.kube_model.specs.History.{Step, Exchange, Taken, TurnRecord}
+use Rattle.kube_model.specs.History.{Step, Taken, TurnRecord}
 use Rattle.std.specs.List.{flat_map}
 use Rattle.kube_control.specs.declared.controller.Controller.{Controller}
 use Rattle.kube_control.specs.declared.source.WatchRoot.{WatchRoot}
@@ -22,9 +22,6 @@ module _ {A K D S B : Type 0} (type_of : D → ObjectType) (meta : K → ObjectM
     pub stands : Stands (type_of (dyntype_of c)) meta h (kept_of type_of c.root.state) c.last.0
     pub unspent : c.spent ≡ false
 
--- all exchanges of these records, in order, and all that they took
-abbrev pub exchanges_in : {O : Type 0} → List (TurnRecord O) → List (Exchange O)
-exchanges_in rs = flat_map (λ r. r.exchanges) rs
-
+-- all that these records took, in order
 abbrev pub taken_in : {O : Type 0} → List (TurnRecord O) → List (Taken O)
 taken_in rs = flat_map (λ r. r.taken) rs

@@ -7,11 +7,11 @@ use Rattle.kube_model.specs.declared.params.ListParams.{ListParams}
 use Rattle.kube_model.specs.declared.params.WatchParams.{WatchParams}
 use Rattle.kube_model.specs.declared.turn.Shutdown.TheVariants.{No}
 use Rattle.kube_model.specs.Fits.{nonempty}
+use Rattle.kube_model.specs.History.{Turn}
 use Rattle.kube_model.specs.World.{default_settings, list_params, watch_params}
 use Rattle.kube_model.specs.Raw.{RawAnswer, Waits, GivesPage, Opens}
 use Rattle.kube_control.specs.declared.fault.Fault.{Fault}
 use Rattle.kube_control.specs.declared.fault.Fault.TheVariants.{NoMemory, NotBuilt}
-use Rattle.kube_control.specs.declared.turn.Turn.{Turn}
 
 -- the first page of a list (crate: by `watcher::Config::default`)
 abbrev pub first_page_params : ListParams
@@ -45,21 +45,20 @@ IsUnbuiltNext _ = ⊤
 abbrev pub any_unnamed : {V : Type 0} → (V → ObjectMeta) → List V → Bool
 any_unnamed meta os = list_any (λ o. not (is_named (meta o))) os
 
-module _ {K E D : Type 0} where
-  -- a turn that only asks, at a moment that follows the last one
-  pub record OnlyAsks (t : Turn K E D) (last : ℕ) : Type 0 where
-    pub early : t.at.0 < 2 ^ 63
-    pub later : last ≤ t.at.0
-    pub finishes : t.finishes ≡ []
-    pub reload : t.reload ≡ false
-    pub on : t.on ≡ []
-    pub shutdown : t.shutdown ≡ No
+-- a turn that only asks, at a moment that follows the last one
+pub record OnlyAsks (t : Turn) (last : ℕ) : Type 0 where
+  pub early : t.at < 2 ^ 63
+  pub later : last ≤ t.at
+  pub finishes : t.finishes ≡ []
+  pub reload : t.reload ≡ false
+  pub on : t.on ≡ []
+  pub shutdown : t.shutdown ≡ No
 
-  -- why a turn is not built whatever is answered in it
-  pub data DoesMore (t : Turn K E D) (last : ℕ) : Type 0 where
-    TooLate : 2 ^ 63 ≤ t.at.0 → DoesMore t last
-    TooEarly : t.at.0 < last → DoesMore t last
-    Finishes : ¬ (t.finishes ≡ []) → DoesMore t last
-    Reloads : t.reload ≡ true → DoesMore t last
-    Names : ¬ (t.on ≡ []) → DoesMore t last
-    Shuts : ¬ (t.shutdown ≡ No) → DoesMore t last
+-- why a turn is not built whatever is answered in it
+pub data DoesMore (t : Turn) (last : ℕ) : Type 0 where
+  TooLate : 2 ^ 63 ≤ t.at → DoesMore t last
+  TooEarly : t.at < last → DoesMore t last
+  Finishes : ¬ (t.finishes ≡ []) → DoesMore t last
+  Reloads : t.reload ≡ true → DoesMore t last
+  Names : ¬ (t.on ≡ []) → DoesMore t last
+  Shuts : ¬ (t.shutdown ≡ No) → DoesMore t last

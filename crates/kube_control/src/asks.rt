@@ -4,6 +4,7 @@ ghost use Rattle.std.specs.Prelude.{◌≡◌, List, IfOk, IfErr, map, if◌then
 ghost use Rattle.std.specs.List.{list_any};
 ghost use Rattle.kube_model.specs.Owed.{is_not_ready as answered_not_ready};
 ghost use Rattle.kube_model.specs.Raw.{Raw, grown_by};
+ghost use Rattle.kube_control.specs.Calls.{AreMoves, made_at};
 ghost use Rattle.kube_control.specs.Exchanges.{AreAll, AreAsked, IsStoppedAsking};
 ghost use Rattle.kube_control.specs.Unbuilt.{IfNotBuilt};
 ghost use Rattle.kube_control.specs.Views.{exchange_of, kept_of};
@@ -34,10 +35,10 @@ pub fn ask_all<A: ApiMode>(
 ) -> Result<List<SourceExchange<A::Value>>, Fault>
     ensures asked { IfOk result (λ xs. (raws : List (Raw A.Value))
         × AreAsked (A.Value.type_of root.old.dyntype) A.Value.meta_of now.0 (kept_of A.Value.type_of root.old) (map (exchange_of A.Value.type_of) xs) raws (kept_of A.Value.type_of root.new)
-        × (A.talk api.new ≡ grown_by (A.talk api.old) raws)) }
+        × (A.talk api.new ≡ grown_by (A.talk api.old) raws) × AreMoves A.moves api.old (made_at now.0 raws) api.new) }
     ensures all { IfOk result (λ xs. AreAll budget (map (exchange_of A.Value.type_of) xs)) }
-    ensures cause { IfErr result (λ f. IfNotBuilt f (IsStoppedAsking (A.Value.type_of root.old.dyntype) A.Value.meta_of now.0 budget
-        (kept_of A.Value.type_of root.old) (A.talk api.old) (A.talk api.new))) }
+    ensures cause { IfErr result (λ f. IfNotBuilt f (IsStoppedAsking (A.Value.type_of root.old.dyntype) A.Value.meta_of A.moves A.talk now.0 budget
+        (kept_of A.Value.type_of root.old) api.old api.new)) }
     ensures dyntype { root.new.dyntype ≡ root.old.dyntype }
 {
     let mut made = List::new(alloc);

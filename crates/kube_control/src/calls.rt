@@ -67,9 +67,11 @@ pub fn list_page<A: ApiMode>(
 ) -> Result<LastPage<A::Value>, Fault>
     ensures talk { IfOk result (λ p. (token : Option (List ℕ)) × (version : Option (List ℕ))
         × (nonempty token ≡ None) × (nonempty version ≡ Some p.version)
-        × (A.talk api.new ≡ grown (A.talk api.old) (record { call = ListAsked first_page_params; answer = GivesPage (map arc_value p.items) token version }))) }
+        × (A.talk api.new ≡ grown (A.talk api.old) (record { call = ListAsked first_page_params; answer = GivesPage (map arc_value p.items) token version }))
+        × A.moves api.old now.0 (record { call = ListAsked first_page_params; answer = GivesPage (map arc_value p.items) token version }) api.new) }
     ensures cause { IfErr result (λ f. IfNotBuilt f ((raw : Raw A.Value)
-        × (raw.call ≡ ListAsked first_page_params) × IsUnbuiltPage raw.answer × (A.talk api.new ≡ grown (A.talk api.old) raw))) }
+        × (raw.call ≡ ListAsked first_page_params) × IsUnbuiltPage raw.answer × (A.talk api.new ≡ grown (A.talk api.old) raw)
+        × A.moves api.old now.0 raw api.new)) }
 {
     match api.list(alloc, &list_params(), now)? {
         Polled::Ready(Ok(page)) => {
@@ -95,8 +97,10 @@ pub fn open_watch<A: ApiMode>(
     now: Moment,
 ) -> Result<(), Fault>
     ensures talk { OnOk result (A.talk api.new ≡ grown (A.talk api.old) (record { call = WatchAsked bookmarks_params version.now; answer = Opens })) }
+    ensures moves { OnOk result (A.moves api.old now.0 (record { call = WatchAsked bookmarks_params version.now; answer = Opens }) api.new) }
     ensures cause { IfErr result (λ f. IfNotBuilt f ((raw : Raw A.Value)
-        × (raw.call ≡ WatchAsked bookmarks_params version.now) × IsUnbuiltOpening raw.answer × (A.talk api.new ≡ grown (A.talk api.old) raw))) }
+        × (raw.call ≡ WatchAsked bookmarks_params version.now) × IsUnbuiltOpening raw.answer × (A.talk api.new ≡ grown (A.talk api.old) raw)
+        × A.moves api.old now.0 raw api.new)) }
 {
     match api.watch(alloc, &watch_params(), version, now)? {
         Polled::Ready(Ok(())) => Ok(()),
@@ -107,8 +111,10 @@ pub fn open_watch<A: ApiMode>(
 /// A look at the open watch, answered not ready.
 pub fn poll_watch<A: ApiMode>(api: &mut A, alloc: Global, now: Moment) -> Result<(), Fault>
     ensures talk { OnOk result (A.talk api.new ≡ grown (A.talk api.old) (record { call = NextAsked; answer = Waits })) }
+    ensures moves { OnOk result (A.moves api.old now.0 (record { call = NextAsked; answer = Waits }) api.new) }
     ensures cause { IfErr result (λ f. IfNotBuilt f ((raw : Raw A.Value)
-        × (raw.call ≡ NextAsked) × IsUnbuiltNext raw.answer × (A.talk api.new ≡ grown (A.talk api.old) raw))) }
+        × (raw.call ≡ NextAsked) × IsUnbuiltNext raw.answer × (A.talk api.new ≡ grown (A.talk api.old) raw)
+        × A.moves api.old now.0 raw api.new)) }
 {
     match api.next(alloc, now)? {
         Polled::NotReady => Ok(()),

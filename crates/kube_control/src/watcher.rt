@@ -51,10 +51,10 @@ fn ask_list<A: ApiMode>(
     ensures asked { IfOk result (λ x. AskedFrom (A.Value.type_of root.old.dyntype) A.Value.meta_of State.Start
         (kept_of A.Value.type_of root.old) now.0 (exchange_of A.Value.type_of x) (kept_of A.Value.type_of root.new)) }
     ensures talk { IfOk result (λ x. (raw : Raw A.Value) × IsCalledFrom State.Start (exchange_of A.Value.type_of x) raw
-        × (A.talk api.new ≡ grown (A.talk api.old) raw)) }
+        × (A.talk api.new ≡ grown (A.talk api.old) raw) × A.moves api.old now.0 raw api.new) }
     ensures cause { IfErr result (λ f. IfNotBuilt f ((raw : Raw A.Value)
         × IsUnbuiltFrom A.Value.meta_of State.Start now.0 (kept_of A.Value.type_of root.old).silent_since raw
-        × (A.talk api.new ≡ grown (A.talk api.old) raw))) }
+        × (A.talk api.new ≡ grown (A.talk api.old) raw) × A.moves api.old now.0 raw api.new)) }
     ensures dyntype { root.new.dyntype ≡ root.old.dyntype }
 {
     let LastPage { items, version } = list_page(api, alloc, now)?;
@@ -88,10 +88,10 @@ fn ask_watch<A: ApiMode>(
     ensures asked { IfOk result (λ x. AskedFrom (A.Value.type_of root.old.dyntype) A.Value.meta_of (State.From version)
         (kept_of A.Value.type_of root.old) now.0 (exchange_of A.Value.type_of x) (kept_of A.Value.type_of root.new)) }
     ensures talk { IfOk result (λ x. (raw : Raw A.Value) × IsCalledFrom (State.From version) (exchange_of A.Value.type_of x) raw
-        × (A.talk api.new ≡ grown (A.talk api.old) raw)) }
+        × (A.talk api.new ≡ grown (A.talk api.old) raw) × A.moves api.old now.0 raw api.new) }
     ensures cause { IfErr result (λ f. IfNotBuilt f ((raw : Raw A.Value)
         × IsUnbuiltFrom A.Value.meta_of (State.From version) now.0 (kept_of A.Value.type_of root.old).silent_since raw
-        × (A.talk api.new ≡ grown (A.talk api.old) raw))) }
+        × (A.talk api.new ≡ grown (A.talk api.old) raw) × A.moves api.old now.0 raw api.new)) }
     ensures dyntype { root.new.dyntype ≡ root.old.dyntype }
 {
     open_watch(api, alloc, version.as_str(), now)?;
@@ -131,10 +131,10 @@ fn ask_next<A: ApiMode>(
     ensures asked { IfOk result (λ x. AskedFrom (A.Value.type_of root.old.dyntype) A.Value.meta_of State.Open
         (kept_of A.Value.type_of root.old) now.0 (exchange_of A.Value.type_of x) (kept_of A.Value.type_of root.new)) }
     ensures talk { IfOk result (λ x. (raw : Raw A.Value) × IsCalledFrom State.Open (exchange_of A.Value.type_of x) raw
-        × (A.talk api.new ≡ grown (A.talk api.old) raw)) }
+        × (A.talk api.new ≡ grown (A.talk api.old) raw) × A.moves api.old now.0 raw api.new) }
     ensures cause { IfErr result (λ f. IfNotBuilt f ((raw : Raw A.Value)
         × IsUnbuiltFrom A.Value.meta_of State.Open now.0 (kept_of A.Value.type_of root.old).silent_since raw
-        × (A.talk api.new ≡ grown (A.talk api.old) raw))) }
+        × (A.talk api.new ≡ grown (A.talk api.old) raw) × A.moves api.old now.0 raw api.new)) }
     ensures dyntype { root.new.dyntype ≡ root.old.dyntype }
 {
     poll_watch(api, alloc, now)?;
@@ -163,10 +163,10 @@ pub fn ask<A: ApiMode>(
     ensures asked { IfOk result (λ x. AskedFrom (A.Value.type_of root.old.dyntype) A.Value.meta_of root.old.state
         (kept_of A.Value.type_of root.old) now.0 (exchange_of A.Value.type_of x) (kept_of A.Value.type_of root.new)) }
     ensures talk { IfOk result (λ x. (raw : Raw A.Value) × IsCalledFrom root.old.state (exchange_of A.Value.type_of x) raw
-        × (A.talk api.new ≡ grown (A.talk api.old) raw)) }
+        × (A.talk api.new ≡ grown (A.talk api.old) raw) × A.moves api.old now.0 raw api.new) }
     ensures cause { IfErr result (λ f. IfNotBuilt f ((raw : Raw A.Value)
         × IsUnbuiltFrom A.Value.meta_of root.old.state now.0 (kept_of A.Value.type_of root.old).silent_since raw
-        × (A.talk api.new ≡ grown (A.talk api.old) raw))) }
+        × (A.talk api.new ≡ grown (A.talk api.old) raw) × A.moves api.old now.0 raw api.new)) }
     ensures dyntype { root.new.dyntype ≡ root.old.dyntype }
 {
     match &root.state {

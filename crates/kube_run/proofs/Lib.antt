@@ -6,4 +6,6 @@ pub mod Shown
 pub mod Takes
 pub mod Text
 pub mod Records
+pub mod Played
+pub mod Runs
 pub mod Served

@@ -11,4 +11,5 @@ pub mod Shown
 pub mod TraceText
 pub mod TraceView
 pub mod Lines
+pub mod Played
 pub mod Served

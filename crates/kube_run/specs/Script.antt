@@ -1,5 +1,5 @@
 -- The form of a script: its tables, over the reading of its text. Objects, lists and watches as in the Kubernetes API concepts.
-use Rattle.std.specs.Prelude.{ℕ, List, [], ◌∷◌, ◌++◌, Option, Some, None, Result, Ok, Err, false, codes, map, unwrap_or}
+use Rattle.std.specs.Prelude.{ℕ, List, [], ◌∷◌, ◌++◌, Option, Some, None, Result, Ok, false, codes, map, unwrap_or}
 use Rattle.std.specs.Arc.{arc_value}
 use Rattle.std.specs.declared.sync.Arc.{Arc}
 use Rattle.std.specs.declared.alloc.Global.{Global}
@@ -7,17 +7,15 @@ use Rattle.serde_json.specs.Data.{Data}
 use Rattle.kube_meta.specs.declared.metadata.ObjectMeta.{ObjectMeta}
 use Rattle.kube_meta.specs.declared.dynamic.DynamicObject.{DynamicObject}
 use Rattle.kube_meta.specs.declared.dynamic.ApiResource.{ApiResource}
-use Rattle.kube_meta.specs.Reference.{ObjectType}
-use Rattle.kube_meta.specs.Keys.{reference_of}
 use Rattle.kube_meta.specs.Resources.{resource_type}
 use Rattle.kube_meta.specs.declared.poll.Polled.TheVariants.{Ready}
 use Rattle.kube_model.specs.Raw.{RawAnswer, GivesPage}
 use Rattle.kube_model.specs.declared.turn.Shutdown.TheVariants as shutdowns
-use Rattle.kube_model.specs.History.{Turn, Finish, Outcome, Succeeded, Failed}
+use Rattle.kube_model.specs.History.{Turn}
 use Rattle.kube_api.specs.Answers.{list_answer}
 use Rattle.kube_api.specs.TestScript.{Step, Pauses}
 use Rattle.kube_control.specs.declared.turn.Turn as held_turn
-use Rattle.kube_control.specs.declared.turn.Finish as held_finish
+use Rattle.kube_control.specs.Records.{turn_of}
 use Rattle.kube_run.specs.declared.script.Script as held_script
 use Rattle.kube_run.specs.declared.script.Root as held_root
 use Rattle.kube_run.specs.Reading.{◌>>=◌, Wrong, members_among, object_at, field, maybe_field, list_field, list_at, there, text_at, number_at, small_at, flag_at}
@@ -129,25 +127,7 @@ script_at d = do
 -- ---- the same as the program holds it
 
 abbrev pub seen_root : held_root.Root → Root
-seen_root r = record { lists = map (λ page. list_answer (Ready page)) r.lists.items; watches = map (λ s. s) r.watches.items }
-
-abbrev pub outcome_of : {E : Type 0} → Result (Option ℕ) E → Outcome
-outcome_of (Ok action) = Succeeded action
-outcome_of (Err e) = Failed
-
-abbrev pub finish_of : {D E : Type 0} → (D → ObjectType) → held_finish.Finish DynamicObject E D → Finish
-finish_of type_of f = record { reference = reference_of type_of f.reference; outcome = outcome_of f.outcome }
-
-abbrev pub turn_of : {D E : Type 0} → (D → ObjectType) → held_turn.Turn DynamicObject E D → Turn
-turn_of type_of t = record {
-  at = t.at.0;
-  budget = map (λ n. n) t.budget;
-  finishes = map (finish_of type_of) t.finishes;
-  reload = t.reload;
-  on = map (reference_of type_of) t.on;
-  shutdown = t.shutdown;
-  show = t.show;
-}
+seen_root r = record { lists = map (λ page. list_answer (Ready page)) r.lists.items; watches = r.watches.items }
 
 abbrev pub seen_turn : held_turn.Turn DynamicObject (List ℕ) (Arc ApiResource Global) → Turn
 seen_turn t = turn_of (λ d. resource_type (arc_value d)) t

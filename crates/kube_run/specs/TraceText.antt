@@ -1,5 +1,5 @@
 -- The text of a trace: a line for each record, which is an object in the compact text, with its members by the bytes of their names.
-use Rattle.std.specs.Prelude.{ℕ, Bool, List, [], ◌∷◌, ◌++◌, Option, Some, None, option_map, is_some, codes}
+use Rattle.std.specs.Prelude.{ℕ, ◌+◌, Bool, List, [], ◌∷◌, ◌++◌, Option, Some, None, option_map, is_some, codes}
 use Rattle.serde_json.specs.Data.{Data, boolean, number, unsigned, string, object, Members, no_members, member}
 use Rattle.serde_json.specs.Written.{compact_text}
 use Rattle.kube_meta.specs.Reference.{Reference, shown}
@@ -7,7 +7,7 @@ use Rattle.kube_meta.specs.declared.metadata.ObjectMeta.{ObjectMeta}
 use Rattle.kube_meta.specs.declared.dynamic.DynamicObject.{DynamicObject}
 use Rattle.kube_model.specs.ErrorTexts.{fault_text}
 use Rattle.kube_model.specs.Reason.{Reason, reason_text}
-use Rattle.kube_model.specs.History.{Exchange, Message, Taken}
+use Rattle.kube_model.specs.History.{Exchange, Finished, Message, Taken, TurnRecord}
 use Rattle.kube_model.specs.declared.call.Call.{Call}
 use Rattle.kube_model.specs.declared.call.Call.TheVariants as calls
 use Rattle.kube_model.specs.declared.call.Answer.{Answer}
@@ -185,3 +185,33 @@ line_text l = compact_text (line_data l) ++ 10 ∷ []
 abbrev pub lines_text : List Line → List ℕ
 lines_text [] = []
 lines_text (l ∷ ls) = line_text l ++ lines_text ls
+
+-- ---- the lines of a trace
+
+-- finishes as they are shown, each with the text of its fault, if it failed
+abbrev pub shown_finishes : List (Option (List ℕ)) → List Finished → List ShownFinish
+shown_finishes faults [] = []
+shown_finishes [] (f ∷ fs) = record { error = None; reference = f.finish.reference; requeue = f.action } ∷ shown_finishes [] fs
+shown_finishes (fault ∷ faults) (f ∷ fs) = record { error = fault; reference = f.finish.reference; requeue = f.action } ∷ shown_finishes faults fs
+
+-- the line of a turn's record. A history keeps no texts of faults: those of the record's finishes are told beside it
+abbrev pub line_of : ℕ → List (Option (List ℕ)) → TurnRecord DynamicObject → Line
+line_of turn faults r = record {
+  turn = turn;
+  at = r.at;
+  asks = r.exchanges;
+  ended = r.ended;
+  finished = shown_finishes faults r.finished;
+  stops = r.stops;
+  store = r.store;
+  taken = r.taken;
+}
+
+-- the lines of records that have no finishes, numbered from here on
+abbrev pub lines_of : ℕ → List (TurnRecord DynamicObject) → List Line
+lines_of turn [] = []
+lines_of turn (r ∷ rs) = line_of turn [] r ∷ lines_of (turn + 1) rs
+
+-- their text, from turn 0 on
+abbrev pub text_of : List (TurnRecord DynamicObject) → List ℕ
+text_of records = lines_text (lines_of 0 records)

@@ -10,14 +10,9 @@ use Rattle.kube_meta.specs.Resources.{resource_type}
 use Rattle.kube_meta.specs.declared.dynamic.ApiResource.{ApiResource}
 use Rattle.kube_meta.specs.declared.dynamic.DynamicObject.{DynamicObject}
 use Rattle.kube_meta.specs.declared.object_ref.ObjectRef.{ObjectRef}
-use Rattle.kube_model.specs.ReasonView.{reason_of}
-use Rattle.kube_model.specs.History.{Exchange, Message, Taken}
-use Rattle.kube_control.specs.declared.exchange.SourceExchange.{SourceExchange}
-use Rattle.kube_control.specs.declared.request.ReconcileRequest.{ReconcileRequest}
 use Rattle.kube_control.specs.declared.record.Finished.{Finished}
-use Rattle.kube_control.specs.declared.record.Taken as held
-use Rattle.kube_control.specs.declared.record.Taken.TheVariants.{Started, NotFound, Nothing}
 use Rattle.kube_control.specs.declared.record.TurnRecord.{TurnRecord}
+use Rattle.kube_control.specs.Views.{exchange_of, taken_of}
 use Rattle.kube_run.specs.TraceText.{ShownFinish, Line}
 
 -- how the program names a type of objects
@@ -30,19 +25,6 @@ named_type t = resource_type (arc_value t)
 abbrev pub seen_reference : ObjectRef DynamicObject Named → Reference
 seen_reference r = reference_of named_type r
 
-abbrev pub seen_request : ReconcileRequest DynamicObject Named → Message
-seen_request q = record { reference = seen_reference q.obj_ref; reason = reason_of q.reason }
-
-abbrev pub seen_exchange : SourceExchange DynamicObject Named → Exchange DynamicObject
-seen_exchange x = record {
-  source = x.source;
-  call = x.call;
-  answer = x.answer;
-  items = map arc_value x.items;
-  requests = map seen_request x.requests;
-  error = x.error;
-}
-
 abbrev pub error_text : {A : Type 0} → Result A (List ℕ) → Option (List ℕ)
 error_text (Ok a) = None
 error_text (Err text) = Some text
@@ -50,24 +32,16 @@ error_text (Err text) = Some text
 abbrev pub seen_finish : Finished DynamicObject (List ℕ) Named → ShownFinish
 seen_finish f = record { error = error_text f.outcome; reference = seen_reference f.reference; requeue = f.action }
 
--- what was taken; nothing is no take
-abbrev pub seen_taken : held.Taken DynamicObject Named → Option (Taken DynamicObject)
-seen_taken (Started reference reason o) =
-    Some (record { message = record { reference = seen_reference reference; reason = reason_of reason }; object = Some (arc_value o) })
-seen_taken (NotFound reference reason) =
-    Some (record { message = record { reference = seen_reference reference; reason = reason_of reason }; object = None })
-seen_taken Nothing = None
-
 abbrev pub seen_record : ℕ → TurnRecord DynamicObject (List ℕ) Named → Line
 seen_record turn r = record {
   turn = turn;
   at = r.at.0;
-  asks = map seen_exchange r.exchanges;
+  asks = map (exchange_of named_type) r.exchanges;
   ended = r.ended;
   finished = map seen_finish r.finished;
   stops = map (λ s. s) r.stops;
   store = option_map (map arc_value) r.store;
-  taken = filter_map seen_taken r.taken;
+  taken = filter_map (taken_of named_type) r.taken;
 }
 
 -- the records numbered from here on

@@ -7,7 +7,8 @@ ghost use Rattle.kube_model.specs.History.{Exchange as exchange_record, Message 
 ghost use Rattle.kube_meta.specs.declared.dynamic.DynamicObject.{DynamicObject as object_record};
 ghost use Rattle.kube_run.specs.Shown.{ShowsMembers};
 ghost use Rattle.kube_run.specs.TraceText.{request_data, answer_word as answer_word_of, call_word as call_word_of, error_word as error_word_of, code_members, error_members, from_members, text_members, version_members, exchange_members, exchange_data};
-ghost use Rattle.kube_run.specs.TraceView.{seen_request, seen_exchange};
+ghost use Rattle.kube_run.specs.TraceView.{named_type};
+ghost use Rattle.kube_control.specs.Views.{exchange_of, message_of};
 
 use crate::show::{Show, member, text_member};
 use json::Writer;
@@ -21,7 +22,7 @@ use std::alloc::{AllocError, Global};
 impl Show for ReconcileRequest<DynamicObject> {
     ghost Seen = { message_record };
 
-    ghost seen = { seen_request };
+    ghost seen = { message_of named_type };
 
     ghost data_of = { request_data };
 
@@ -33,7 +34,7 @@ impl Show for ReconcileRequest<DynamicObject> {
 impl Show for SourceExchange<DynamicObject> {
     ghost Seen = { exchange_record object_record };
 
-    ghost seen = { seen_exchange };
+    ghost seen = { exchange_of named_type };
 
     ghost data_of = { exchange_data };
 
@@ -54,7 +55,7 @@ fn show_members(
     exchange: &SourceExchange<DynamicObject>,
 ) -> Result<(), AllocError>
     ensures before { OnOk result (out.new.before ≡ out.old.before) }
-    ensures members { ShowsMembers result out.old out.new (exchange_members (seen_exchange exchange.now)) }
+    ensures members { ShowsMembers result out.old out.new (exchange_members (exchange_of named_type exchange.now)) }
 {
     let answer = &exchange.answer;
     text_member(out, "answer", answer_word(answer))?;

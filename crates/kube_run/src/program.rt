@@ -4,12 +4,17 @@ ghost use Rattle.std.specs.Prelude.{◌≡◌, ◌+◌, ◌≤◌, ◌⊎◌, �
 ghost use Rattle.std.specs.Io.KnownBytes.{Appends};
 ghost use Rattle.kube_run.specs.Causes.{Rose};
 ghost use Rattle.kube_run.specs.Limit.{longest, TakesAtMost};
+ghost use Rattle.kube_run.specs.Part.{AppendsPart};
+ghost use Rattle.kube_run.specs.Script.{seen_script};
+ghost use Rattle.kube_run.specs.TraceText.{lines_text};
+ghost use Rattle.kube_run.specs.TraceView.{seen_records};
 ghost use Rattle.kube_run.specs.Served.{is_run as names_run, Serves, Runs, status_of};
 
 use crate::input::{Unread, read_all};
 use crate::load::{LoadError, load};
 use crate::output::write_all;
 use crate::play::play;
+use crate::record::ScriptRecord;
 use crate::script::Script;
 use crate::sink::Sink;
 use crate::source::Source;
@@ -73,6 +78,7 @@ fn told<W: Sink>(line: &[u8], status: Status, sink: &mut W) -> Status
     requires { status ≢ Status.WriteFault }
     ensures either { (result ≡ status) ⊎ (result ≡ Status.WriteFault) }
     ensures written { result ≡ status → Appends (W.written sink.old) (W.written sink.new) line.now }
+    ensures part { result ≡ Status.WriteFault → AppendsPart (W.written sink.old) (W.written sink.new) line.now }
     ensures fault { result ≡ Status.WriteFault → Rose (W.faults sink.old) (W.faults sink.new) }
 {
     match write_all(sink, line) {
@@ -83,7 +89,7 @@ fn told<W: Sink>(line: &[u8], status: Status, sink: &mut W) -> Status
 
 /// Runs a controller by a script, and writes the records of its turns.
 fn run_script<W: Sink>(alloc: Global, script: Script, sink: &mut W) -> Status
-    ensures runs { Runs result (W.written sink.old) (W.written sink.new) }
+    ensures runs { Runs result (seen_script script) (W.written sink.old) (W.written sink.new) }
     ensures fault { result ≡ Status.WriteFault → Rose (W.faults sink.old) (W.faults sink.new) }
 {
     match play(alloc, script) {
@@ -91,19 +97,27 @@ fn run_script<W: Sink>(alloc: Global, script: Script, sink: &mut W) -> Status
             Ok(()) => Status::Done,
             Err(error) => unwritten(error),
         },
+        Err(RunError::NoMemory { trace }) => write_first(alloc, trace.records.as_slice(), sink),
         // A controller that was just made isn't spent.
-        Err(RunError::NoMemory { trace }) | Err(RunError::Spent { trace }) => {
-            match write_records(alloc, trace.records.as_slice(), sink) {
-                Ok(()) => Status::NoMemory,
-                Err(error) => unwritten(error),
-            }
-        }
+        Err(RunError::Spent { trace }) => write_first(alloc, trace.records.as_slice(), sink),
         Err(RunError::NotBuilt { turn, trace }) => {
             match write_refused(alloc, trace.records.as_slice(), turn, sink) {
                 Ok(()) => Status::BadRun,
                 Err(error) => unwritten(error),
             }
         }
+    }
+}
+
+/// Writes the records of the turns before memory was wanting.
+fn write_first<W: Sink>(alloc: Global, records: &[ScriptRecord], sink: &mut W) -> Status
+    ensures either { (result ≡ Status.NoMemory) ⊎ (result ≡ Status.WriteFault) }
+    ensures part { AppendsPart (W.written sink.old) (W.written sink.new) (lines_text (seen_records 0 records.now)) }
+    ensures fault { result ≡ Status.WriteFault → Rose (W.faults sink.old) (W.faults sink.new) }
+{
+    match write_records(alloc, records, sink) {
+        Ok(()) => Status::NoMemory,
+        Err(error) => unwritten(error),
     }
 }
 

@@ -6,7 +6,8 @@ ghost use Rattle.serde_json.specs.Data.{member as data_member};
 ghost use Rattle.kube_model.specs.declared.turn.Stop.{Stop as stop_type};
 ghost use Rattle.kube_run.specs.Shown.{ShowsMembers, tokens_of, array_of};
 ghost use Rattle.kube_run.specs.TraceText.{ShownFinish, text_or_null, finish_members, finish_data, stop_word as stop_word_of, stop_data, taken_data, line_members, line_data, line_text};
-ghost use Rattle.kube_run.specs.TraceView.{error_text, seen_finish, seen_taken, seen_record};
+ghost use Rattle.kube_run.specs.TraceView.{error_text, named_type, seen_finish, seen_record};
+ghost use Rattle.kube_control.specs.Views.{taken_of};
 ghost use Rattle.kube_run.specs.Lines.{not_built_data, not_built_line as not_built_text};
 
 use crate::show::{Show, member, member_if, text_member};
@@ -142,7 +143,7 @@ fn takes_member(
     taken: &List<Taken<DynamicObject>>,
 ) -> Result<(), AllocError>
     ensures before { OnOk result (out.new.before ≡ out.old.before) }
-    ensures members { ShowsMembers result out.old out.new (data_member (codes "taken") (array_of taken_data (filter_map seen_taken taken.now))) }
+    ensures members { ShowsMembers result out.old out.new (data_member (codes "taken") (array_of taken_data (filter_map (taken_of named_type) taken.now))) }
 {
     out.key("taken")?;
     show_takes(alloc, out, taken.as_slice())?;

@@ -6,7 +6,8 @@ ghost use Rattle.std.specs.Arc.{arc_value};
 ghost use Rattle.kube_model.specs.ReasonView.{reason_of};
 ghost use Rattle.kube_run.specs.Shown.{ShowsMembers, tokens_of, item_tokens, array_of, member_if as data_member_if};
 ghost use Rattle.kube_run.specs.TraceText.{object_data, taken_members, taken_data, taken_tokens};
-ghost use Rattle.kube_run.specs.TraceView.{seen_taken, seen_reference};
+ghost use Rattle.kube_run.specs.TraceView.{named_type, seen_reference};
+ghost use Rattle.kube_control.specs.Views.{taken_of};
 
 use crate::show::{Show, member};
 use json::Writer;
@@ -23,7 +24,7 @@ pub fn show_takes(
     takes: &[Taken<DynamicObject>],
 ) -> Result<(), AllocError>
     ensures before { OnOk result (out.new.before ≡ out.old.before) }
-    ensures tokens { OnOk result (out.new.tokens ≡ out.old.tokens ++ tokens_of (array_of taken_data (filter_map seen_taken takes.now))) }
+    ensures tokens { OnOk result (out.new.tokens ≡ out.old.tokens ++ tokens_of (array_of taken_data (filter_map (taken_of named_type) takes.now))) }
 {
     out.begin_array()?;
     for taken in takes {
@@ -39,7 +40,7 @@ fn show_taken(
     taken: &Taken<DynamicObject>,
 ) -> Result<(), AllocError>
     ensures before { OnOk result (out.new.before ≡ out.old.before) }
-    ensures tokens { OnOk result (out.new.tokens ≡ out.old.tokens ++ taken_tokens (seen_taken taken.now)) }
+    ensures tokens { OnOk result (out.new.tokens ≡ out.old.tokens ++ taken_tokens (taken_of named_type taken.now)) }
 {
     match taken {
         Taken::Started {

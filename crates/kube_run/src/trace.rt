@@ -47,6 +47,7 @@ pub fn write_refused<W: Sink>(
     sink: &mut W,
 ) -> Result<(), Unwritten>
     ensures all { OnOk result (Appends (W.written sink.old) (W.written sink.new) (lines_text (seen_records 0 records.now) ++ not_built_text turn)) }
+    ensures part { OnErr result (AppendsPart (W.written sink.old) (W.written sink.new) (lines_text (seen_records 0 records.now) ++ not_built_text turn)) }
     ensures fault { IsErrOf result Unwritten.Fault → Rose (W.faults sink.old) (W.faults sink.new) }
     ensures later { W.faults sink.old ≤ W.faults sink.new }
 {

@@ -1,19 +1,18 @@
 //! Runs of a controller over turns.
 
 ghost use Rattle.std.specs.Prelude.{◌≡◌, ◌<◌, ◌^◌, ◌++◌, [], List, true, false, IfErr, IfOk, IsErrAnd, OnErr, OnOk, length, take};
-ghost use Rattle.std.specs.List.{filter_map, AllZip};
+ghost use Rattle.std.specs.List.{filter_map, AllByRecursion, AllZip};
 ghost use Rattle.kube_model.specs.History.{Step, Turn as PlainTurn, TurnRecord as PlainRecord};
-ghost use Rattle.kube_model.specs.Raw.{Raw, grown_by};
-ghost use Rattle.kube_model.specs.Recorded.{IsRecorded};
+ghost use Rattle.kube_model.specs.Raw.{grown_by};
 ghost use Rattle.kube_model.specs.Settled.{IsSettled};
 ghost use Rattle.kube_model.specs.Traces.{IsTrace, steps};
-ghost use Rattle.kube_model.specs.World.{default_settings};
-ghost use Rattle.kube_control.specs.Built.{IsBuilt};
+ghost use Rattle.kube_control.specs.Built.{IsBuilt, TakesSomething};
+ghost use Rattle.kube_control.specs.Calls.{AreMadeBy, dated_in};
 ghost use Rattle.kube_control.specs.Controllers.{is_spent, api_of, dyntype_of, records_before, IfNotBuiltTurn, IfSpent, IsSpent};
 ghost use Rattle.kube_control.specs.Messages.{handed};
 ghost use Rattle.kube_control.specs.NotBuilt.{IsNotBuiltAfter};
 ghost use Rattle.kube_control.specs.Records.{records_of, turns_of};
-ghost use Rattle.kube_control.specs.StandsFor.{StandsFor, exchanges_in, taken_in, world};
+ghost use Rattle.kube_control.specs.StandsFor.{StandsFor, taken_in, world};
 
 use crate::controller::Controller;
 use crate::controller::turns::take_turns;
@@ -84,10 +83,14 @@ impl<A: ApiMode> Controller<WatchRoot<A>, NoRelated, ()> {
             → IfOk result (λ r. IsTrace (world A.Value.type_of A.Value.meta_of self.old) h (turns_of A.Value.type_of turns.items) (records_of A.Value.type_of r.records)
             × StandsFor A.Value.type_of A.Value.meta_of (h ++ steps (turns_of A.Value.type_of turns.items) (records_of A.Value.type_of r.records)) self.new) }
 
-        // Where the API tells its talk, it grew by the raw forms of the trace's exchanges, in order.
-        ensures talk { IfOk result (λ r. (raws : List (Raw A.Value))
-            × AllZip (IsRecorded (world A.Value.type_of A.Value.meta_of self.old).version default_settings) raws (exchanges_in (records_of A.Value.type_of r.records))
-            × (A.talk (api_of self.new) ≡ grown_by (A.talk (api_of self.old)) raws)) }
+        // The trace's exchanges were made by calls of the API, one after another, each at its turn's moment. Where the API
+        // tells its talk, it grew by exactly these.
+        ensures talk { IfOk result (λ r. AreMadeBy A.moves A.talk (world A.Value.type_of A.Value.meta_of self.old).version
+            (dated_in (records_of A.Value.type_of r.records)) (api_of self.old) (api_of self.new)) }
+
+        // So were those of the turns before an error, from the API as it was.
+        ensures talk_before { IfErr result (λ e. (middle : A) × AreMadeBy A.moves A.talk (world A.Value.type_of A.Value.meta_of self.old).version
+            (dated_in (records_of A.Value.type_of (records_before e))) (api_of self.old) middle) }
 
         // Where the reconciler tells its list, it grew by what the trace started, in order.
         ensures handed { IfOk result (λ r. Rc.handed reconciler.new
@@ -118,14 +121,19 @@ impl<A: ApiMode> Controller<WatchRoot<A>, NoRelated, ()> {
         ensures unspent { OnOk result (is_spent self.new ≡ false) }
 
         // The turns that have records are built.
-        ensures built { IfOk result (λ r. AllZip (IsBuilt A.Value.type_of A.Value.meta_of) (take (length r.records) turns.items) r.records) }
-        ensures built_before { IfErr result (λ e. AllZip (IsBuilt A.Value.type_of A.Value.meta_of) (take (length (records_before e)) turns.items) (records_before e)) }
+        ensures built { IfOk result (λ r. AllZip (IsBuilt A.Value.meta_of) (turns_of A.Value.type_of (take (length r.records) turns.items)) (records_of A.Value.type_of r.records)) }
+        ensures built_before { IfErr result (λ e. AllZip (IsBuilt A.Value.meta_of)
+            (turns_of A.Value.type_of (take (length (records_before e)) turns.items)) (records_of A.Value.type_of (records_before e))) }
+
+        // All that they tell as taken is something.
+        ensures something { IfOk result (λ r. AllByRecursion (TakesSomething A.Value.type_of) r.records) }
+        ensures something_before { IfErr result (λ e. AllByRecursion (TakesSomething A.Value.type_of) (records_before e)) }
 
         // The turn that is not built comes after those, and has a cause.
         ensures not_built { IfErr result (λ e. IfNotBuiltTurn e (λ turn records. turn ≡ length records)) }
         ensures cause { (h : List (Step A.Value)) → StandsFor A.Value.type_of A.Value.meta_of h self.old
-            → IfErr result (λ e. IfNotBuiltTurn e (λ turn records. IsNotBuiltAfter (A.Value.type_of (dyntype_of self.old)) A.Value.meta_of A.Value.type_of h turns.items
-            (records_of A.Value.type_of records) (A.talk (api_of self.old)) (A.talk (api_of self.new)))) }
+            → IfErr result (λ e. IfNotBuiltTurn e (λ turn records. IsNotBuiltAfter A.moves A.talk (A.Value.type_of (dyntype_of self.old)) A.Value.meta_of h (turns_of A.Value.type_of turns.items)
+            (records_of A.Value.type_of records) (api_of self.old) (api_of self.new))) }
     {
         let mut records = List::new(alloc);
         if self.spent {

@@ -5,8 +5,10 @@ ghost use Rattle.std.specs.List.{filter_map, list_any};
 ghost use Rattle.kube_model.specs.declared.turn.Stop.TheVariants.{NotReady, Budget};
 ghost use Rattle.kube_model.specs.Raw.{Raw, grown_by};
 ghost use Rattle.kube_model.specs.Owed.{is_not_ready};
+ghost use Rattle.kube_control.specs.Calls.{AreMoves, made_at};
 ghost use Rattle.kube_control.specs.Exchanges.{AreAll, AreAsked, IsStoppedAsking, waiting_after};
 ghost use Rattle.kube_control.specs.Messages.{take_of, handed};
+ghost use Rattle.kube_control.specs.Records.{turn_of};
 ghost use Rattle.kube_control.specs.Unbuilt.{DoesMore, IfNotBuilt, OnlyAsks};
 ghost use Rattle.kube_control.specs.Views.{exchange_of, kept_of, object_of, shown_objects, taken_of};
 
@@ -30,8 +32,8 @@ const MOMENT_END: u64 = 9_223_372_036_854_775_808;
 
 /// Whether a turn only asks, at a moment that follows the last one.
 fn test<K: Resource, E: Drop>(turn: &Turn<K, E>, last: Moment) -> Result<(), Fault>
-    ensures ok { OnOk result (OnlyAsks turn.now last.0) }
-    ensures err { OnErr result (DoesMore turn.now last.0) }
+    ensures ok { OnOk result (OnlyAsks (turn_of K.type_of turn.now) last.0) }
+    ensures err { OnErr result (DoesMore (turn_of K.type_of turn.now) last.0) }
     ensures fault { IfErr result (λ f. f ≡ Fault.NotBuilt) }
 {
     if turn.at.0 >= MOMENT_END {
@@ -89,12 +91,13 @@ pub fn take_turn<A: ApiMode, Ctx: Drop, Rc: Reconciler<A::Value, Ctx>, E: Drop>(
     last: Moment,
     turn: &Turn<A::Value, E>,
 ) -> Result<TurnRecord<A::Value, E>, Fault>
-    ensures only_asks { OnOk result (OnlyAsks turn.now last.0) }
+    ensures only_asks { OnOk result (OnlyAsks (turn_of A.Value.type_of turn.now) last.0) }
     // The exchanges are made one after another, each by a call of the API.
     ensures asked { IfOk result (λ r. (raws : List (Raw A.Value))
         × AreAsked (A.Value.type_of root.old.state.dyntype) A.Value.meta_of turn.now.at.0 (kept_of A.Value.type_of root.old.state)
         (map (exchange_of A.Value.type_of) r.exchanges) raws (kept_of A.Value.type_of root.new.state)
-        × (A.talk root.new.api ≡ grown_by (A.talk root.old.api) raws)) }
+        × (A.talk root.new.api ≡ grown_by (A.talk root.old.api) raws)
+        × AreMoves A.moves root.old.api (made_at turn.now.at.0 raws) root.new.api) }
     ensures all { IfOk result (λ r. AreAll (slice_index turn.now.budget 0) (map (exchange_of A.Value.type_of) r.exchanges)) }
     // Of each reference that was requested the last message is taken.
     ensures taken { IfOk result (λ r. map (taken_of A.Value.type_of) r.taken
@@ -106,10 +109,10 @@ pub fn take_turn<A: ApiMode, Ctx: Drop, Rc: Reconciler<A::Value, Ctx>, E: Drop>(
     ensures stops { IfOk result (λ r. r.stops ≡ (if list_any (λ x. is_not_ready x.answer) r.exchanges then NotReady else Budget) ∷ []) }
     ensures store { IfOk result (λ r. shown_objects r.store ≡ (if turn.now.show then Some (map object_of root.new.state.cache.items) else None)) }
     ensures plain { IfOk result (λ r. (r.finished ≡ []) × (r.runner ≡ None) × (r.ended ≡ false)) }
-    // It does more than ask, or an answer came that is not built.
-    ensures cause { IfErr result (λ f. IfNotBuilt f (DoesMore turn.now last.0
-        ⊎ OnlyAsks turn.now last.0 × IsStoppedAsking (A.Value.type_of root.old.state.dyntype) A.Value.meta_of turn.now.at.0 (slice_index turn.now.budget 0)
-        (kept_of A.Value.type_of root.old.state) (A.talk root.old.api) (A.talk root.new.api))) }
+    // It does more than ask, and nothing is asked; or an answer came that is not built.
+    ensures cause { IfErr result (λ f. IfNotBuilt f (DoesMore (turn_of A.Value.type_of turn.now) last.0 × (root.new.api ≡ root.old.api)
+        ⊎ OnlyAsks (turn_of A.Value.type_of turn.now) last.0 × IsStoppedAsking (A.Value.type_of root.old.state.dyntype) A.Value.meta_of A.moves A.talk turn.now.at.0
+        (slice_index turn.now.budget 0) (kept_of A.Value.type_of root.old.state) root.old.api root.new.api)) }
     // A turn that is not built starts nothing.
     ensures starts_nothing { IfErr result (λ f. IfNotBuilt f (Rc.handed reconciler.new ≡ Rc.handed reconciler.old)) }
     ensures dyntype { root.new.state.dyntype ≡ root.old.state.dyntype }

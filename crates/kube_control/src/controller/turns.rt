@@ -1,18 +1,17 @@
 //! Turns, one after another.
 
 ghost use Rattle.std.specs.Prelude.{◌≡◌, ◌≤◌, ◌++◌, [], ◌∷◌, List, length, take, IfErr, IfOk, OnOk, OnErr};
-ghost use Rattle.std.specs.List.{filter_map, AllZip};
-ghost use Rattle.kube_model.specs.History.{Step};
-ghost use Rattle.kube_model.specs.Raw.{Raw, grown_by};
-ghost use Rattle.kube_model.specs.Recorded.{IsRecorded};
+ghost use Rattle.std.specs.List.{filter_map, AllByRecursion, AllZip};
+ghost use Rattle.kube_model.specs.History.{Step, dated};
+ghost use Rattle.kube_model.specs.Raw.{grown_by};
 ghost use Rattle.kube_model.specs.Traces.{IsRecord, IsTrace, step, steps};
-ghost use Rattle.kube_model.specs.World.{default_settings};
-ghost use Rattle.kube_control.specs.Built.{IsBuilt};
+ghost use Rattle.kube_control.specs.Built.{IsBuilt, TakesSomething};
+ghost use Rattle.kube_control.specs.Calls.{AreMadeBy, dated_in};
 ghost use Rattle.kube_control.specs.Controllers.{api_of, dyntype_of};
 ghost use Rattle.kube_control.specs.Messages.{handed};
 ghost use Rattle.kube_control.specs.NotBuilt.{IsNotBuilt, IsNotBuiltAfter};
 ghost use Rattle.kube_control.specs.Records.{record_of, records_of, turn_of, turns_of};
-ghost use Rattle.kube_control.specs.StandsFor.{StandsFor, exchanges_in, taken_in, world};
+ghost use Rattle.kube_control.specs.StandsFor.{StandsFor, taken_in, world};
 ghost use Rattle.kube_control.specs.Unbuilt.{IfNotBuilt};
 
 use crate::controller::Controller;
@@ -39,17 +38,17 @@ fn next_turn<A: ApiMode, Ctx: Drop, Rc: Reconciler<A::Value, Ctx>, E: Drop>(
     ensures made { (h : List (Step A.Value)) → StandsFor A.Value.type_of A.Value.meta_of h controller.old
         → IfOk result (λ r. IsRecord (world A.Value.type_of A.Value.meta_of controller.old) h (turn_of A.Value.type_of turn.now) (record_of A.Value.type_of r)
         × StandsFor A.Value.type_of A.Value.meta_of (h ++ step (turn_of A.Value.type_of turn.now) (record_of A.Value.type_of r) ∷ []) controller.new) }
-    ensures talk { IfOk result (λ r. (raws : List (Raw A.Value))
-        × AllZip (IsRecorded (world A.Value.type_of A.Value.meta_of controller.old).version default_settings) raws (record_of A.Value.type_of r).exchanges
-        × (A.talk (api_of controller.new) ≡ grown_by (A.talk (api_of controller.old)) raws)) }
+    ensures talk { IfOk result (λ r. AreMadeBy A.moves A.talk (world A.Value.type_of A.Value.meta_of controller.old).version
+        (dated (record_of A.Value.type_of r).at (record_of A.Value.type_of r).exchanges) (api_of controller.old) (api_of controller.new)) }
     ensures handed { IfOk result (λ r. Rc.handed reconciler.new
         ≡ grown_by (Rc.handed reconciler.old) (filter_map handed (record_of A.Value.type_of r).taken)) }
-    ensures built { IfOk result (λ r. IsBuilt A.Value.type_of A.Value.meta_of turn.now r) }
+    ensures built { IfOk result (λ r. IsBuilt A.Value.meta_of (turn_of A.Value.type_of turn.now) (record_of A.Value.type_of r)) }
+    ensures something { IfOk result (λ r. TakesSomething A.Value.type_of r) }
     ensures starts_nothing { IfErr result (λ f. IfNotBuilt f (Rc.handed reconciler.new ≡ Rc.handed reconciler.old)) }
     // Why the turn is not built.
     ensures cause { (h : List (Step A.Value)) → StandsFor A.Value.type_of A.Value.meta_of h controller.old
-        → IfErr result (λ f. IfNotBuilt f (IsNotBuilt (A.Value.type_of (dyntype_of controller.old)) A.Value.meta_of A.Value.type_of h turn.now
-        (A.talk (api_of controller.old)) (A.talk (api_of controller.new)))) }
+        → IfErr result (λ f. IfNotBuilt f (IsNotBuilt A.moves A.talk (A.Value.type_of (dyntype_of controller.old)) A.Value.meta_of h (turn_of A.Value.type_of turn.now)
+        (api_of controller.old) (api_of controller.new))) }
     ensures dyntype { dyntype_of controller.new ≡ dyntype_of controller.old }
     ensures spent { controller.new.spent ≡ controller.old.spent }
 {
@@ -77,19 +76,21 @@ pub fn take_turns<A: ApiMode, Ctx: Drop, Rc: Reconciler<A::Value, Ctx>, E: Drop>
     // Where a turn fails they are the trace of the turns before it.
     ensures front { (h : List (Step A.Value)) → StandsFor A.Value.type_of A.Value.meta_of h controller.old
         → OnErr result (IsTrace (world A.Value.type_of A.Value.meta_of controller.old) h (turns_of A.Value.type_of (take (length records.new) turns.now)) (records_of A.Value.type_of records.new)) }
-    ensures talk { OnOk result ((raws : List (Raw A.Value))
-        × AllZip (IsRecorded (world A.Value.type_of A.Value.meta_of controller.old).version default_settings) raws (exchanges_in (records_of A.Value.type_of records.new))
-        × (A.talk (api_of controller.new) ≡ grown_by (A.talk (api_of controller.old)) raws)) }
+    ensures talk { OnOk result (AreMadeBy A.moves A.talk (world A.Value.type_of A.Value.meta_of controller.old).version
+        (dated_in (records_of A.Value.type_of records.new)) (api_of controller.old) (api_of controller.new)) }
+    ensures talk_before { OnErr result ((middle : A) × AreMadeBy A.moves A.talk (world A.Value.type_of A.Value.meta_of controller.old).version
+        (dated_in (records_of A.Value.type_of records.new)) (api_of controller.old) middle) }
     ensures handed { OnOk result (Rc.handed reconciler.new
         ≡ grown_by (Rc.handed reconciler.old) (filter_map handed (taken_in (records_of A.Value.type_of records.new)))) }
     ensures handed_before { IfErr result (λ f. IfNotBuilt f (Rc.handed reconciler.new
         ≡ grown_by (Rc.handed reconciler.old) (filter_map handed (taken_in (records_of A.Value.type_of records.new))))) }
     // The turns that have records are built.
-    ensures built { AllZip (IsBuilt A.Value.type_of A.Value.meta_of) (take (length records.new) turns.now) records.new }
+    ensures built { AllZip (IsBuilt A.Value.meta_of) (turns_of A.Value.type_of (take (length records.new) turns.now)) (records_of A.Value.type_of records.new) }
+    ensures something { AllByRecursion (TakesSomething A.Value.type_of) records.new }
     // Why the turn after those is not built.
     ensures cause { (h : List (Step A.Value)) → StandsFor A.Value.type_of A.Value.meta_of h controller.old
-        → IfErr result (λ f. IfNotBuilt f (IsNotBuiltAfter (A.Value.type_of (dyntype_of controller.old)) A.Value.meta_of A.Value.type_of h turns.now
-        (records_of A.Value.type_of records.new) (A.talk (api_of controller.old)) (A.talk (api_of controller.new)))) }
+        → IfErr result (λ f. IfNotBuilt f (IsNotBuiltAfter A.moves A.talk (A.Value.type_of (dyntype_of controller.old)) A.Value.meta_of h (turns_of A.Value.type_of turns.now)
+        (records_of A.Value.type_of records.new) (api_of controller.old) (api_of controller.new))) }
     ensures dyntype { dyntype_of controller.new ≡ dyntype_of controller.old }
     ensures spent { controller.new.spent ≡ controller.old.spent }
 {

@@ -2,7 +2,8 @@ use Rattle.std.proofs.Common.{◌∙◌, sym, codes}
 use Rattle.serde_json.specs.Data.{member, string, number, unsigned}
 use Rattle.kube_run.specs.Shown.{array_of}
 use Rattle.kube_run.specs.TraceText.{object_data, request_data, code_members, error_members, from_members, text_members, version_members, exchange_members}
-use Rattle.kube_run.specs.TraceView.{seen_exchange}
+use Rattle.kube_control.specs.Views.{exchange_of}
+use Rattle.kube_run.specs.TraceView.{named_type}
 use Rattle.kube_run.proofs.exchange.show_members.Goals as goal
 
 pub returns-clause-members : goal.returns-clause-members
@@ -11,8 +12,8 @@ returns-clause-members c rest =
     let r9 = version_members c.args.exchange.now.answer rest in
     let r8 = text_members c.args.exchange.now.answer r9 in
     let r7 = member (codes "source") (number (unsigned c.args.exchange.now.source)) r8 in
-    let r6 = member (codes "requests") (array_of request_data (seen_exchange c.args.exchange.now).requests) r7 in
-    let r5 = member (codes "items") (array_of object_data (seen_exchange c.args.exchange.now).items) r6 in
+    let r6 = member (codes "requests") (array_of request_data (exchange_of named_type c.args.exchange.now).requests) r7 in
+    let r5 = member (codes "items") (array_of object_data (exchange_of named_type c.args.exchange.now).items) r6 in
     let r4 = from_members c.args.exchange.now.call r5 in
     let r3 = error_members c.args.exchange.now.error r4 in
     let r2 = code_members c.args.exchange.now.answer r3 in

@@ -1,23 +1,24 @@
-use Rattle.std.proofs.Common.{◌≡◌, ◌++◌, ◌+◌, ◌<◌, [], ◌∷◌, length, take, slice_get, refl, sym, ap, subst, ◌∙◌, append-nil, length-append, arith}
-use Rattle.std.specs.List.{filter_map, AllZip}
-use Rattle.std.proofs.lemmas.List.{map-append, length-map, length-take-le, take_more}
+use Rattle.std.proofs.Common.{◌≡◌, ◌++◌, ◌+◌, ◌<◌, [], ◌∷◌, length, take, slice_get, option_map, false, refl, sym, ap, subst, ◌∙◌, append-nil, length-append, arith}
+use Rattle.std.specs.List.{filter_map, AllByRecursion, AllZip}
+use Rattle.std.proofs.lemmas.List.{map-append, length-map, length-take-le, take-map, take_more}
 use Rattle.std.proofs.lemmas.List.Elements.{filter_map-append}
 use Rattle.kube_model.specs.Raw.{grown_by}
-use Rattle.kube_model.specs.Recorded.{IsRecorded}
-use Rattle.kube_model.specs.Traces.{IsRecord, steps}
-use Rattle.kube_model.specs.World.{default_settings}
-use Rattle.kube_control.specs.Built.{IsBuilt}
+use Rattle.kube_model.specs.Traces.{IsRecord, has_ended, steps}
+use Rattle.kube_control.specs.Built.{IsBuilt, TakesSomething}
+use Rattle.kube_control.specs.Calls.{AreMadeBy, dated_in}
 use Rattle.kube_control.specs.Controllers.{api_of, dyntype_of}
 use Rattle.kube_control.specs.Messages.{handed}
 use Rattle.kube_control.specs.Records.{record_of, records_of, turn_of, turns_of}
-use Rattle.kube_control.specs.StandsFor.{StandsFor, exchanges_in, taken_in, world}
+use Rattle.kube_control.specs.StandsFor.{StandsFor, taken_in, world}
 use Rattle.kube_control.specs.Worlds.{world_of}
-use Rattle.std.proofs.lemmas.Option.{slice_get_read}
+use Rattle.std.proofs.lemmas.Option.{slice_get_read, slice_get-map}
 use Rattle.std.proofs.lemmas.Result.{err_from_is_err_and}
 use Rattle.kube_control.specs.NotBuilt.{IsNotBuilt}
 use Rattle.kube_control.proofs.Causes.{cause-weaker}
-use Rattle.kube_control.proofs.Grows.{grown-nil, grown-append, zip-append}
-use Rattle.kube_control.proofs.TurnSteps.{trace-goes-on, exchanges-push, taken-push}
+use Rattle.kube_control.proofs.Grows.{all-push, grown-nil, grown-append, zip-append}
+use Rattle.kube_control.proofs.TurnSteps.{trace-goes-on, dated-push, taken-push}
+use Rattle.kube_control.proofs.Moves.{made-none, made-append}
+use Rattle.kube_model.specs.History.{dated}
 use Rattle.kube_control.proofs.controller.turns.take_turns.Goals as goal
 
 pub loop-turn-init : goal.loop-turn-init
@@ -28,14 +29,13 @@ loop-turn-init g c =
       count = ap length c.requires;
       spent = refl;
       trace = λ h s. (none, subst (λ z. StandsFor type_of g.A.Value.Resource.meta_of z c.args.controller.now) (sym (append-nil h)) s);
-      talk = (
-        [],
-        subst (λ rs. AllZip (IsRecorded (world type_of g.A.Value.Resource.meta_of c.args.controller.now).version default_settings) [] (exchanges_in rs)) (sym none) tt,
-        sym (grown-nil (g.A.ApiMode.talk (api_of c.args.controller.now))),
-      );
+      talk =
+          subst (λ rs. AreMadeBy g.A.ApiMode.moves g.A.ApiMode.talk (world type_of g.A.Value.Resource.meta_of c.args.controller.now).version (dated_in rs) (api_of c.args.controller.now) (api_of c.args.controller.now)) (sym none)
+          (made-none g.A.ApiMode.moves g.A.ApiMode.talk (world type_of g.A.Value.Resource.meta_of c.args.controller.now).version (api_of c.args.controller.now));
       handed =
           sym (ap (λ rs. grown_by (g.Rc.Reconciler.handed c.args.reconciler.now) (filter_map handed (taken_in rs))) none ∙ grown-nil (g.Rc.Reconciler.handed c.args.reconciler.now));
-      built = subst (λ rs. AllZip (IsBuilt type_of g.A.Value.Resource.meta_of) [] rs) (sym c.requires) tt;
+      built = subst (λ rs. AllZip (IsBuilt g.A.Value.Resource.meta_of) [] rs) (sym none) tt;
+      something = subst (AllByRecursion (TakesSomething type_of)) (sym c.requires) tt;
       dyntype = refl;
     }
 
@@ -69,13 +69,13 @@ loop-turn-preserved g c =
           (subst (λ d. IsRecord (world_of (type_of d) meta) (h ++ steps (turns_of type_of (take n turns)) (records_of type_of c.loop-turn.records)) (turn_of type_of c.turn-item.result) (record_of type_of c.in_ok-record.record))
           i.dyntype m.0) in
           (p.0, subst (λ z. StandsFor type_of meta z c.next_turn.new.controller) p.1 m.1);
-      talk = (
-        i.talk.0 ++ e.talk.0,
-        subst (λ xs. AllZip (IsRecorded (world type_of meta c.args.controller.now).version default_settings) (i.talk.0 ++ e.talk.0) xs)
-            (sym (exchanges-push (records_of type_of c.loop-turn.records) (records_of type_of c.push.new.self) (record_of type_of c.in_ok-record.record) rs))
-            (zip-append (IsRecorded (world type_of meta c.args.controller.now).version default_settings) i.talk.0 (exchanges_in (records_of type_of c.loop-turn.records)) e.talk.0 (record_of type_of c.in_ok-record.record).exchanges i.talk.1 e.talk.1),
-        e.talk.2 ∙ ap (λ o. grown_by o e.talk.0) i.talk.2 ∙ grown-append (g.A.ApiMode.talk (api_of c.args.controller.now)) i.talk.0 e.talk.0,
-      );
+      talk =
+          let version = (world type_of meta c.args.controller.now).version in
+          let r = record_of type_of c.in_ok-record.record in
+          subst (λ ds. AreMadeBy g.A.ApiMode.moves g.A.ApiMode.talk version ds (api_of c.args.controller.now) (api_of c.next_turn.new.controller))
+          (sym (dated-push (records_of type_of c.loop-turn.records) (records_of type_of c.push.new.self) r rs))
+          (made-append g.A.ApiMode.moves g.A.ApiMode.talk version (dated_in (records_of type_of c.loop-turn.records)) (dated r.at r.exchanges)
+          (api_of c.args.controller.now) (api_of c.loop-turn.controller) (api_of c.next_turn.new.controller) i.talk e.talk);
       handed =
           e.handed ∙ ap (λ o. grown_by o (filter_map handed (record_of type_of c.in_ok-record.record).taken)) i.handed
           ∙ grown-append (g.Rc.Reconciler.handed c.args.reconciler.now) (filter_map handed (taken_in (records_of type_of c.loop-turn.records))) (filter_map handed (record_of type_of c.in_ok-record.record).taken)
@@ -83,9 +83,10 @@ loop-turn-preserved g c =
           (sym (ap (filter_map handed) (taken-push (records_of type_of c.loop-turn.records) (records_of type_of c.push.new.self) (record_of type_of c.in_ok-record.record) rs)
           ∙ filter_map-append handed (taken_in (records_of type_of c.loop-turn.records)) (record_of type_of c.in_ok-record.record).taken));
       built =
-          subst (λ ts. AllZip (IsBuilt type_of meta) ts c.push.new.self) (sym more)
-          (subst (AllZip (IsBuilt type_of meta) (take n turns ++ c.turn-item.result ∷ [])) (sym c.in_ok-push.ensures.ok)
-          (zip-append (IsBuilt type_of meta) (take n turns) c.loop-turn.records (c.turn-item.result ∷ []) (c.in_ok-record.record ∷ []) i.built (e.built, tt)));
+          subst (λ us. AllZip (IsBuilt meta) us (records_of type_of c.push.new.self)) (sym ts)
+          (subst (AllZip (IsBuilt meta) (turns_of type_of (take n turns) ++ turn_of type_of c.turn-item.result ∷ [])) (sym rs)
+          (zip-append (IsBuilt meta) (turns_of type_of (take n turns)) (records_of type_of c.loop-turn.records) (turn_of type_of c.turn-item.result ∷ []) (record_of type_of c.in_ok-record.record ∷ []) i.built (e.built, tt)));
+      something = subst (AllByRecursion (TakesSomething type_of)) (sym c.in_ok-push.ensures.ok) (all-push (TakesSomething type_of) c.loop-turn.records c.in_ok-record.record i.something e.something);
       dyntype = e.dyntype ∙ i.dyntype;
     }
 
@@ -99,20 +100,21 @@ returns-in_err-record-clause-cause g c h s =
     let rs = records_of type_of c.loop-turn.records in
     let here : n < length turns = omega arith in
     let many : length rs ≡ n = length-map c.loop-turn.records (record_of type_of) ∙ i.count in
+    let first : take (length rs) (turns_of type_of turns) ≡ turns_of type_of (take n turns) = ap (λ m. take m (turns_of type_of turns)) many ∙ take-map (turn_of type_of) n turns in
+    let k = i.trace h s in
     let p = err_from_is_err_and c.from_residual.result c.from_residual.ensures.1 in
     rw (p.1, p.2) (cause-weaker c.in_err-record.field-0.0
     (λ nb. record {
-      turn = c.turn-item.result;
-      there = ap (slice_get turns) many ∙ slice_get_read turns (length turns) n c.turn-item.result refl here c.turn-item.is;
-      raws = i.talk.0;
-      recorded = i.talk.1;
+      turn = turn_of type_of c.turn-item.result;
+      there = ap (slice_get (turns_of type_of turns)) many ∙ slice_get-map (turn_of type_of) turns n ∙ ap (option_map (turn_of type_of)) (slice_get_read turns (length turns) n c.turn-item.result refl here c.turn-item.is);
+      going = subst (λ us. has_ended (h ++ steps us rs) ≡ false) (sym first) k.1.stands.going;
+      middle = api_of c.loop-turn.controller;
+      before = i.talk;
       cause =
-          subst (λ m. IsNotBuilt (type_of (dyntype_of c.args.controller.now)) meta type_of (h ++ steps (turns_of type_of (take m turns)) rs) c.turn-item.result
-          (grown_by (g.A.ApiMode.talk (api_of c.args.controller.now)) i.talk.0) (g.A.ApiMode.talk (api_of c.next_turn.new.controller))) (sym many)
-          (subst (λ o. IsNotBuilt (type_of (dyntype_of c.args.controller.now)) meta type_of (h ++ steps (turns_of type_of (take n turns)) rs) c.turn-item.result
-          o (g.A.ApiMode.talk (api_of c.next_turn.new.controller))) i.talk.2
-          (subst (λ d. IsNotBuilt (type_of d) meta type_of (h ++ steps (turns_of type_of (take n turns)) rs) c.turn-item.result
-          (g.A.ApiMode.talk (api_of c.loop-turn.controller)) (g.A.ApiMode.talk (api_of c.next_turn.new.controller))) i.dyntype nb));
+          subst (λ us. IsNotBuilt g.A.ApiMode.moves g.A.ApiMode.talk (type_of (dyntype_of c.args.controller.now)) meta (h ++ steps us rs) (turn_of type_of c.turn-item.result)
+          (api_of c.loop-turn.controller) (api_of c.next_turn.new.controller)) (sym first)
+          (subst (λ d. IsNotBuilt g.A.ApiMode.moves g.A.ApiMode.talk (type_of d) meta (h ++ steps (turns_of type_of (take n turns)) rs) (turn_of type_of c.turn-item.result)
+          (api_of c.loop-turn.controller) (api_of c.next_turn.new.controller)) i.dyntype nb);
     })
     (c.in_err-record.ensures.cause (h ++ steps (turns_of type_of (take n turns)) rs) (i.trace h s).1))
 

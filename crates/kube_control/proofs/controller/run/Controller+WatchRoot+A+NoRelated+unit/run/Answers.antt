@@ -1,11 +1,14 @@
-use Rattle.std.proofs.Common.{◌++◌, refl, ap, subst}
+use Rattle.std.proofs.Common.{◌++◌, refl, sym, ap, subst}
 use Rattle.kube_model.specs.Pause.{Pause}
 use Rattle.kube_model.specs.Settled.{IsSettled}
 use Rattle.kube_model.specs.Traces.{steps}
 use Rattle.kube_model.specs.World.{default_settings}
 use Rattle.kube_model.proofs.SettledSteps.{settled-steps, settled-trace}
+use Rattle.kube_control.specs.Calls.{AreMadeBy, dated_in}
+use Rattle.kube_control.specs.Controllers.{api_of}
 use Rattle.kube_control.specs.Records.{records_of, turns_of}
 use Rattle.kube_control.specs.StandsFor.{world}
+use Rattle.kube_control.proofs.Moves.{made-none}
 use Rattle.kube_control.proofs.controller.run.Controller+WatchRoot+A+NoRelated+unit.run.Goals as goal
 
 pub returns-in-Ok-clause-settled : goal.returns-in-Ok-clause-settled
@@ -16,3 +19,13 @@ returns-in-Ok-clause-settled g c ts rs k s =
     subst (λ us. IsSettled w (steps ts rs ++ steps (turns_of g.A.Value.Resource.type_of us) (records_of g.A.Value.Resource.type_of c.take_turns.new.records))) c.as_slice.ensures.value
     (settled-steps w default_settings refl (steps ts rs) (turns_of g.A.Value.Resource.type_of c.as_slice.result.now) (records_of g.A.Value.Resource.type_of c.take_turns.new.records)
     t.0 before t.1.stands.unshut (ap (λ (p : Pause (Unit {0})). p.given_up) t.1.stands.kept.calm))
+
+pub returns-then-self-clause-talk_before : goal.returns-then-self-clause-talk_before
+returns-then-self-clause-talk_before g c =
+    let type_of = g.A.Value.Resource.type_of in
+    let version = (world type_of g.A.Value.Resource.meta_of c.args.self.now).version in
+    let api = api_of c.args.self.now in (
+      api,
+      subst (λ rs. AreMadeBy g.A.ApiMode.moves g.A.ApiMode.talk version (dated_in (records_of type_of rs)) api api) (sym c.new-records.ensures)
+          (made-none g.A.ApiMode.moves g.A.ApiMode.talk version api),
+    )
