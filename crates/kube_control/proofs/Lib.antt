@@ -12,5 +12,8 @@ pub mod OneRecord
 pub mod TurnSteps
 pub mod Grows
 pub mod Moves
+pub mod Same
+pub mod Once
+pub mod Apart
 pub mod Causes
 pub mod BuiltTurns

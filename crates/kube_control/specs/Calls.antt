@@ -23,6 +23,10 @@ abbrev pub AreMoves : {A O : Type 0} → (A → ℕ → Raw O → A → Type 0) 
 AreMoves moves old [] new = old ≡ new
 AreMoves moves old (m ∷ ms) new = (middle : _) × moves old m.at m.raw middle × AreMoves moves middle ms new
 
+-- calls move an API one way: what a call at a moment is answered, and what it leaves, is determined
+abbrev pub IsOneWay : {A O : Type 0} → (A → ℕ → Raw O → A → Type 0) → Type 0
+IsOneWay {A} {O} moves = (a : A) (at : ℕ) (r q : Raw O) (b c : A) → moves a at r b → moves a at q c → r.call ≡ q.call → (r ≡ q) × (b ≡ c)
+
 -- an exchange was made by a call, at its moment
 pub record IsRecordedAt {O : Type 0} (version : O → Option (List ℕ)) (m : Made O) (d : Dated O) : Type 0 where
   pub moment : m.at ≡ d.at

@@ -9,6 +9,7 @@ pub mod error;
 pub mod exchange;
 mod fault;
 mod items;
+pub mod laws;
 mod listed;
 pub mod reconciler;
 pub mod record;

@@ -9,3 +9,4 @@ pub mod Records
 pub mod Played
 pub mod Runs
 pub mod Served
+pub mod Ends

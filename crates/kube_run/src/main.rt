@@ -5,6 +5,7 @@ pub mod exchange;
 pub mod failed;
 pub mod fault;
 pub mod input;
+pub mod laws;
 pub mod load;
 pub mod object;
 pub mod output;
