@@ -1,6 +1,7 @@
 //! All that a source has left.
 
 ghost use Rattle.std.specs.Prelude.{◌≡◌, ◌+◌, ◌≤◌, ◌<◌, IfOk, IfSome, IsErrOf, length};
+ghost use Rattle.std.specs.Io.KnownBytes.{IsAtEnd};
 ghost use Rattle.kube_run.specs.Causes.{Rose};
 ghost use Rattle.kube_run.specs.Limit.{longest, TakesAtMost};
 
@@ -29,6 +30,7 @@ pub enum Unread {
 pub fn read_all<S: Source>(alloc: Global, source: &mut S) -> Result<Vec<u8>, Unread>
     ensures all { IfOk result (λ v. IfSome (S.left source.old) (λ bytes. v.items ≡ bytes)) }
     ensures fits { IfOk result (λ v. length v.items ≤ longest) }
+    ensures end { IfOk result (λ _. IsAtEnd (S.left source.new)) }
     ensures too_long { IsErrOf result Unread.TooLong → IfSome (S.left source.old) (λ bytes. longest < length bytes) }
     ensures fault { IsErrOf result Unread.Fault → Rose (S.faults source.old) (S.faults source.new) }
     ensures later { S.faults source.old ≤ S.faults source.new }

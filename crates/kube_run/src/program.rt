@@ -1,7 +1,7 @@
 //! The program over any source and any sink.
 
 ghost use Rattle.std.specs.Prelude.{◌≡◌, ◌+◌, ◌≤◌, ◌⊎◌, ◌≢◌, false, map, string_bytes};
-ghost use Rattle.std.specs.Io.KnownBytes.{Appends};
+ghost use Rattle.std.specs.Io.KnownBytes.{Appends, IsAtEnd};
 ghost use Rattle.kube_run.specs.Causes.{Rose};
 ghost use Rattle.kube_run.specs.Limit.{longest, TakesAtMost};
 ghost use Rattle.kube_run.specs.Part.{AppendsPart};
@@ -39,6 +39,9 @@ pub fn run_program<S: Source, W: Sink>(
     // Other words than `run` are refused before anything is read.
     ensures unread { names_run (map string_bytes words.now) ≡ false → source.new ≡ source.old }
     ensures taken { TakesAtMost (longest + 1) (S.left source.old) (S.left source.new) }
+
+    // What is run was read to its end.
+    ensures whole { (result ≡ Status.Done) ⊎ (result ≡ Status.BadRun) → IsAtEnd (S.left source.new) }
 {
     if !is_run(words) {
         return told(b"{\"error\":\"usage\"}\n", Status::Usage, sink);
