@@ -42,14 +42,15 @@ impl<K: Drop> Sequence<K> {
         Sequence { steps }
     }
 
-    /// A watch that is over at once (the crate's `Sequence::default`).
-    pub fn empty(alloc: Global) -> Sequence<K>
+    /// A watch that is over at once.
+    pub fn default(alloc: Global) -> Sequence<K>
         ensures { result ≡ [] }
     {
         Sequence {
             steps: Vec::new(alloc),
         }
     }
+
     /// Its steps.
     pub(crate) fn into_steps(self) -> Vec<SequenceStep<K>>
         ensures { steps_of result.items ≡ self }
