@@ -1,0 +1,5 @@
+pub mod Annotations
+pub mod Made
+pub mod Pushes
+pub mod Rows
+pub mod Steps

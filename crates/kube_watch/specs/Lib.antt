@@ -1,0 +1,11 @@
+-- the definitions that the contracts cite
+pub mod Configs
+pub mod Events
+pub mod Graceful
+pub mod Table
+pub mod States
+pub mod Units
+pub mod Calls
+pub mod Stands
+pub mod Told
+pub mod Agrees
