@@ -1,5 +1,6 @@
 pub mod Annotations
 pub mod Made
+pub mod Orders
 pub mod Pushes
 pub mod Rows
 pub mod Steps

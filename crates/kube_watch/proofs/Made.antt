@@ -43,7 +43,7 @@ module _ {O : Type 0} (settings : Settings) (k : List ℕ) where
   no-look i j Next a items h = cc
   no-look i j Stream a items h = refl
 
-  table-in : (s : State) (i : Bool) (c : Call) (a : Answer) (items : List O) → c ≡ call_in settings s → IsIn s i k
+  pub table-in : (s : State) (i : Bool) (c : Call) (a : Answer) (items : List O) → c ≡ call_in settings s → IsIn s i k
       → table settings k (is_initial_in s) c a items ≡ table settings k i c a items
   table-in Empty i c a items same within = no-look false i c a items (ap is_next same ∙ start-look settings.streaming)
   table-in (InitPage token) i c a items same within = no-look false i c a items (ap is_next same)
@@ -68,7 +68,7 @@ module _ {V : Type 0} (settings : Settings) (s : State) (since : Option ℕ) (no
   made-stands x same-call same-answer =
       let d : Dated V = record { at = now; exchange = x } in
       let ok : IsTrue (answers x.call x.answer) =
-          subst (λ c. IsTrue (answers c x.answer)) (sym same-call) (subst (λ a. IsTrue (answers u.call a)) (sym same-answer) made.answered) in
+      subst (λ c. IsTrue (answers c x.answer)) (sym same-call) (subst (λ a. IsTrue (answers u.call a)) (sym same-answer) made.answered) in
       subst (λ t. Stands settings t left (ds ++ d ∷ [])) (ap (state_after s) same-answer ∙ sym made.reached)
       (subst (λ l. Stands settings (state_after s x.answer) l (ds ++ d ∷ []))
       (ap (λ c. since_after since now c x.answer) same-call ∙ (ap (since_after since now u.call) same-answer ∙ sym made.silent))

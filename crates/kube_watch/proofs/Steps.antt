@@ -144,6 +144,22 @@ module _ {O : Type 0} (settings : Settings) where
   step (Watching version) i k x within same ok =
       subst (λ j. Holds (Watching version) j k x) (sym within.0) (by-call (Watching version) false k x Next same ok (later-step k x version x.answer within.1))
 
+  -- these exchanges leave this state
+  pub record Fits (s : State) (xs : List (Exchange O)) : Type 0 where
+    pub owes : call_in settings s ≡ owed (Watched settings) xs
+    pub within : IsIn s (is_initial xs) (seen xs)
+
+  pub fits-push : (s : State) (xs : List (Exchange O)) (x : Exchange O) → Fits s xs → x.call ≡ call_in settings s → IsTrue (answers x.call x.answer)
+      → Fits (state_after s x.answer) (xs ++ x ∷ [])
+  fits-push s xs x h same ok =
+      let made = step s (is_initial xs) (seen xs) x h.within same ok in
+      record {
+        owes = made.0 ∙ (ap (λ c. owed_next settings (is_initial xs) (seen xs) c x) h.owes ∙ sym (owed-push settings xs x));
+        within =
+            subst (λ i. IsIn (state_after s x.answer) i (seen (xs ++ x ∷ []))) (sym (initial-push xs x))
+            (subst (λ k. IsIn (state_after s x.answer) (initial_after (is_initial xs) x) k) (sym (seen-push xs x)) made.1);
+      }
+
   exchanges-push : (ds : List (Dated O)) (d : Dated O) → exchanges_in (ds ++ d ∷ []) ≡ exchanges_in ds ++ d.exchange ∷ []
   exchanges-push ds d = map-append (λ (e : Dated O). e.exchange) ds (d ∷ [])
 
@@ -154,15 +170,9 @@ module _ {O : Type 0} (settings : Settings) where
   stands-push s since ds d h same ok =
       let xs = exchanges_in ds in
       let x = d.exchange in
-      let made = step s (is_initial xs) (seen xs) x h.within same ok in
+      let made = fits-push s xs x (record { owes = h.owes; within = h.within }) same ok in
       record {
-        owes =
-            made.0
-            ∙ (ap (λ c. owed_next settings (is_initial xs) (seen xs) c x) h.owes
-            ∙ (sym (owed-push settings xs x) ∙ ap (owed (Watched settings)) (sym (exchanges-push ds d))));
-        within =
-            subst (λ ys. IsIn (state_after s x.answer) (is_initial ys) (seen ys)) (sym (exchanges-push ds d))
-            (subst (λ i. IsIn (state_after s x.answer) i (seen (xs ++ x ∷ []))) (sym (initial-push xs x))
-            (subst (λ k. IsIn (state_after s x.answer) (initial_after (is_initial xs) x) k) (sym (seen-push xs x)) made.1));
+        owes = made.owes ∙ ap (owed (Watched settings)) (sym (exchanges-push ds d));
+        within = subst (λ ys. IsIn (state_after s x.answer) (is_initial ys) (seen ys)) (sym (exchanges-push ds d)) made.within;
         silent = ap (λ o. since_after o d.at x.call x.answer) h.silent ∙ sym (silent-push ds d);
       }

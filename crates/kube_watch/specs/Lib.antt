@@ -9,3 +9,5 @@ pub mod Calls
 pub mod Stands
 pub mod Told
 pub mod Agrees
+pub mod Lending
+pub mod Order

@@ -20,3 +20,6 @@ pub use kube_model::error::{ApiError, Error, Status};
 pub use stub_watcher::error_indicates_graceful_watch_seq_exhaustion;
 pub use unit::Unit;
 pub use watching::Watcher;
+
+#[cfg(test)]
+mod tests;

@@ -1,6 +1,7 @@
 //! What lists and watches an API, call by call.
 
 ghost use Rattle.std.specs.Prelude.{◌≡◌, ◌≤◌, List, [], ◌∷◌, ◌++◌, true, IfOk, OnErr, IsErr, IsTrue};
+ghost use Rattle.std.specs.Borrow.{sem};
 ghost use Rattle.kube_model.specs.Raw.{Raw, grown, FaultRose};
 ghost use Rattle.kube_model.specs.World.{Watched, window_after, window_of};
 ghost use Rattle.kube_model.specs.History.{Dated, Exchange};
@@ -152,6 +153,7 @@ fn make_unit<A: ApiMode>(
 }
 
 impl<A: ApiMode> Watcher<A> {
+    ghost use Rattle.kube_watch.specs.Lending.{LendsApi};
     ghost use Rattle.kube_watch.specs.Stands.{StandsFor, api_of, config_of, settings_in, is_spent, exchanges_in, row_of};
 
     /// Makes the owed call at a moment, and gives its unit.
@@ -200,7 +202,8 @@ impl<A: ApiMode> Watcher<A> {
 
     /// The API. What the watcher stands for is as before.
     pub fn api_mut(&mut self) -> &mut A
-        ensures { result.now ≡ api_of self.old }
+        ensures* lends { sem 𝓛 (LendsApi A.row self.entry result) }
+        ensures value { result.now ≡ api_of self.old }
     {
         &mut self.api
     }
