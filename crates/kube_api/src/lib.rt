@@ -6,7 +6,7 @@ pub mod copies;
 pub mod event;
 mod open_watch;
 mod place;
-pub mod recording;
+mod recording;
 pub mod result_page;
 pub mod sequence;
 pub mod test_mode;

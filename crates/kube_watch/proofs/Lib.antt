@@ -4,3 +4,4 @@ pub mod Orders
 pub mod Pushes
 pub mod Rows
 pub mod Steps
+pub mod Texts

@@ -1,6 +1,6 @@
 //! The three calls to an API, with their answers as they are recorded.
 
-ghost use Rattle.std.specs.Prelude.{◌≡◌, ◌≤◌, [], ◌∷◌, true, false, IfOk, map};
+ghost use Rattle.std.specs.Prelude.{◌≡◌, ◌≤◌, [], ◌∷◌, true, false, ◌⊎◌, IfOk, OnErr, map};
 ghost use Rattle.kube_model.specs.Recorded.{ends_initial_events};
 ghost use Rattle.std.specs.Arc.{arc_value};
 ghost use Rattle.kube_model.specs.Raw.{Raw, grown, FaultRose, ListAsked, WatchAsked, NextAsked};
@@ -108,6 +108,7 @@ pub fn list_page<A: ApiMode>(
 ) -> Result<Came<A::Value>, NoMemory>
     ensures talk { IfOk result (λ c. (raw : Raw A.Value) × (raw.call ≡ ListAsked (list_params (settings_of config.now) token.now))
         × IsCame A.Value.meta_of raw.answer c × (A.talk api.new ≡ grown (A.talk api.old) raw)) }
+    ensures unchanged { OnErr result (A.talk api.new ≡ A.talk api.old) }
     ensures answered { IfOk result (λ c. answers (Call.List token.now) c.answer ≡ true) }
     ensures faults { IfOk result (λ c. FaultRose (is_fault_answer c.answer) (A.faults api.old) (A.faults api.new)) }
     ensures rises { A.faults api.old ≤ A.faults api.new }
@@ -142,6 +143,7 @@ pub fn open_watch<A: ApiMode>(
 ) -> Result<Came<A::Value>, NoMemory>
     ensures talk { IfOk result (λ c. (raw : Raw A.Value) × (raw.call ≡ WatchAsked (watch_params (settings_of config.now) initial) version.now)
         × IsCame A.Value.meta_of raw.answer c × (A.talk api.new ≡ grown (A.talk api.old) raw)) }
+    ensures unchanged { OnErr result (A.talk api.new ≡ A.talk api.old) }
     ensures answered { IfOk result (λ c. answers (Call.Watch version.now initial) c.answer ≡ true) }
     ensures faults { IfOk result (λ c. FaultRose (is_fault_answer c.answer) (A.faults api.old) (A.faults api.new)) }
     ensures rises { A.faults api.old ≤ A.faults api.new }
@@ -208,6 +210,7 @@ pub fn poll_watch<A: ApiMode>(
 ) -> Result<Came<A::Value>, NoMemory>
     ensures talk { IfOk result (λ c. (raw : Raw A.Value) × (raw.call ≡ NextAsked)
         × IsCame A.Value.meta_of raw.answer c × (A.talk api.new ≡ grown (A.talk api.old) raw)) }
+    ensures lost { OnErr result ((A.talk api.new ≡ A.talk api.old) ⊎ ((raw : Raw A.Value) × (raw.call ≡ NextAsked) × (A.talk api.new ≡ grown (A.talk api.old) raw))) }
     ensures answered { IfOk result (λ c. answers Call.Next c.answer ≡ true) }
     ensures faults { IfOk result (λ c. FaultRose (is_fault_answer c.answer) (A.faults api.old) (A.faults api.new)) }
     ensures rises { A.faults api.old ≤ A.faults api.new }

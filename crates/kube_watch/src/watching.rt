@@ -6,10 +6,10 @@ ghost use Rattle.kube_model.specs.Raw.{Raw, grown, FaultRose};
 ghost use Rattle.kube_model.specs.World.{Watched, window_after, window_of};
 ghost use Rattle.kube_model.specs.History.{Dated, Exchange};
 ghost use Rattle.kube_model.specs.Owed.{owed, is_next};
-ghost use Rattle.kube_model.specs.Fits.{answers, idle_fits, is_window_over, silent_since};
+ghost use Rattle.kube_model.specs.Fits.{answers, idle_fits, is_window_over, silent_since, TextsFit};
 ghost use Rattle.kube_model.specs.Recorded.{IsRecorded};
 ghost use Rattle.kube_watch.specs.Configs.{settings_of};
-ghost use Rattle.kube_watch.specs.Calls.{IsAsked, is_fault_answer, idled, version_of};
+ghost use Rattle.kube_watch.specs.Calls.{IsAsked, IsAskedOnce, is_fault_answer, idled, version_of};
 ghost use Rattle.kube_watch.specs.States.{call_in};
 ghost use Rattle.kube_watch.specs.Units.{IsMade, exchange_of, events_of, nanos_of};
 
@@ -56,6 +56,7 @@ fn look<A: ApiMode>(
 ) -> Result<Came<A::Value>, NoMemory>
     ensures asked { IfOk result (λ c. (raw : Raw A.Value) × IsAsked A.Value.meta_of (settings_of config.now) Call.Next c raw
         × (A.talk api.new ≡ grown (A.talk api.old) raw)) }
+    ensures lost { OnErr result (IsAskedOnce (settings_of config.now) Call.Next (A.talk api.old) (A.talk api.new)) }
     ensures answered { IfOk result (λ c. answers Call.Next c.answer ≡ true) }
     ensures idle { IfOk result (λ c. idle_fits (is_window_over (window_after config.now.timeout) (nanos_of since) now.0) c.answer ≡ true) }
     ensures faults { IfOk result (λ c. FaultRose (is_fault_answer c.answer) (A.faults api.old) (A.faults api.new)) }
@@ -79,6 +80,7 @@ fn start<A: ApiMode>(
     ensures asked { IfOk result (λ c. (raw : Raw A.Value)
         × IsAsked A.Value.meta_of (settings_of config.now) (call_in (settings_of config.now) State.Empty) c raw
         × (A.talk api.new ≡ grown (A.talk api.old) raw)) }
+    ensures lost { OnErr result (IsAskedOnce (settings_of config.now) (call_in (settings_of config.now) State.Empty) (A.talk api.old) (A.talk api.new)) }
     ensures answered { IfOk result (λ c. answers (call_in (settings_of config.now) State.Empty) c.answer ≡ true) }
     ensures faults { IfOk result (λ c. FaultRose (is_fault_answer c.answer) (A.faults api.old) (A.faults api.new)) }
     ensures rises { A.faults api.old ≤ A.faults api.new }
@@ -101,6 +103,7 @@ fn ask<A: ApiMode>(
     ensures asked { IfOk result (λ c. (raw : Raw A.Value)
         × IsAsked A.Value.meta_of (settings_of config.now) (call_in (settings_of config.now) state.now) c raw
         × (A.talk api.new ≡ grown (A.talk api.old) raw)) }
+    ensures lost { OnErr result (IsAskedOnce (settings_of config.now) (call_in (settings_of config.now) state.now) (A.talk api.old) (A.talk api.new)) }
     ensures answered { IfOk result (λ c. answers (call_in (settings_of config.now) state.now) c.answer ≡ true) }
     ensures idle { IfOk result (λ c. IsTrue (is_next (call_in (settings_of config.now) state.now))
         → IsTrue (idle_fits (is_window_over (window_after config.now.timeout) (nanos_of since) now.0) c.answer)) }
@@ -132,6 +135,7 @@ fn make_unit<A: ApiMode>(
     ensures made { IfOk result (λ p. IsMade (settings_of config.now) state (nanos_of since) now.0 p.0 p.1 (nanos_of p.2)) }
     ensures asked { IfOk result (λ p. (raw : Raw A.Value) × IsRecorded (version_of A.Value.meta_of) (settings_of config.now) raw (exchange_of p.0)
         × (A.talk api.new ≡ grown (A.talk api.old) raw)) }
+    ensures lost { OnErr result (IsAskedOnce (settings_of config.now) (call_in (settings_of config.now) state) (A.talk api.old) (A.talk api.new)) }
     ensures faults { IfOk result (λ p. FaultRose (is_fault_answer p.0.answer) (A.faults api.old) (A.faults api.new)) }
     ensures rises { A.faults api.old ≤ A.faults api.new }
 {
@@ -153,7 +157,7 @@ fn make_unit<A: ApiMode>(
 }
 
 impl<A: ApiMode> Watcher<A> {
-    ghost use Rattle.kube_watch.specs.Lending.{LendsApi};
+    ghost use Rattle.kube_watch.specs.Lending.{LendsApi, with_api};
     ghost use Rattle.kube_watch.specs.Stands.{StandsFor, api_of, config_of, settings_in, is_spent, exchanges_in, row_of};
 
     /// Makes the owed call at a moment, and gives its unit.
@@ -164,6 +168,7 @@ impl<A: ApiMode> Watcher<A> {
         ensures owed { IfOk result (λ u. (ds : List (Dated A.Value)) → StandsFor ds self.old
             → u.call ≡ owed (Watched (settings_in self.old)) (exchanges_in ds)) }
         ensures answered { IfOk result (λ u. IsTrue (answers u.call u.answer)) }
+        ensures texts { IfOk result (λ u. TextsFit u.answer) }
         ensures idle { IfOk result (λ u. (ds : List (Dated A.Value)) → StandsFor ds self.old
             → IsTrue (is_next u.call) → IsTrue (idle_fits (is_window_over (window_of (Watched (settings_in self.old))) (silent_since ds) now.0) u.answer)) }
         ensures events { IfOk result (λ u. (ds : List (Dated A.Value)) → StandsFor ds self.old
@@ -179,6 +184,8 @@ impl<A: ApiMode> Watcher<A> {
         ensures rises { A.faults (api_of self.old) ≤ A.faults (api_of self.new) }
         ensures config { config_of self.new ≡ config_of self.old }
         ensures err { OnErr result (is_spent self.new ≡ true) }
+        ensures lost { OnErr result ((ds : List (Dated A.Value)) → StandsFor ds self.old
+            → IsAskedOnce (settings_in self.old) (owed (Watched (settings_in self.old)) (exchanges_in ds)) (A.talk (api_of self.old)) (A.talk (api_of self.new))) }
         ensures spent { is_spent self.old ≡ true → IsErr result × (self.new ≡ self.old) }
     {
         if self.spent {
@@ -204,6 +211,7 @@ impl<A: ApiMode> Watcher<A> {
     pub fn api_mut(&mut self) -> &mut A
         ensures* lends { sem 𝓛 (LendsApi A.row self.entry result) }
         ensures value { result.now ≡ api_of self.old }
+        ensures stands { (ds : List (Dated A.Value)) (api : A) → StandsFor ds self.old → StandsFor ds (with_api self.old api) }
     {
         &mut self.api
     }

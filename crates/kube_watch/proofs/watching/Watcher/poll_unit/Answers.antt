@@ -2,6 +2,8 @@ use Rattle.std.proofs.Common.{refl, sym, subst}
 use Rattle.kube_watch.specs.Stands.{Stands, settings_in}
 use Rattle.kube_watch.specs.Units.{nanos_of}
 use Rattle.kube_watch.proofs.Made.{made-events, made-error, made-stands}
+use Rattle.kube_watch.specs.Calls.{version_of}
+use Rattle.kube_watch.proofs.Texts.{texts-fit}
 use Rattle.kube_watch.proofs.watching.Watcher.poll_unit.Goals as goal
 
 pub returns-clause-events : goal.returns-clause-events
@@ -26,3 +28,8 @@ returns-clause-stands g c ds x h same-call same-answer =
           x same-call same-answer;
       unspent = refl;
     }
+
+pub returns-clause-texts : goal.returns-clause-texts
+returns-clause-texts g c =
+    let asked = c.in_ok-unit.ensures.asked in
+    texts-fit (version_of g.A.Value.Resource.meta_of) asked.0 _ asked.1.answer
