@@ -1,6 +1,7 @@
 -- How a talk grows.
-use Rattle.std.proofs.Common.{◌≡◌, List, [], ◌∷◌, ◌++◌, length, refl, ap}
+use Rattle.std.proofs.Common.{◌≡◌, List, [], ◌∷◌, ◌++◌, length, map, refl, ap}
 use Rattle.std.specs.List.{AllByRecursion}
+use Rattle.kube_model.specs.Raw.{Raw}
 use Rattle.kube_api.specs.declared.recording.Recording.{Recording}
 use Rattle.kube_api.specs.declared.recording.Answered.{Answered}
 use Rattle.kube_api.specs.Recordings.{call_of, answer_of, talk_of}
@@ -19,3 +20,11 @@ talk_of-append (c ∷ calls) (a ∷ answers) call answer same =
 pub All-front : {X : Type 0} (P : X → Type 0) (xs : List X) (x : X) → AllByRecursion P (xs ++ x ∷ []) → AllByRecursion P xs
 All-front P [] x all = tt
 All-front P (y ∷ ys) x all = (all.0, All-front P ys x all.1)
+
+-- the calls of a talk
+pub call-talk_of : {K : Type 0} (calls : List Recording) (answers : List (Answered K)) → length calls ≡ length answers
+    → map call_of calls ≡ map (λ (raw : Raw K). raw.call) (talk_of calls answers)
+call-talk_of [] [] same = refl
+call-talk_of [] (a ∷ answers) same = cc
+call-talk_of (c ∷ calls) [] same = cc
+call-talk_of (c ∷ calls) (a ∷ answers) same = ap (λ all. call_of c ∷ all) (call-talk_of calls answers (cc))

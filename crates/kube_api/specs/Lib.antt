@@ -5,3 +5,4 @@ pub mod Sequences
 pub mod Places
 pub mod Recordings
 pub mod Ready
+pub mod Pages

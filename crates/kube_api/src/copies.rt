@@ -12,6 +12,7 @@ use kube_model::params::{ListParams, WatchParams};
 use std::alloc::Global;
 use std::sync::Arc;
 
+/// Equal parameters of a list call.
 pub fn copy_list_params(alloc: Global, params: &ListParams) -> Result<ListParams, NoMemory>
     ensures { IfOk result (λ p. p ≡ params.now) }
 {
@@ -25,6 +26,7 @@ pub fn copy_list_params(alloc: Global, params: &ListParams) -> Result<ListParams
     })
 }
 
+/// Equal parameters of a watch call.
 pub fn copy_watch_params(alloc: Global, params: &WatchParams) -> Result<WatchParams, NoMemory>
     ensures { IfOk result (λ p. p ≡ params.now) }
 {
@@ -37,6 +39,7 @@ pub fn copy_watch_params(alloc: Global, params: &WatchParams) -> Result<WatchPar
     })
 }
 
+/// An equal status.
 pub fn copy_status(alloc: Global, status: &Status) -> Result<Status, NoMemory>
     ensures { IfOk result (λ s. s ≡ status.now) }
 {
@@ -48,6 +51,7 @@ pub fn copy_status(alloc: Global, status: &Status) -> Result<Status, NoMemory>
     })
 }
 
+/// An equal fault.
 pub fn copy_error(alloc: Global, error: &ApiError) -> Result<ApiError, NoMemory>
     ensures { IfOk result (λ e. e ≡ error.now) }
 {
@@ -58,6 +62,7 @@ pub fn copy_error(alloc: Global, error: &ApiError) -> Result<ApiError, NoMemory>
     })
 }
 
+/// The same objects, which are shared.
 pub fn share_all<K: Drop>(alloc: Global, objects: &[Arc<K>]) -> Result<List<Arc<K>>, NoMemory>
     ensures { IfOk result (λ l. map arc_value l ≡ map arc_value objects.now) }
 {
@@ -85,6 +90,7 @@ pub fn copy_listed<K: Drop>(
     })
 }
 
+/// The same event; its object is shared.
 pub fn copy_event<K: Drop>(alloc: Global, event: &WatchEvent<K>) -> Result<WatchEvent<K>, NoMemory>
     ensures { IfOk result (λ e. event_answer e ≡ event_answer event.now) }
 {

@@ -2,11 +2,12 @@
 #![tactic(auto)]
 
 pub mod api;
-mod copies;
+pub mod copies;
 pub mod event;
 mod open_watch;
 mod place;
 mod recording;
+pub mod result_page;
 pub mod sequence;
 pub mod test_mode;
 
@@ -14,6 +15,8 @@ pub use api::ApiMode;
 pub use event::{Bookmark, Page, WatchEvent};
 pub use kube_model::error::{ApiError, Status};
 pub use kube_model::params::{ListParams, VersionMatch, WatchParams};
+pub use recording::Recording;
+pub use result_page::ResultPage;
 pub use sequence::{Sequence, SequenceStep};
 pub use test_mode::TestMode;
 

@@ -1,6 +1,6 @@
 //! The calls to a scripted API, with their answers.
 
-ghost use Rattle.std.specs.Prelude.{◌≡◌, [], ◌∷◌, ◌++◌, OnOk, OnErr};
+ghost use Rattle.std.specs.Prelude.{◌≡◌, [], ◌∷◌, ◌++◌, map, OnOk, OnErr};
 ghost use Rattle.kube_model.specs.Raw.{is_fault};
 ghost use Rattle.kube_api.specs.Recordings.{call_of, answer_of};
 
@@ -11,12 +11,13 @@ use kube_model::params::{ListParams, WatchParams};
 use std::alloc::Global;
 use std::marker::Model;
 
-/// A call.
+/// A call to a scripted API (kube-runtime's `Recording`).
 #[derive(Debug, Drop)]
 pub enum Recording {
     List(ListParams),
     /// With the version from which is watched.
     Watch(WatchParams, Text),
+    /// A look at the open watch.
     Next,
 }
 
@@ -71,6 +72,13 @@ impl<K: Drop> Talk<K> {
             calls: Vec::new(alloc),
             answers: Vec::new(alloc),
         }
+    }
+
+    /// The calls so far, in order.
+    pub fn calls(&self) -> &[Recording]
+        ensures { map call_of result.now ≡ map (λ raw. raw.call) self.now }
+    {
+        self.calls.as_slice()
     }
 
     /// One more call with its answer.

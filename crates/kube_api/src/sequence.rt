@@ -42,8 +42,8 @@ impl<K: Drop> Sequence<K> {
         Sequence { steps }
     }
 
-    /// A watch that is over at once (the crate's `Sequence::default`).
-    pub fn empty(alloc: Global) -> Sequence<K>
+    /// A watch that is over at once.
+    pub fn default(alloc: Global) -> Sequence<K>
         ensures { result ≡ [] }
     {
         Sequence {

@@ -86,6 +86,13 @@ impl<K: Drop> TestMode<K> {
         }
     }
 
+    /// The calls so far, in order.
+    pub fn get_recordings(&self) -> &[Recording]
+        ensures { map call_of result.now ≡ map (λ raw. raw.call) self.now.talk }
+    {
+        self.talk.calls()
+    }
+
     /// Keeps a call with its answer, and counts it where it failed.
     fn tell(&mut self, call: Recording, answer: Answered<K>) -> Result<(), NoMemory>
         ensures ok { OnOk result (self.new ≡ told (call_of call) (answer_of answer) self.old) }

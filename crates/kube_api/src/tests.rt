@@ -1,12 +1,13 @@
 //! Each call of a scripted API once, with ample memory.
 
 use crate::{
-    ApiError, ApiMode, Bookmark, ListParams, Page, Sequence, SequenceStep, TestMode, WatchEvent,
-    WatchParams,
+    ApiError, ApiMode, Bookmark, ListParams, Page, Recording, ResultPage, Sequence, SequenceStep,
+    TestMode, WatchEvent, WatchParams,
 };
 use kube_meta::{DynamicObject, List, Moment, NoMemory, ObjectMeta, Polled, Text, TextMap};
 use std::alloc::Global;
 use std::collections::VecDeque;
+use std::process::Abort;
 use std::sync::Arc;
 use std::test::Fail;
 
@@ -182,7 +183,7 @@ fn a_watch_takes_the_place_of_the_open_one(rt: HostRuntime) -> Result<(), Fail> 
     steps.push(one(alloc, bookmark(alloc, "8")?)?)?;
     steps.push(one(alloc, bookmark(alloc, "9")?)?)?;
     watches.push(Sequence::new(steps))?;
-    watches.push(Sequence::empty(alloc))?;
+    watches.push(Sequence::default(alloc))?;
     let mut api = TestMode::new(alloc, Vec::new(alloc), watches);
     let exhausted = "TestMode watch sequence exhausted";
     let calls = [
@@ -213,4 +214,105 @@ fn a_watch_that_fails_leaves_the_open_one(rt: HostRuntime) -> Result<(), Fail> {
     let answer = api.next(alloc, Moment(0))?;
     assert_eq!(rt; shown(&answer), "a");
     Ok(())
+}
+
+/// Which call it is, and its token or version.
+fn shown_call(call: &Recording) -> (&str, &str) {
+    match call {
+        Recording::List(params) => match &params.continue_token {
+            Some(token) => ("list", token.as_str()),
+            None => ("list", "first"),
+        },
+        Recording::Watch(_, version) => ("watch", version.as_str()),
+        Recording::Next => ("next", ""),
+    }
+}
+
+/// The calls of an API, in order.
+fn check_calls(
+    rt: &impl Abort,
+    api: &TestMode<DynamicObject>,
+    wanted: &[(&str, &str)],
+) -> Result<(), Fail> {
+    let recordings = api.get_recordings();
+    assert_eq!(rt; recordings.len(), wanted.len());
+    for (call, wanted) in recordings.iter().zip(wanted) {
+        let (kind, text) = shown_call(call);
+        let (wanted_kind, wanted_text) = *wanted;
+        assert_eq!(rt; kind, wanted_kind);
+        assert_eq!(rt; text, wanted_text);
+    }
+    Ok(())
+}
+
+/// Two pages.
+fn ask_pages(alloc: Global, api: &mut TestMode<DynamicObject>) -> Result<(), NoMemory> {
+    let mut second = any_list();
+    second.continue_token = Some(Text::new(alloc, "t")?);
+    let _page = api.list(alloc, &any_list(), Moment(0))?;
+    let _page = api.list(alloc, &second, Moment(0))?;
+    Ok(())
+}
+
+/// A watch, a look at it, and another watch.
+fn ask_watches(alloc: Global, api: &mut TestMode<DynamicObject>) -> Result<(), NoMemory> {
+    let _opened = api.watch(alloc, &any_watch(), "9", Moment(0))?;
+    let _event = api.next(alloc, Moment(1))?;
+    let _opened = api.watch(alloc, &any_watch(), "", Moment(2))?;
+    Ok(())
+}
+
+#[test]
+fn calls_are_recorded_in_their_order(rt: HostRuntime) -> Result<(), Fail> {
+    let alloc = rt.alloc();
+    let mut api = TestMode::new(alloc, Vec::new(alloc), Vec::new(alloc));
+    check_calls(&rt, &api, &[])?;
+    ask_pages(alloc, &mut api)?;
+    ask_watches(alloc, &mut api)?;
+    let wanted = [
+        ("list", "first"),
+        ("list", "t"),
+        ("watch", "9"),
+        ("next", ""),
+        ("watch", ""),
+    ];
+    check_calls(&rt, &api, &wanted)
+}
+
+/// The names of a page's objects, its token and its version.
+fn check_page(
+    rt: &impl Abort,
+    page: &Page<DynamicObject>,
+    names: &[&str],
+    token: Option<&str>,
+    version: Option<&str>,
+) -> Result<(), Fail> {
+    assert_eq!(rt; page.items.len(), names.len());
+    for (object, name) in page.items.as_slice().iter().zip(names) {
+        assert_eq!(rt; name_of(&**object), *name);
+    }
+    assert_eq!(rt; page.token.as_ref().map(|t| t.as_str()), token);
+    assert_eq!(rt; page.version.as_ref().map(|t| t.as_str()), version);
+    Ok(())
+}
+
+#[test]
+fn pages_are_made_part_by_part(rt: HostRuntime) -> Result<(), Fail> {
+    let alloc = rt.alloc();
+    let empty: Page<DynamicObject> = ResultPage::empty(alloc).into_page();
+    check_page(&rt, &empty, &[], None, None)?;
+    let mut items = Vec::new(alloc);
+    items.push(Arc::new(alloc, object(alloc, "a")?)?)?;
+    items.push(Arc::new(alloc, object(alloc, "b")?)?)?;
+    let page = ResultPage::empty(alloc)
+        .continue_token(alloc, Some("t"))?
+        .resource_version(alloc, Some("9"))?
+        .items(items);
+    let page = page.into_page();
+    check_page(&rt, &page, &["a", "b"], Some("t"), Some("9"))?;
+    let last: Page<DynamicObject> = ResultPage::empty(alloc)
+        .continue_token(alloc, Some("t"))?
+        .continue_token(alloc, None)?
+        .into_page();
+    check_page(&rt, &last, &[], None, None)
 }
