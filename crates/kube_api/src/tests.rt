@@ -54,7 +54,7 @@ fn page(alloc: Global, name: &str, version: &str) -> Result<Listed, NoMemory> {
 fn object(alloc: Global, name: &str) -> Result<DynamicObject, NoMemory> {
     let mut metadata = ObjectMeta::empty();
     metadata.name = Some(Text::new(alloc, name)?);
-    Ok(DynamicObject { metadata })
+    Ok(DynamicObject::bare(metadata))
 }
 
 /// An object of a name was added.

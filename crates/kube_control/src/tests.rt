@@ -45,11 +45,10 @@ fn page(
     for (name, resource_version) in named {
         let metadata = ObjectMeta {
             name: some_text(alloc, name)?,
-            namespace: None,
-            uid: None,
             resource_version: some_text(alloc, resource_version)?,
+            ..ObjectMeta::empty()
         };
-        items.push(Arc::new(alloc, DynamicObject { metadata })?)?;
+        items.push(Arc::new(alloc, DynamicObject::bare(metadata))?)?;
     }
     Ok(Page {
         items,

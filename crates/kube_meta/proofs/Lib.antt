@@ -1,1 +1,6 @@
 pub mod PairLemmas
+pub mod TextLemmas
+pub mod Loops
+pub mod Escapes
+pub mod Commas
+pub mod ReadBack

@@ -1,5 +1,5 @@
 -- The calls of the map of texts, over the bytes of its pairs.
-use Rattle.std.proofs.Common.{◌≡◌, ℕ, List, [], ◌∷◌, Some, refl, ap, ap₂, ◌∙◌, cond, string_bytes}
+use Rattle.std.proofs.Common.{◌≡◌, ℕ, suc, List, [], ◌∷◌, length, Some, refl, sym, ap, ap₂, ◌∙◌, cond, string_bytes, arith}
 use Rattle.std.specs.Ordering.{nat_cmp, match_ordering}
 use Rattle.std.specs.declared.cmp.Ordering.{Ordering}
 use Rattle.std.specs.declared.cmp.Ordering.TheVariants.{Less, Equal, Greater}
@@ -37,3 +37,14 @@ pairs-clone [] [] h = refl
 pairs-clone [] (f ∷ fs) h = absurd h
 pairs-clone (e ∷ es) [] h = absurd h
 pairs-clone (e ∷ es) (f ∷ fs) h = λ i. (h.0.0 i, h.0.1 i) ∷ pairs-clone es fs h.1 i
+
+pub length-pairs : {A : Type 0} (es : List (String A × List ℕ)) → length (pairs_of es) ≡ length es
+length-pairs [] = refl
+length-pairs (e ∷ es) = ap suc (length-pairs es)
+
+pub no_pairs : {A : Type 0} (es : List (String A × List ℕ)) → length es ≡ 0 → pairs_of es ≡ []
+no_pairs [] h = refl
+no_pairs (e ∷ es) h = absurd (omega arith)
+
+pub no_entries : {A : Type 0} (es : List (String A × List ℕ)) → pairs_of es ≡ [] → length es ≡ 0
+no_entries es h = sym (length-pairs es) ∙ ap length h

@@ -16,6 +16,11 @@ pub record Reference : Type 0 where
   pub name : List ℕ
   pub namespace : Option (List ℕ)
 
+-- a group and a version as an object's apiVersion has them
+abbrev pub api_version : List ℕ → List ℕ → List ℕ
+api_version [] version = version
+api_version (c ∷ cs) version = c ∷ cs ++ 47 ∷ version
+
 abbrev pub same_type : ObjectType → ObjectType → Bool
 same_type a b = bytes_eq a.group b.group && bytes_eq a.version b.version && bytes_eq a.kind b.kind && bytes_eq a.plural b.plural
 

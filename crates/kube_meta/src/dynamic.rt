@@ -3,9 +3,10 @@
 ghost use Rattle.std.specs.Prelude.{◌≡◌, refl};
 
 use crate::memory::NoMemory;
-use crate::metadata::ObjectMeta;
+use crate::metadata::{ObjectMeta, TypeMeta};
 use crate::resource::{Resource, TypeInfo};
 use crate::text::Text;
+use serde_json::Value;
 use std::alloc::Global;
 use std::sync::Arc;
 
@@ -29,7 +30,26 @@ impl TypeInfo for Arc<ApiResource> {
 /// An object of a type that is known only as the program runs.
 #[derive(Debug, Drop)]
 pub struct DynamicObject {
+    /// The object's own word on its type.
+    pub types: Option<TypeMeta>,
     pub metadata: ObjectMeta,
+    /// The object's other members. A value that is no object counts as empty.
+    pub content: Value,
+}
+
+impl DynamicObject {
+    ghost use Rattle.kube_meta.specs.Resources.{bare_object};
+
+    /// An object of which the metadata alone is there.
+    pub fn bare(metadata: ObjectMeta) -> DynamicObject
+        ensures { result ≡ bare_object metadata }
+    {
+        DynamicObject {
+            types: None,
+            metadata,
+            content: Value::Null,
+        }
+    }
 }
 
 impl Resource for DynamicObject {

@@ -7,23 +7,33 @@ pub mod list;
 pub mod memory;
 pub mod metadata;
 pub mod moment;
+pub mod object_fault;
 pub mod object_ref;
 pub mod poll;
+pub mod reading;
 pub mod resource;
+pub mod selector;
 pub mod text;
 pub mod text_map;
+pub mod text_set;
+pub mod writing;
 
 pub use action::Action;
 pub use dynamic::{ApiResource, DynamicObject};
 pub use list::List;
 pub use memory::NoMemory;
-pub use metadata::ObjectMeta;
+pub use metadata::{ObjectMeta, OwnerReference, PartialObjectMeta, TypeMeta};
 pub use moment::Moment;
-pub use object_ref::{Extra, Lookup, ObjectRef, RefError};
+pub use object_fault::ObjectFault;
+pub use object_ref::{Extra, Lookup, ObjectRef, ObjectReference, RefError};
 pub use poll::Polled;
+pub use reading::read_object;
 pub use resource::{Resource, TypeInfo};
+pub use selector::{Expression, Selector};
 pub use text::Text;
 pub use text_map::TextMap;
+pub use text_set::TextSet;
+pub use writing::write_object;
 
 #[cfg(test)]
 mod tests;

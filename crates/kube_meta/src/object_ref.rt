@@ -1,14 +1,20 @@
 //! References to objects (kube-runtime's `reflector::object_ref`).
 
-ghost use Rattle.std.specs.Prelude.{◌≡◌, Some, None, IfOk, IfErr, IsErrOf, ◌↔◌, false, true, option_copied};
-ghost use Rattle.kube_meta.specs.Keys.{reference_of, is_named, key_of, extra_of};
+ghost use Rattle.std.specs.Prelude.{◌≡◌, Some, None, IfOk, IfErr, IsErrOf, ◌↔◌, false, true, option_copied, option_map, string_bytes, if◌then◌else◌};
+ghost use Rattle.std.specs.Arc.{arc_value};
+ghost use Rattle.kube_meta.specs.Reference.{api_version as joined_version};
+ghost use Rattle.kube_meta.specs.Resources.{resource_type};
+ghost use Rattle.kube_meta.specs.Keys.{reference_of, is_named, key_of, extra_of, no_extra, is_of_type, owner_ref, object_reference};
 
+use crate::dynamic::{ApiResource, DynamicObject};
 use crate::memory::NoMemory;
+use crate::metadata::OwnerReference;
 use crate::resource::{Resource, TypeInfo};
 use crate::text::{Text, copy_option};
 use std::alloc::Global;
 use std::fmt;
 use std::hash::{Hash, Hasher};
+use std::sync::Arc;
 use thiserror::Error;
 
 /// Why no reference can be made to an object.
@@ -59,6 +65,30 @@ impl Extra {
             uid: copy_option(alloc, &self.uid)?,
         })
     }
+}
+
+impl Default for Extra {
+    ghost use Rattle.std.specs.Prelude.{◌≡◌};
+    ghost use Rattle.kube_meta.specs.Keys.{no_extra};
+
+    ghost is_default = { λ e. e ≡ no_extra };
+
+    fn default() -> Extra {
+        Extra::empty()
+    }
+}
+
+/// A reference to an object, as the Kubernetes API has it (`ObjectReference` of core/v1).
+#[derive(Debug, Drop)]
+pub struct ObjectReference {
+    pub api_version: Option<Text>,
+    pub kind: Option<Text>,
+    pub name: Option<Text>,
+    pub namespace: Option<Text>,
+    pub resource_version: Option<Text>,
+    pub uid: Option<Text>,
+    /// The part of the object that is meant, absent where it is the whole.
+    pub field_path: Option<Text>,
 }
 
 /// A reference to an object, which may be there or not.
@@ -138,10 +168,29 @@ impl<K: Resource> fmt::Display for ObjectRef<K> {
     }
 }
 
+impl<K: Resource<DynamicType = ()>> ObjectRef<K> {
+    /// A reference without a namespace, to an object of a type that is known.
+    pub fn new(alloc: Global, name: &str) -> Result<ObjectRef<K>, NoMemory>
+        ensures { IfOk result (λ r. r ≡ record { dyntype = tt; name = name.now; namespace = None; extra = no_extra }) }
+    {
+        ObjectRef::new_with(alloc, name, ())
+    }
+
+    /// The reference of an object of a type that is known, or `Unnamed` where it has no name.
+    pub fn from_obj(alloc: Global, object: &K) -> Result<ObjectRef<K>, RefError>
+        ensures named { IfOk result (λ r. is_named (K.meta_of object.now) ≡ true) }
+        ensures reference { IfOk result (λ r. reference_of K.type_of r ≡ key_of (K.type_of tt) (K.meta_of object.now)) }
+        ensures extra { IfOk result (λ r. r.extra ≡ extra_of (K.meta_of object.now)) }
+        ensures unnamed { IsErrOf result RefError.Unnamed → is_named (K.meta_of object.now) ≡ false }
+    {
+        object.to_object_ref(alloc, ())
+    }
+}
+
 impl<K: Resource> ObjectRef<K> {
     /// A reference without a namespace.
     pub fn new_with(alloc: Global, name: &str, t: K::DynamicType) -> Result<ObjectRef<K>, NoMemory>
-        ensures { IfOk result (λ r. r ≡ record { dyntype = t; name = name.now; namespace = None; extra = record { resource_version = None; uid = None } }) }
+        ensures { IfOk result (λ r. r ≡ record { dyntype = t; name = name.now; namespace = None; extra = no_extra }) }
     {
         Ok(ObjectRef {
             dyntype: t,
@@ -173,6 +222,7 @@ impl<K: Resource> ObjectRef<K> {
     pub fn copy(&self, alloc: Global) -> Result<ObjectRef<K>, NoMemory>
         ensures reference { IfOk result (λ r. reference_of K.type_of r ≡ reference_of K.type_of self.now) }
         ensures extra { IfOk result (λ r. r.extra ≡ self.now.extra) }
+        ensures dyntype { IfOk result (λ r. K.DynamicType.eq self.now.dyntype r.dyntype ≡ true) }
     {
         Ok(ObjectRef {
             dyntype: self.dyntype.share(alloc)?,
@@ -195,10 +245,140 @@ impl<K: Resource> ObjectRef<K> {
     {
         object.to_object_ref(alloc, t)
     }
+
+    /// The reference to an owner in this namespace, or none where the owner's kind or `apiVersion` is of another type.
+    ///
+    /// The namespace is that of the object that has the owner, also where the owner is cluster-scoped.
+    pub fn from_owner_ref(
+        alloc: Global,
+        namespace: Option<&str>,
+        owner: &OwnerReference,
+        t: K::DynamicType,
+    ) -> Result<Option<ObjectRef<K>>, NoMemory>
+        ensures { IfOk result (λ r. r ≡ (if is_of_type (K.type_of t) owner.now then Some (owner_ref t (option_copied namespace.entry) owner.now) else None)) }
+    {
+        let version = api_version::<K>(alloc, &t)?;
+        if owner.api_version.as_str() != version.as_str() || owner.kind.as_str() != K::kind(&t) {
+            return Ok(None);
+        }
+        Ok(Some(ObjectRef {
+            dyntype: t,
+            name: owner.name.copy(alloc)?,
+            namespace: owned(alloc, namespace)?,
+            extra: Extra {
+                resource_version: None,
+                uid: Some(owner.uid.copy(alloc)?),
+            },
+        }))
+    }
+
+    /// A reference to an object of another type, with the same name, namespace and extra.
+    ///
+    /// Nothing checks that this makes sense: a `Service` has `Endpoints` of its name, a `Pod` has no `Deployment` of its name.
+    pub fn into_kind_unchecked<K2: Lookup>(self, t: K2::DynamicType) -> ObjectRef<K2>
+        ensures { result ≡ record { dyntype = t; name = self.name; namespace = self.namespace; extra = self.extra } }
+    {
+        let ObjectRef {
+            dyntype: _,
+            name,
+            namespace,
+            extra,
+        } = self;
+        ObjectRef {
+            dyntype: t,
+            name,
+            namespace,
+            extra,
+        }
+    }
+
+    /// The reference as one to an object whose type is known only as the program runs. It looks the same.
+    pub fn erase(self, alloc: Global) -> Result<ObjectRef<DynamicObject>, NoMemory>
+        ensures reference { IfOk result (λ r. reference_of (λ t. resource_type (arc_value t)) r ≡ reference_of K.type_of self) }
+        ensures api_version { IfOk result (λ r. (arc_value r.dyntype).api_version ≡ joined_version (K.type_of self.dyntype).group (K.type_of self.dyntype).version) }
+        ensures extra { IfOk result (λ r. r.extra ≡ self.extra) }
+    {
+        let resource = ApiResource {
+            group: Text::new(alloc, K::group(&self.dyntype))?,
+            version: Text::new(alloc, K::version(&self.dyntype))?,
+            api_version: api_version::<K>(alloc, &self.dyntype)?,
+            kind: Text::new(alloc, K::kind(&self.dyntype))?,
+            plural: Text::new(alloc, K::plural(&self.dyntype))?,
+        };
+        Ok(self.into_kind_unchecked(Arc::new(alloc, resource)?))
+    }
+
+    /// The reference as the Kubernetes API has it.
+    pub fn into_reference(self, alloc: Global) -> Result<ObjectReference, NoMemory>
+        ensures { IfOk result (λ r. r ≡ object_reference (reference_of K.type_of self) self.extra) }
+    {
+        let api_version = api_version::<K>(alloc, &self.dyntype)?;
+        let kind = Text::new(alloc, K::kind(&self.dyntype))?;
+        let ObjectRef {
+            dyntype: _,
+            name,
+            namespace,
+            extra: Extra {
+                resource_version,
+                uid,
+            },
+        } = self;
+        Ok(ObjectReference {
+            api_version: Some(api_version),
+            kind: Some(kind),
+            name: Some(name),
+            namespace,
+            resource_version,
+            uid,
+            field_path: None,
+        })
+    }
+}
+
+/// A type's `apiVersion`.
+fn api_version<K: Resource>(alloc: Global, t: &K::DynamicType) -> Result<Text, NoMemory>
+    ensures { IfOk result (λ v. v ≡ joined_version (K.type_of t.now).group (K.type_of t.now).version) }
+{
+    let group = K::group(t);
+    let version = K::version(t);
+    if group.is_empty() {
+        return Text::new(alloc, version);
+    }
+    Ok(Text::from(format!(in alloc; "{group}/{version}")?))
+}
+
+/// A text of its own, where there is one.
+fn owned(alloc: Global, text: Option<&str>) -> Result<Option<Text>, NoMemory>
+    ensures { IfOk result (λ t. t ≡ option_copied text.entry) }
+{
+    match text {
+        Some(text) => Ok(Some(Text::new(alloc, text)?)),
+        None => Ok(None),
+    }
 }
 
 /// What can be looked up by a reference (kube-runtime's `Lookup`).
 pub trait Lookup: Resource {
+    /// The kind of the type, as `Pod`.
+    fn kind(t: &Self::DynamicType) -> &str
+        ensures { result.now ≡ (Self.type_of t.now).kind };
+
+    /// The API group of the type, empty for the core group.
+    fn group(t: &Self::DynamicType) -> &str
+        ensures { result.now ≡ (Self.type_of t.now).group };
+
+    /// The version of the API group.
+    fn version(t: &Self::DynamicType) -> &str
+        ensures { result.now ≡ (Self.type_of t.now).version };
+
+    /// The version where the group is empty, else `group/version`.
+    fn api_version(alloc: Global, t: &Self::DynamicType) -> Result<String, NoMemory>
+        ensures { IfOk result (λ v. string_bytes v ≡ joined_version (Self.type_of t.now).group (Self.type_of t.now).version) };
+
+    /// The kind's name in paths of the API, as `pods`.
+    fn plural(t: &Self::DynamicType) -> &str
+        ensures { result.now ≡ (Self.type_of t.now).plural };
+
     /// The object's name.
     fn name(&self) -> Option<&str>
         ensures { option_copied result ≡ (Self.meta_of self.now).name };
@@ -238,6 +418,26 @@ fn lent(text: &Option<Text>) -> Option<&str>
 }
 
 impl<K: Resource> Lookup for K {
+    fn kind(t: &K::DynamicType) -> &str {
+        <K as Resource>::kind(t)
+    }
+
+    fn group(t: &K::DynamicType) -> &str {
+        <K as Resource>::group(t)
+    }
+
+    fn version(t: &K::DynamicType) -> &str {
+        <K as Resource>::version(t)
+    }
+
+    fn api_version(alloc: Global, t: &K::DynamicType) -> Result<String, NoMemory> {
+        Ok(String::from(api_version::<K>(alloc, t)?))
+    }
+
+    fn plural(t: &K::DynamicType) -> &str {
+        <K as Resource>::plural(t)
+    }
+
     fn name(&self) -> Option<&str> {
         lent(&self.meta().name)
     }

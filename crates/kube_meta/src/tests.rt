@@ -1,3 +1,7 @@
+mod objects;
+mod references;
+mod selectors;
+
 use crate::{
     Action, ApiResource, DynamicObject, List, Lookup, Moment, ObjectMeta, ObjectRef, RefError,
     Resource, Text, TextMap, TypeInfo,
@@ -27,7 +31,7 @@ fn named(alloc: Global, name: &str, namespace: Option<&str>) -> Result<DynamicOb
         metadata.namespace = Some(Text::new(alloc, namespace)?);
     }
     metadata.uid = Some(Text::new(alloc, "uid-1")?);
-    Ok(DynamicObject { metadata })
+    Ok(DynamicObject::bare(metadata))
 }
 
 fn hash_of(reference: &ObjectRef<DynamicObject>) -> u64 {
@@ -90,9 +94,7 @@ fn extra_is_not_compared(rt: HostRuntime) -> Result<(), Fail> {
 #[test]
 fn unnamed_objects_have_no_reference(rt: HostRuntime) -> Result<(), Fail> {
     let alloc = rt.alloc();
-    let object = DynamicObject {
-        metadata: ObjectMeta::empty(),
-    };
+    let object = DynamicObject::bare(ObjectMeta::empty());
     match object.to_object_ref(alloc, resource(alloc, "Pod", "")?) {
         Ok(_) => assert!(rt; false),
         Err(error) => assert_eq!(rt; error, RefError::Unnamed),
@@ -139,9 +141,9 @@ fn metadata_can_be_changed(rt: HostRuntime) -> Result<(), Fail> {
     object.meta_mut().name = Some(Text::new(alloc, "b")?);
     assert_eq!(rt; object.name(), Some("b"));
     let resource = resource(alloc, "Pod", "apps")?;
-    assert_eq!(rt; DynamicObject::kind(&resource), "Pod");
-    assert_eq!(rt; DynamicObject::group(&resource), "apps");
-    assert_eq!(rt; DynamicObject::version(&resource), "v1");
-    assert_eq!(rt; DynamicObject::plural(&resource), "things");
+    assert_eq!(rt; <DynamicObject as Resource>::kind(&resource), "Pod");
+    assert_eq!(rt; <DynamicObject as Resource>::group(&resource), "apps");
+    assert_eq!(rt; <DynamicObject as Resource>::version(&resource), "v1");
+    assert_eq!(rt; <DynamicObject as Resource>::plural(&resource), "things");
     Ok(())
 }

@@ -1,6 +1,6 @@
 //! A map of texts, which contracts see as its pairs.
 
-ghost use Rattle.std.specs.Prelude.{◌≡◌, IfOk, OnOk, OnErr, [], option_copied};
+ghost use Rattle.std.specs.Prelude.{◌≡◌, ◌↔◌, IfOk, OnOk, OnErr, [], length, option_copied, IsTrue};
 
 use crate::memory::NoMemory;
 use crate::text::Text;
@@ -11,7 +11,7 @@ use std::marker::Model;
 /// A map from texts to texts, as Kubernetes has labels and annotations.
 ///
 /// Contracts see it as the list of its pairs in the order of their keys' bytes.
-#[derive(Drop)]
+#[derive(Debug, Drop)]
 pub struct TextMap {
     inner: BTreeMap<String, Text>,
 }
@@ -42,6 +42,20 @@ impl TextMap {
         ensures { pairs_of result.now.entries ≡ self.now }
     {
         &self.inner
+    }
+
+    /// How many texts it has.
+    pub fn len(&self) -> usize
+        ensures { result ≡ length self.now }
+    {
+        self.inner.len()
+    }
+
+    /// Whether it has no text.
+    pub fn is_empty(&self) -> bool
+        ensures { IsTrue result ↔ (self.now ≡ []) }
+    {
+        self.inner.is_empty()
     }
 
     /// The text under a key.

@@ -7,7 +7,7 @@ use Rattle.serde_json.specs.Data.{Data}
 use Rattle.kube_meta.specs.declared.metadata.ObjectMeta.{ObjectMeta}
 use Rattle.kube_meta.specs.declared.dynamic.DynamicObject.{DynamicObject}
 use Rattle.kube_meta.specs.declared.dynamic.ApiResource.{ApiResource}
-use Rattle.kube_meta.specs.Resources.{resource_type}
+use Rattle.kube_meta.specs.Resources.{resource_type, no_metadata, bare_object}
 use Rattle.kube_meta.specs.declared.poll.Polled.TheVariants.{Ready}
 use Rattle.kube_model.specs.Raw.{RawAnswer, GivesPage}
 use Rattle.kube_model.specs.declared.turn.Shutdown.TheVariants as shutdowns
@@ -35,9 +35,6 @@ kind_at d = do
   plural ← field (codes "plural") text_at d
   Ok (record { group = group; version = version; api_version = api_version group version; kind = kind; plural = plural })
 
-abbrev pub no_meta : ObjectMeta
-no_meta = record { name = None; namespace = None; uid = None; resource_version = None }
-
 unfoldable pub meta_names : Data → Result (Unit {0}) Wrong
 meta_names d = members_among (codes "name" ∷ codes "namespace" ∷ codes "resourceVersion" ∷ []) d
 
@@ -48,14 +45,14 @@ meta_at d = do
   name ← maybe_field (codes "name") text_at d
   namespace ← maybe_field (codes "namespace") text_at d
   version ← maybe_field (codes "resourceVersion") text_at d
-  Ok (record { name = name; namespace = namespace; uid = None; resource_version = version })
+  Ok (record no_metadata { name = name; namespace = namespace; resource_version = version })
 
 -- an object
 unfoldable pub item_at : Data → Result DynamicObject Wrong
 item_at d = do
   _ ← members_among (codes "metadata" ∷ []) d
   meta ← maybe_field (codes "metadata") meta_at d
-  Ok (record { metadata = unwrap_or meta no_meta })
+  Ok (bare_object (unwrap_or meta no_metadata))
 
 -- the version in a page's metadata
 unfoldable pub page_version_at : Data → Result (Option (List ℕ)) Wrong

@@ -96,8 +96,8 @@ impl Row for ObjectMeta {
         Ok(ObjectMeta {
             name,
             namespace,
-            uid: None,
             resource_version,
+            ..ObjectMeta::empty()
         })
     }
 }
@@ -123,7 +123,7 @@ impl Row for DynamicObject {
             Some(metadata) => metadata,
             None => ObjectMeta::empty(),
         };
-        Ok(DynamicObject { metadata })
+        Ok(DynamicObject::bare(metadata))
     }
 }
 

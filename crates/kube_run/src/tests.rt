@@ -201,8 +201,9 @@ fn object(alloc: Global) -> Result<Arc<DynamicObject>, NoMemory> {
         namespace: Some(Text::new(alloc, "n")?),
         uid: Some(Text::new(alloc, "u")?),
         resource_version: Some(Text::new(alloc, "1")?),
+        ..ObjectMeta::empty()
     };
-    Ok(Arc::new(alloc, DynamicObject { metadata })?)
+    Ok(Arc::new(alloc, DynamicObject::bare(metadata))?)
 }
 
 /// Its reference.
@@ -287,7 +288,7 @@ fn add_page(alloc: Global, asks: &mut Asks) -> Result<(), NoMemory> {
     let mut items = List::new(alloc);
     items.push(object(alloc)?)?;
     let metadata = ObjectMeta::empty();
-    items.push(Arc::new(alloc, DynamicObject { metadata })?)?;
+    items.push(Arc::new(alloc, DynamicObject::bare(metadata))?)?;
     let mut requests = List::new(alloc);
     requests.push(ReconcileRequest {
         obj_ref: reference(alloc)?,
