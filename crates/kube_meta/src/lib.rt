@@ -20,7 +20,7 @@ pub use memory::NoMemory;
 pub use metadata::ObjectMeta;
 pub use moment::Moment;
 pub use object_ref::{Extra, Lookup, ObjectRef, RefError};
-pub use poll::Polled;
+pub use poll::{Next, Polled};
 pub use resource::{Resource, TypeInfo};
 pub use text::Text;
 pub use text_map::TextMap;

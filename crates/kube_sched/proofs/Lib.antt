@@ -1,0 +1,6 @@
+-- lemmas on the definitions
+pub mod Lists
+pub mod Orders
+pub mod Queues
+pub mod Steps
+pub mod Least
