@@ -4,3 +4,4 @@ pub mod Orders
 pub mod Queues
 pub mod Steps
 pub mod Least
+pub mod Polls

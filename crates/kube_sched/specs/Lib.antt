@@ -3,3 +3,4 @@ pub mod Held
 pub mod Entries
 pub mod Schedule
 pub mod Least
+pub mod Polls

@@ -44,3 +44,14 @@ with_take events m = events ++ Took m ∷ []
 abbrev pub IsFirst : {M : Type 0} → (M → Bool → Type 0) → List M → Option M → Type 0
 IsFirst passes [] first = first ≡ None
 IsFirst passes (m ∷ ms) first = (passes m true × (first ≡ Some m)) ⊎ (passes m false × IsFirst passes ms first)
+
+-- the messages that wait after these events, in their order
+abbrev pub waiting_messages : {M : Type 0} → (M → M → Bool) → ℕ → List (QueueEvent M) → List M
+waiting_messages same debounce events = map (λ f. f.entry.message) (waiting same debounce events)
+
+-- no message passes, as where all are held; each does
+abbrev pub passes_none : {M : Type 0} → M → Bool → Type 0
+passes_none m b = b ≡ false
+
+abbrev pub passes_all : {M : Type 0} → M → Bool → Type 0
+passes_all m b = b ≡ true

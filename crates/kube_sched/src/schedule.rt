@@ -48,7 +48,7 @@ impl<T> Model for Scheduler<T> {
 }
 
 impl<T: Eq + Hash + Drop> Scheduler<T> {
-    ghost use Rattle.kube_sched.specs.Schedule.{Stands, with_request, with_settle, with_take, IsFirst};
+    ghost use Rattle.kube_sched.specs.Schedule.{Stands, with_request, with_settle, with_take, IsFirst, waiting_messages, passes_all};
 
     /// A scheduler that holds nothing. A message is held for `debounce` nanoseconds longer than asked.
     pub fn new(alloc: Global, debounce: u64) -> Scheduler<T>
@@ -142,19 +142,54 @@ impl<T: Eq + Hash + Drop> Scheduler<T> {
     /// Takes the first waiting message that passes.
     pub fn take_first<C: Fn(&T) -> bool>(&mut self, c: C) -> Option<T>
         requires { C.IsAlwaysCallable c }
-        ensures first { (events : List (QueueEvent T)) → Stands T.eq self.old events → IsFirst (FnReturnsAt C.Fn c) (map (λ f. f.entry.message) (waiting T.eq self.old.debounce events)) result }
+        ensures first { (events : List (QueueEvent T)) → Stands T.eq self.old events → IsFirst (FnReturnsAt C.Fn c) (waiting_messages T.eq self.old.debounce events) result }
         ensures taken { IfSome result (λ m. (events : List (QueueEvent T)) → Stands T.eq self.old events → Stands T.eq self.new (with_take events m)) }
         ensures none { IfNone result (self.new ≡ self.old) }
         ensures debounce { self.new.debounce ≡ self.old.debounce }
         ensures spare { self.new.spare ≡ self.old.spare }
     {
-        match first_passing(&self.waiting, &c) {
+        self.take_passing(&c)
+    }
+
+    // The same by a closure that is lent.
+    pub(crate) fn take_passing<C: Fn(&T) -> bool>(&mut self, c: &C) -> Option<T>
+        requires { C.IsAlwaysCallable c.now }
+        ensures first { (events : List (QueueEvent T)) → Stands T.eq self.old events → IsFirst (FnReturnsAt C.Fn c.now) (waiting_messages T.eq self.old.debounce events) result }
+        ensures taken { IfSome result (λ m. (events : List (QueueEvent T)) → Stands T.eq self.old events → Stands T.eq self.new (with_take events m)) }
+        ensures none { IfNone result (self.new ≡ self.old) }
+        ensures debounce { self.new.debounce ≡ self.old.debounce }
+        ensures spare { self.new.spare ≡ self.old.spare }
+    {
+        match first_passing(&self.waiting, c) {
             Some(place) => {
                 let Held { message, time: _ } = self.waiting.remove(place);
                 Some(message)
             }
             None => None,
         }
+    }
+
+    // Takes the first waiting message.
+    pub(crate) fn take_any(&mut self) -> Option<T>
+        ensures first { (events : List (QueueEvent T)) → Stands T.eq self.old events → IsFirst passes_all (waiting_messages T.eq self.old.debounce events) result }
+        ensures taken { IfSome result (λ m. (events : List (QueueEvent T)) → Stands T.eq self.old events → Stands T.eq self.new (with_take events m)) }
+        ensures none { IfNone result (self.new ≡ self.old) }
+        ensures debounce { self.new.debounce ≡ self.old.debounce }
+    {
+        if self.waiting.is_empty() {
+            return None;
+        }
+        let Held { message, time: _ } = self.waiting.remove(0);
+        Some(message)
+    }
+
+    // Drops all messages.
+    pub(crate) fn clear(&mut self)
+        ensures stands { Stands T.eq self.new [] }
+        ensures debounce { self.new.debounce ≡ self.old.debounce }
+    {
+        self.waiting.clear();
+        self.scheduled.clear();
     }
 
     /// Whether an equal message waits.

@@ -1,8 +1,10 @@
 //! Each call of a scheduler, with ample memory.
 
 use crate::plain::{Message, Plain};
-use crate::{ScheduleRequest, Scheduler};
-use kube_meta::Moment;
+use crate::{Requests, ScheduleRequest, Scheduled, Scheduler, debounced_scheduler, scheduler};
+use kube_meta::{Moment, Next, NoMemory};
+use std::alloc::Global;
+use std::collections::VecDeque;
 use std::process::Abort;
 use std::test::Fail;
 
@@ -124,7 +126,7 @@ fn any_run_at(state: &mut u64, now: u64) -> u64 {
 
 /// One step on both: a request, a settle or a take. What was taken by each.
 fn step(
-    alloc: std::alloc::Global,
+    alloc: Global,
     state: &mut u64,
     now: u64,
     scheduler: &mut Scheduler<Message>,
@@ -189,4 +191,159 @@ fn two_thousand_steps_are_as_defined(rt: HostRuntime) -> Result<(), Fail> {
     }
     assert!(rt; given > 100, "given {given}");
     Ok(())
+}
+
+/// Requests that come at moments. After the last one there is nothing, or the end.
+#[derive(Drop)]
+struct Script {
+    requests: VecDeque<(u64, ScheduleRequest<Message>)>,
+    ends_at: Option<u64>,
+}
+
+impl Requests<Message> for Script {
+    ghost use Rattle.std.specs.Prelude.{None};
+
+    ghost told = { λ _. None };
+
+    fn poll_request(
+        &mut self,
+        _alloc: Global,
+        now: Moment,
+    ) -> Result<Next<ScheduleRequest<Message>>, NoMemory> {
+        let Some((at, request)) = self.requests.pop_front() else {
+            return match self.ends_at {
+                Some(end) if end <= now.0 => Ok(Next::End),
+                _ => Ok(Next::Spent),
+            };
+        };
+        if at <= now.0 {
+            return Ok(Next::Item(request));
+        }
+        self.requests.push_front((at, request))?;
+        Ok(Next::NotReady)
+    }
+}
+
+/// A script of keys with the moments at which they come and for which they ask.
+fn asks(alloc: Global, all: &[(u8, u64, u64)], ends_at: Option<u64>) -> Result<Script, Fail> {
+    let mut requests = VecDeque::new(alloc);
+    for (key, at, run_at) in all {
+        requests.push_back((*at, request(*key, u64::from(*key), *run_at)))?;
+    }
+    Ok(Script { requests, ends_at })
+}
+
+/// What a poll answered: a message's tag, or how it ended.
+fn shown(answer: &Next<Message>) -> u64 {
+    match answer {
+        Next::Item(message) => message.tag,
+        Next::NotReady => 1000,
+        Next::Spent => 1001,
+        Next::End => 1002,
+    }
+}
+
+const NOT_READY: u64 = 1000;
+
+const SPENT: u64 = 1001;
+
+const END: u64 = 1002;
+
+/// Polls at moments in seconds, each with what it answers.
+fn poll_all(
+    rt: &impl Abort,
+    alloc: Global,
+    scheduled: &mut Scheduled<Message, Script>,
+    polls: &[(u64, u64)],
+) -> Result<(), Fail> {
+    for (second, wanted) in polls {
+        let now = Moment(second.saturating_mul(SECOND));
+        let answer = scheduled.poll_next(alloc, now, 9)?;
+        assert_eq!(rt; shown(&answer), *wanted, "at {second} s");
+    }
+    Ok(())
+}
+
+#[test]
+fn messages_come_when_they_are_due(rt: HostRuntime) -> Result<(), Fail> {
+    let alloc = rt.alloc();
+    let requests = asks(alloc, &[(1, 0, SECOND), (2, 0, 3 * SECOND)], None)?;
+    let mut scheduled = scheduler(alloc, requests);
+    let polls = [(0, NOT_READY), (2, 1), (2, NOT_READY), (4, 2)];
+    poll_all(&rt, alloc, &mut scheduled, &polls)
+}
+
+#[test]
+fn equal_messages_come_once(rt: HostRuntime) -> Result<(), Fail> {
+    let alloc = rt.alloc();
+    for (first, second) in [(SECOND, 3 * SECOND), (3 * SECOND, SECOND)] {
+        let requests = asks(alloc, &[(1, 0, first), (1, 0, second)], None)?;
+        let mut scheduled = scheduler(alloc, requests);
+        let polls = [(0, NOT_READY), (2, 1), (4, NOT_READY)];
+        poll_all(&rt, alloc, &mut scheduled, &polls)?;
+    }
+    Ok(())
+}
+
+#[test]
+fn a_held_message_comes_once_when_released(rt: HostRuntime) -> Result<(), Fail> {
+    let alloc = rt.alloc();
+    let requests = asks(alloc, &[(1, 0, 0), (1, SECOND, SECOND)], Some(4 * SECOND))?;
+    let mut scheduled = scheduler(alloc, requests);
+    let one = Message { key: 1, tag: 0 };
+    assert!(rt; !scheduled.contains_pending(&one));
+    for now in [0, SECOND] {
+        let answer = scheduled.hold().poll_next(alloc, Moment(now), 9)?;
+        assert_eq!(rt; shown(&answer), NOT_READY);
+        assert!(rt; scheduled.contains_pending(&one));
+    }
+    let polls = [(2, 1), (3, NOT_READY), (4, END), (5, END)];
+    poll_all(&rt, alloc, &mut scheduled, &polls)
+}
+
+#[test]
+fn a_message_that_does_not_pass_is_held(rt: HostRuntime) -> Result<(), Fail> {
+    let alloc = rt.alloc();
+    let requests = asks(alloc, &[(1, 0, 0), (2, 0, 0)], Some(SECOND))?;
+    let mut scheduled = scheduler(alloc, requests);
+    let mut answers = [2, NOT_READY].iter();
+    for wanted in &mut answers {
+        let mut unless = scheduled.hold_unless(|message: &Message| message.key != 1);
+        let answer = unless.poll_next(alloc, Moment(0), 9)?;
+        assert_eq!(rt; shown(&answer), *wanted);
+    }
+    assert!(rt; scheduled.contains_pending(&Message { key: 1, tag: 0 }));
+    poll_all(&rt, alloc, &mut scheduled, &[(1, END)])?;
+    assert!(rt;
+        !scheduled.contains_pending(&Message { key: 1, tag: 0 }),
+        "what is held is dropped"
+    );
+    Ok(())
+}
+
+#[test]
+fn a_call_takes_as_many_requests_as_it_may(rt: HostRuntime) -> Result<(), Fail> {
+    let alloc = rt.alloc();
+    let requests = asks(alloc, &[(1, 0, 0), (2, 0, 0), (3, 0, 0)], None)?;
+    let mut scheduled = scheduler(alloc, requests);
+    for wanted in [SPENT, 1, 2, 3, NOT_READY] {
+        let answer = scheduled.poll_next(alloc, Moment(0), 2)?;
+        assert_eq!(rt; shown(&answer), wanted);
+    }
+    Ok(())
+}
+
+#[test]
+fn a_debounced_scheduler_holds_longer(rt: HostRuntime) -> Result<(), Fail> {
+    let alloc = rt.alloc();
+    let requests = asks(alloc, &[(1, 0, 0), (1, SECOND, SECOND)], None)?;
+    let mut scheduled = debounced_scheduler(alloc, requests, 3 * SECOND);
+    let polls = [
+        (0, NOT_READY),
+        (1, NOT_READY),
+        (3, NOT_READY),
+        (4, 1),
+        (7, NOT_READY),
+    ];
+    poll_all(&rt, alloc, &mut scheduled, &polls)
 }
