@@ -26,7 +26,7 @@ pub use metadata::{ObjectMeta, OwnerReference, PartialObjectMeta, TypeMeta};
 pub use moment::Moment;
 pub use object_fault::ObjectFault;
 pub use object_ref::{Extra, Lookup, ObjectRef, ObjectReference, RefError};
-pub use poll::Polled;
+pub use poll::{Next, Polled};
 pub use reading::read_object;
 pub use resource::{Resource, TypeInfo};
 pub use selector::{Expression, Selector};

@@ -8,3 +8,16 @@ pub enum Polled<T> {
     /// Nothing came yet.
     NotReady,
 }
+
+/// The answer of a poll of a stream that may be cut short (`Stream::poll_next`, with a bound on the work of one call).
+#[derive(Debug, Drop)]
+pub enum Next<T> {
+    /// The next item.
+    Item(T),
+    /// Nothing came yet.
+    NotReady,
+    /// The work that one call may do was done before an item came.
+    Spent,
+    /// There are no more items.
+    End,
+}

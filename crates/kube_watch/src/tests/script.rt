@@ -52,7 +52,7 @@ pub fn object(alloc: Global, name: &str, version: &str) -> Result<Arc<DynamicObj
     let mut metadata = ObjectMeta::empty();
     metadata.name = text_of(alloc, name)?;
     metadata.resource_version = text_of(alloc, version)?;
-    Ok(Arc::new(alloc, DynamicObject { metadata })?)
+    Ok(Arc::new(alloc, DynamicObject::bare(metadata))?)
 }
 
 fn fault(alloc: Global) -> Result<ApiError, NoMemory> {

@@ -1,0 +1,11 @@
+use Rattle.std.proofs.Common.{◌≡◌}
+use Rattle.kube_sched.proofs.Polls.{Taking}
+use Rattle.kube_sched.proofs.asks.take_requests.Given as goal
+
+-- requests alone were taken so far
+abbrev pub invariant-loop-taken : goal.invariant-loop-taken
+invariant-loop-taken g l =
+    record {
+      takes : Taking g.T.PartialEq.eq g.R.Requests.told l.now l.fn.scheduler l.fn.requests l.scheduler l.requests l._taken;
+      kept : l.scheduler.debounce ≡ l.fn.scheduler.debounce;
+    }

@@ -1,0 +1,38 @@
+use Rattle.std.proofs.Common.{ap, sym, subst, ◌∙◌}
+use Rattle.kube_sched.specs.Schedule.{Stands}
+use Rattle.kube_sched.specs.Polls.{Stream, Asked, is_end, prepared, with_requests}
+use Rattle.kube_sched.proofs.Polls.{prepared-by}
+use Rattle.kube_sched.proofs.scheduled.Scheduled.prepare.Goals as goal
+
+pub returns-in-Filled-clause-prepared : goal.returns-in-Filled-clause-prepared
+returns-in-Filled-clause-prepared g c =
+    let eq = g.T.PartialEq.eq in
+    let told = g.R.Requests.told in
+    let taken = c.take_requests.new in
+    let is = c.in-Filled.is in
+    let asked =
+    subst (λ (s : Stream g.row.T.Denot g.row.R.Denot). Asked eq told c.args.now c.args.fuel s.schedule s.requests taken.scheduler taken.requests c.in-Ok.ending) c.self.view_is
+    c.in-Ok.ensures.asked in
+    prepared-by eq told c.args.now c.args.fuel c.args.self.now _ taken.scheduler c.in-Ok.ending asked
+    (sym (ap (λ (s : Stream g.row.T.Denot g.row.R.Denot). s.is_over) c.self.view_is) ∙ c.if-self-2.false)
+    (c.if-self-2.false ∙ sym (ap is_end is))
+    c.if-self.false
+    (c.take_requests.ensures.debounce ∙ ap (λ (s : Stream g.row.T.Denot g.row.R.Denot). s.schedule.debounce) c.self.view_is)
+    (λ events qs h. subst (λ e. Stands eq taken.scheduler (prepared e events qs c.args.now)) (sym is) h)
+
+pub returns-in-Waits-clause-prepared : goal.returns-in-Waits-clause-prepared
+returns-in-Waits-clause-prepared g c =
+    let eq = g.T.PartialEq.eq in
+    let told = g.R.Requests.told in
+    let taken = c.take_requests.new in
+    let is = c.in-Waits.is in
+    let asked =
+    subst (λ (s : Stream g.row.T.Denot g.row.R.Denot). Asked eq told c.args.now c.args.fuel s.schedule s.requests taken.scheduler taken.requests c.in-Ok.ending) c.self.view_is
+    c.in-Ok.ensures.asked in
+    prepared-by eq told c.args.now c.args.fuel c.args.self.now _ taken.scheduler c.in-Ok.ending asked
+    (sym (ap (λ (s : Stream g.row.T.Denot g.row.R.Denot). s.is_over) c.self.view_is) ∙ c.if-self-2.false)
+    (c.if-self-2.false ∙ sym (ap is_end is))
+    c.if-self.false
+    (c.settle.ensures.debounce ∙ c.take_requests.ensures.debounce ∙ ap (λ (s : Stream g.row.T.Denot g.row.R.Denot). s.schedule.debounce) c.self.view_is)
+    (λ events qs h.
+    subst (λ e. Stands eq c.settle.new.self (prepared e events qs c.args.now)) (sym is) (c.settle.ensures.stands (with_requests events qs c.args.now) h))

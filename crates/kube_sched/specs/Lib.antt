@@ -1,0 +1,6 @@
+-- the definitions that the contracts cite
+pub mod Held
+pub mod Entries
+pub mod Schedule
+pub mod Least
+pub mod Polls

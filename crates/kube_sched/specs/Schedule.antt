@@ -1,0 +1,57 @@
+-- What a scheduler holds, and the events that it stands for. (Crate: `Scheduler`.)
+use Rattle.std.specs.Prelude.{◌≡◌, ℕ, Bool, true, false, List, [], ◌∷◌, ◌++◌, map, Option, Some, None, ◌⊎◌}
+use Rattle.std.specs.List.{count_by}
+use Rattle.kube_meta.specs.declared.moment.Moment.{Moment}
+use Rattle.kube_model.specs.Queue.{QueueEvent, Requested, Settled, Took, is_request, is_settle, Entry, Frozen, waiting}
+use Rattle.kube_sched.specs.declared.held.Held.{Held}
+use Rattle.kube_sched.specs.declared.request.ScheduleRequest.{ScheduleRequest}
+use Rattle.kube_sched.specs.Entries.{IsNumbered, scheduled}
+
+-- the messages that wait and those that are due later, each with its time, and for how many more there is room
+pub record Schedule (M : Type 0) : Type 0 where
+  pub debounce : ℕ
+  pub waiting : List (Held M)
+  pub scheduled : List (Held M)
+  pub spare : ℕ
+
+-- an entry as it is held
+abbrev pub held_of : {M : Type 0} → Entry M → Held M
+held_of e = record { message = e.message; time = record { 0 = e.time } }
+
+abbrev pub held_of_frozen : {M : Type 0} → Frozen M → Held M
+held_of_frozen f = held_of f.entry
+
+-- it holds what these events leave: what waits in its order, and what is scheduled in the order of the requests
+pub record Stands {M : Type 0} (same : M → M → Bool) (s : Schedule M) (events : List (QueueEvent M)) : Type 0 where
+  pub numbered : IsNumbered 0 0 events
+  pub waits : s.waiting ≡ map held_of_frozen (waiting same s.debounce events)
+  pub comes : s.scheduled ≡ map held_of (scheduled same s.debounce events)
+
+-- these events and a request
+abbrev pub with_request : {M : Type 0} → List (QueueEvent M) → ScheduleRequest M → Moment → List (QueueEvent M)
+with_request events q now =
+    events ++ Requested (record { message = q.message; run_at = q.run_at.0; now = now.0; number = count_by is_request events }) ∷ []
+
+-- these events and a settle
+abbrev pub with_settle : {M : Type 0} → List (QueueEvent M) → Moment → List (QueueEvent M)
+with_settle events now = events ++ Settled now.0 (count_by is_settle events) ∷ []
+
+-- these events and a take
+abbrev pub with_take : {M : Type 0} → List (QueueEvent M) → M → List (QueueEvent M)
+with_take events m = events ++ Took m ∷ []
+
+-- the first message that passes, or none where none does
+abbrev pub IsFirst : {M : Type 0} → (M → Bool → Type 0) → List M → Option M → Type 0
+IsFirst passes [] first = first ≡ None
+IsFirst passes (m ∷ ms) first = (passes m true × (first ≡ Some m)) ⊎ (passes m false × IsFirst passes ms first)
+
+-- the messages that wait after these events, in their order
+abbrev pub waiting_messages : {M : Type 0} → (M → M → Bool) → ℕ → List (QueueEvent M) → List M
+waiting_messages same debounce events = map (λ f. f.entry.message) (waiting same debounce events)
+
+-- no message passes, as where all are held; each does
+abbrev pub passes_none : {M : Type 0} → M → Bool → Type 0
+passes_none m b = b ≡ false
+
+abbrev pub passes_all : {M : Type 0} → M → Bool → Type 0
+passes_all m b = b ≡ true

@@ -1,0 +1,44 @@
+//! How a scheduler takes requests.
+
+ghost use Rattle.std.specs.Prelude.{◌≡◌, IfOk};
+ghost use Rattle.kube_sched.specs.Polls.{Asked};
+
+use crate::request::ScheduleRequest;
+use crate::requests::Requests;
+use crate::schedule::Scheduler;
+use kube_meta::{Moment, Next, NoMemory};
+use std::alloc::Global;
+use std::hash::Hash;
+
+/// How the asks of one call ended.
+#[derive(Clone, Copy, Debug, PartialEq, Eq)]
+pub enum Ending {
+    /// As many requests were taken as one call may take.
+    Filled,
+    /// None was ready.
+    Waits,
+    /// There are no more.
+    Ends,
+}
+
+/// Takes requests until none is ready, at most `fuel` of them.
+pub fn take_requests<T: Eq + Hash + Drop, R: Requests<T>>(
+    alloc: Global,
+    scheduler: &mut Scheduler<T>,
+    requests: &mut R,
+    now: Moment,
+    fuel: u32,
+) -> Result<Ending, NoMemory>
+    ensures asked { IfOk result (λ ending. Asked T.eq R.told now fuel scheduler.old requests.old scheduler.new requests.new ending) }
+    ensures debounce { scheduler.new.debounce ≡ scheduler.old.debounce }
+{
+    for _taken in 0..fuel {
+        match requests.poll_request(alloc, now)? {
+            Next::Item(request) => scheduler.schedule(alloc, request, now)?,
+            Next::NotReady => return Ok(Ending::Waits),
+            Next::Spent => return Ok(Ending::Waits),
+            Next::End => return Ok(Ending::Ends),
+        }
+    }
+    Ok(Ending::Filled)
+}

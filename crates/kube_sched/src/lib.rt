@@ -1,0 +1,22 @@
+//! Messages that are due later, each once (kube-runtime's `scheduler`).
+#![tactic(auto)]
+
+mod asks;
+mod held;
+pub mod hold;
+pub mod laws;
+pub mod request;
+pub mod requests;
+pub mod schedule;
+pub mod scheduled;
+
+pub use hold::{Hold, HoldUnless};
+pub use request::ScheduleRequest;
+pub use requests::Requests;
+pub use schedule::Scheduler;
+pub use scheduled::{Scheduled, debounced_scheduler, scheduler};
+
+#[cfg(test)]
+mod plain;
+#[cfg(test)]
+mod tests;

@@ -1,0 +1,131 @@
+//! The definition of entries and waiting as a plain program, for comparison.
+
+use std::alloc::Global;
+use std::test::Fail;
+
+/// A message that is equal to those of its key.
+#[derive(Clone, Copy, Debug)]
+#[derive_where(PartialEq, Eq, Hash)]
+pub struct Message {
+    pub key: u8,
+    #[derive_where(skip(EqHashOrd, Hash))]
+    pub tag: u64,
+}
+
+/// What the requests for one message have made of it.
+#[derive(Clone, Copy, Debug)]
+pub struct Entry {
+    pub message: Message,
+    pub time: u64,
+    pub number: u64,
+    pub settle: Option<u64>,
+}
+
+/// The entries of all messages, in no order.
+#[derive(Drop)]
+pub struct Plain {
+    debounce: u64,
+    entries: Vec<Entry>,
+    requests: u64,
+    settles: u64,
+}
+
+impl Plain {
+    pub fn new(alloc: Global, debounce: u64) -> Plain {
+        Plain {
+            debounce,
+            entries: Vec::new(alloc),
+            requests: 0,
+            settles: 0,
+        }
+    }
+
+    fn entry(&self, key: u8) -> Option<Entry> {
+        for entry in &self.entries {
+            if entry.message.key == key {
+                return Some(*entry);
+            }
+        }
+        None
+    }
+
+    fn put(&mut self, key: u8, entry: Option<Entry>) -> Result<(), Fail> {
+        self.entries.retain(|other| other.message.key != key);
+        if let Some(entry) = entry {
+            self.entries.push(entry)?;
+        }
+        Ok(())
+    }
+
+    pub fn request(&mut self, message: Message, run_at: u64, now: u64) -> Result<(), Fail> {
+        let number = self.requests;
+        self.requests = number.wrapping_add(1);
+        if let Some(old) = self.entry(message.key) {
+            if old.settle.is_some() || old.time < run_at {
+                return Ok(());
+            }
+        }
+        let longest = now.saturating_add(15_552_000_000_000_000);
+        let entry = Entry {
+            message,
+            time: run_at.saturating_add(self.debounce).min(longest),
+            number,
+            settle: None,
+        };
+        self.put(message.key, Some(entry))
+    }
+
+    pub fn settle(&mut self, now: u64) {
+        for entry in self.entries.iter_mut() {
+            if entry.settle.is_none() && entry.time <= now {
+                entry.settle = Some(self.settles);
+            }
+        }
+        self.settles = self.settles.wrapping_add(1);
+    }
+
+    /// The first waiting message whose key is at least `least`, which is then gone.
+    pub fn take(&mut self, least: u8) -> Result<Option<u64>, Fail> {
+        let mut first: Option<Entry> = None;
+        for entry in &self.entries {
+            if entry.settle.is_some() && entry.message.key >= least && goes_first(entry, &first) {
+                first = Some(*entry);
+            }
+        }
+        match first {
+            Some(entry) => {
+                self.put(entry.message.key, None)?;
+                Ok(Some(entry.message.tag))
+            }
+            None => Ok(None),
+        }
+    }
+
+    pub fn is_waiting(&self, key: u8) -> bool {
+        match self.entry(key) {
+            Some(entry) => entry.settle.is_some(),
+            None => false,
+        }
+    }
+
+    pub fn len(&self) -> usize {
+        self.entries.len()
+    }
+
+    pub fn waiting_len(&self) -> usize {
+        self.entries
+            .iter()
+            .filter(|entry| entry.settle.is_some())
+            .count()
+    }
+}
+
+/// By settle, then time, then number.
+fn goes_first(entry: &Entry, first: &Option<Entry>) -> bool {
+    match first {
+        Some(first) => {
+            (entry.settle, entry.time, entry.number) < (first.settle, first.time, first.number)
+        }
+        None => true,
+    }
+}

@@ -1,0 +1,349 @@
+//! Each call of a scheduler, with ample memory.
+
+use crate::plain::{Message, Plain};
+use crate::{Requests, ScheduleRequest, Scheduled, Scheduler, debounced_scheduler, scheduler};
+use kube_meta::{Moment, Next, NoMemory};
+use std::alloc::Global;
+use std::collections::VecDeque;
+use std::process::Abort;
+use std::test::Fail;
+
+const SECOND: u64 = 1_000_000_000;
+
+fn request(key: u8, tag: u64, run_at: u64) -> ScheduleRequest<Message> {
+    ScheduleRequest {
+        message: Message { key, tag },
+        run_at: Moment(run_at),
+    }
+}
+
+/// The tag of the first message that waits at a moment.
+fn taken(scheduler: &mut Scheduler<Message>, at: u64) -> Option<u64> {
+    scheduler.settle(Moment(at));
+    match scheduler.take_first(|_| true) {
+        Some(message) => Some(message.tag),
+        None => None,
+    }
+}
+
+#[test]
+fn an_earlier_request_takes_the_place(rt: HostRuntime) -> Result<(), Fail> {
+    let alloc = rt.alloc();
+    let mut scheduler = Scheduler::new(alloc, 0);
+    scheduler.schedule(alloc, request(1, 10, 2 * SECOND), Moment(0))?;
+    scheduler.schedule(alloc, request(1, 11, SECOND), Moment(0))?;
+    assert_eq!(rt; taken(&mut scheduler, SECOND - 1), None);
+    assert_eq!(rt; taken(&mut scheduler, SECOND), Some(11));
+    assert_eq!(rt; taken(&mut scheduler, 2 * SECOND), None);
+    assert_eq!(rt; scheduler.len(), 0);
+    Ok(())
+}
+
+#[test]
+fn a_later_request_changes_nothing(rt: HostRuntime) -> Result<(), Fail> {
+    let alloc = rt.alloc();
+    let mut scheduler = Scheduler::new(alloc, 0);
+    scheduler.schedule(alloc, request(1, 10, SECOND), Moment(0))?;
+    scheduler.schedule(alloc, request(1, 11, 2 * SECOND), Moment(0))?;
+    assert_eq!(rt; scheduler.len(), 1);
+    assert_eq!(rt; taken(&mut scheduler, SECOND), Some(10));
+    assert_eq!(rt; taken(&mut scheduler, 2 * SECOND), None);
+    Ok(())
+}
+
+#[test]
+fn a_debounce_holds_a_message(rt: HostRuntime) -> Result<(), Fail> {
+    let alloc = rt.alloc();
+    let mut scheduler = Scheduler::new(alloc, 3 * SECOND);
+    scheduler.schedule(alloc, request(1, 10, 0), Moment(0))?;
+    scheduler.schedule(alloc, request(1, 11, SECOND), Moment(SECOND))?;
+    scheduler.settle(Moment(3 * SECOND + SECOND / 2));
+    assert_eq!(rt; scheduler.waiting_len(), 0);
+    scheduler.settle(Moment(4 * SECOND));
+    assert_eq!(rt; scheduler.waiting_len(), 1);
+    assert!(rt; scheduler.contains_pending(&Message { key: 1, tag: 0 }));
+    Ok(())
+}
+
+#[test]
+fn a_request_before_the_settle_moves_the_message(rt: HostRuntime) -> Result<(), Fail> {
+    let alloc = rt.alloc();
+    let mut scheduler = Scheduler::new(alloc, 3 * SECOND);
+    scheduler.schedule(alloc, request(1, 10, 0), Moment(0))?;
+    scheduler.schedule(alloc, request(1, 11, 3 * SECOND), Moment(3 * SECOND))?;
+    assert_eq!(rt; taken(&mut scheduler, 3 * SECOND), None);
+    assert_eq!(rt; taken(&mut scheduler, 6 * SECOND - 1), None);
+    assert_eq!(rt; taken(&mut scheduler, 6 * SECOND), Some(11));
+    Ok(())
+}
+
+#[test]
+fn no_message_is_held_longer_than_180_days(rt: HostRuntime) -> Result<(), Fail> {
+    let alloc = rt.alloc();
+    let mut scheduler = Scheduler::new(alloc, 0);
+    scheduler.schedule(alloc, request(1, 10, u64::MAX), Moment(5))?;
+    assert_eq!(rt; taken(&mut scheduler, 15_552_000_000_000_004), None);
+    assert_eq!(rt; taken(&mut scheduler, 15_552_000_000_000_005), Some(10));
+    Ok(())
+}
+
+#[test]
+fn reserved_places_are_used(rt: HostRuntime) -> Result<(), Fail> {
+    let alloc = rt.alloc();
+    let mut scheduler = Scheduler::new(alloc, 0);
+    scheduler.reserve(alloc, 2)?;
+    let mut left = scheduler.spare();
+    assert!(rt; left >= 2);
+    for key in [1, 2] {
+        if scheduler.spare() > 0 {
+            scheduler.schedule_reserved(request(key, u64::from(key), 7), Moment(0));
+        }
+        assert!(rt; scheduler.spare() < left);
+        left = scheduler.spare();
+    }
+    assert_eq!(rt; taken(&mut scheduler, 7), Some(1));
+    assert_eq!(rt; taken(&mut scheduler, 7), Some(2));
+    Ok(())
+}
+
+/// The next of numbers that look like chance.
+fn next_number(state: &mut u64) -> u64 {
+    *state = state
+        .wrapping_mul(6_364_136_223_846_793_005)
+        .wrapping_add(1_442_695_040_888_963_407);
+    *state >> 33
+}
+
+/// A moment of a request: mostly near now, now and then the greatest.
+fn any_run_at(state: &mut u64, now: u64) -> u64 {
+    let number = next_number(state);
+    if number % 50 == 0 {
+        u64::MAX
+    } else {
+        now.saturating_sub(5).saturating_add(number % 40)
+    }
+}
+
+/// One step on both: a request, a settle or a take. What was taken by each.
+fn step(
+    alloc: Global,
+    state: &mut u64,
+    now: u64,
+    scheduler: &mut Scheduler<Message>,
+    plain: &mut Plain,
+) -> Result<(Option<u64>, Option<u64>), Fail> {
+    let tag = next_number(state);
+    let key = (next_number(state) % 6) as u8;
+    let run_at = any_run_at(state, now);
+    match next_number(state) % 8 {
+        0 => {
+            scheduler.settle(Moment(now));
+            plain.settle(now);
+        }
+        1 => {
+            let mine = match scheduler.take_first(|message: &Message| message.key >= key) {
+                Some(message) => Some(message.tag),
+                None => None,
+            };
+            return Ok((mine, plain.take(key)?));
+        }
+        2 if scheduler.spare() > 0 => {
+            scheduler.schedule_reserved(request(key, tag, run_at), Moment(now));
+            plain.request(Message { key, tag }, run_at, now)?;
+        }
+        3 => scheduler.reserve(alloc, 1)?,
+        _ => {
+            scheduler.schedule(alloc, request(key, tag, run_at), Moment(now))?;
+            plain.request(Message { key, tag }, run_at, now)?;
+        }
+    }
+    Ok((None, None))
+}
+
+/// Both hold the same.
+fn compare(rt: &impl Abort, scheduler: &Scheduler<Message>, plain: &Plain) {
+    assert_eq!(rt; scheduler.len(), plain.len());
+    assert_eq!(rt; scheduler.waiting_len(), plain.waiting_len());
+    for key in 0..6u8 {
+        let waits = scheduler.contains_pending(&Message { key, tag: 0 });
+        assert_eq!(rt; waits, plain.is_waiting(key));
+    }
+}
+
+#[test]
+fn two_thousand_steps_are_as_defined(rt: HostRuntime) -> Result<(), Fail> {
+    let alloc = rt.alloc();
+    let mut scheduler = Scheduler::new(alloc, 3);
+    let mut plain = Plain::new(alloc, 3);
+    let mut state = 11;
+    let mut now = 100u64;
+    let mut given = 0u32;
+    for _step in 0..2000 {
+        now = now
+            .saturating_add(next_number(&mut state) % 7)
+            .saturating_sub(1);
+        let (mine, wanted) = step(alloc, &mut state, now, &mut scheduler, &mut plain)?;
+        assert_eq!(rt; mine, wanted);
+        if mine.is_some() {
+            given = given.saturating_add(1);
+        }
+        compare(&rt, &scheduler, &plain);
+    }
+    assert!(rt; given > 100, "given {given}");
+    Ok(())
+}
+
+/// Requests that come at moments. After the last one there is nothing, or the end.
+#[derive(Drop)]
+struct Script {
+    requests: VecDeque<(u64, ScheduleRequest<Message>)>,
+    ends_at: Option<u64>,
+}
+
+impl Requests<Message> for Script {
+    ghost use Rattle.std.specs.Prelude.{None};
+
+    ghost told = { λ _. None };
+
+    fn poll_request(
+        &mut self,
+        _alloc: Global,
+        now: Moment,
+    ) -> Result<Next<ScheduleRequest<Message>>, NoMemory> {
+        let Some((at, request)) = self.requests.pop_front() else {
+            return match self.ends_at {
+                Some(end) if end <= now.0 => Ok(Next::End),
+                _ => Ok(Next::Spent),
+            };
+        };
+        if at <= now.0 {
+            return Ok(Next::Item(request));
+        }
+        self.requests.push_front((at, request))?;
+        Ok(Next::NotReady)
+    }
+}
+
+/// A script of keys with the moments at which they come and for which they ask.
+fn asks(alloc: Global, all: &[(u8, u64, u64)], ends_at: Option<u64>) -> Result<Script, Fail> {
+    let mut requests = VecDeque::new(alloc);
+    for (key, at, run_at) in all {
+        requests.push_back((*at, request(*key, u64::from(*key), *run_at)))?;
+    }
+    Ok(Script { requests, ends_at })
+}
+
+/// What a poll answered: a message's tag, or how it ended.
+fn shown(answer: &Next<Message>) -> u64 {
+    match answer {
+        Next::Item(message) => message.tag,
+        Next::NotReady => 1000,
+        Next::Spent => 1001,
+        Next::End => 1002,
+    }
+}
+
+const NOT_READY: u64 = 1000;
+
+const SPENT: u64 = 1001;
+
+const END: u64 = 1002;
+
+/// Polls at moments in seconds, each with what it answers.
+fn poll_all(
+    rt: &impl Abort,
+    alloc: Global,
+    scheduled: &mut Scheduled<Message, Script>,
+    polls: &[(u64, u64)],
+) -> Result<(), Fail> {
+    for (second, wanted) in polls {
+        let now = Moment(second.saturating_mul(SECOND));
+        let answer = scheduled.poll_next(alloc, now, 9)?;
+        assert_eq!(rt; shown(&answer), *wanted, "at {second} s");
+    }
+    Ok(())
+}
+
+#[test]
+fn messages_come_when_they_are_due(rt: HostRuntime) -> Result<(), Fail> {
+    let alloc = rt.alloc();
+    let requests = asks(alloc, &[(1, 0, SECOND), (2, 0, 3 * SECOND)], None)?;
+    let mut scheduled = scheduler(alloc, requests);
+    let polls = [(0, NOT_READY), (2, 1), (2, NOT_READY), (4, 2)];
+    poll_all(&rt, alloc, &mut scheduled, &polls)
+}
+
+#[test]
+fn equal_messages_come_once(rt: HostRuntime) -> Result<(), Fail> {
+    let alloc = rt.alloc();
+    for (first, second) in [(SECOND, 3 * SECOND), (3 * SECOND, SECOND)] {
+        let requests = asks(alloc, &[(1, 0, first), (1, 0, second)], None)?;
+        let mut scheduled = scheduler(alloc, requests);
+        let polls = [(0, NOT_READY), (2, 1), (4, NOT_READY)];
+        poll_all(&rt, alloc, &mut scheduled, &polls)?;
+    }
+    Ok(())
+}
+
+#[test]
+fn a_held_message_comes_once_when_released(rt: HostRuntime) -> Result<(), Fail> {
+    let alloc = rt.alloc();
+    let requests = asks(alloc, &[(1, 0, 0), (1, SECOND, SECOND)], Some(4 * SECOND))?;
+    let mut scheduled = scheduler(alloc, requests);
+    let one = Message { key: 1, tag: 0 };
+    assert!(rt; !scheduled.contains_pending(&one));
+    for now in [0, SECOND] {
+        let answer = scheduled.hold().poll_next(alloc, Moment(now), 9)?;
+        assert_eq!(rt; shown(&answer), NOT_READY);
+        assert!(rt; scheduled.contains_pending(&one));
+    }
+    let polls = [(2, 1), (3, NOT_READY), (4, END), (5, END)];
+    poll_all(&rt, alloc, &mut scheduled, &polls)
+}
+
+#[test]
+fn a_message_that_does_not_pass_is_held(rt: HostRuntime) -> Result<(), Fail> {
+    let alloc = rt.alloc();
+    let requests = asks(alloc, &[(1, 0, 0), (2, 0, 0)], Some(SECOND))?;
+    let mut scheduled = scheduler(alloc, requests);
+    let mut answers = [2, NOT_READY].iter();
+    for wanted in &mut answers {
+        let mut unless = scheduled.hold_unless(|message: &Message| message.key != 1);
+        let answer = unless.poll_next(alloc, Moment(0), 9)?;
+        assert_eq!(rt; shown(&answer), *wanted);
+    }
+    assert!(rt; scheduled.contains_pending(&Message { key: 1, tag: 0 }));
+    poll_all(&rt, alloc, &mut scheduled, &[(1, END)])?;
+    assert!(rt;
+        !scheduled.contains_pending(&Message { key: 1, tag: 0 }),
+        "what is held is dropped"
+    );
+    Ok(())
+}
+
+#[test]
+fn a_call_takes_as_many_requests_as_it_may(rt: HostRuntime) -> Result<(), Fail> {
+    let alloc = rt.alloc();
+    let requests = asks(alloc, &[(1, 0, 0), (2, 0, 0), (3, 0, 0)], None)?;
+    let mut scheduled = scheduler(alloc, requests);
+    for wanted in [SPENT, 1, 2, 3, NOT_READY] {
+        let answer = scheduled.poll_next(alloc, Moment(0), 2)?;
+        assert_eq!(rt; shown(&answer), wanted);
+    }
+    Ok(())
+}
+
+#[test]
+fn a_debounced_scheduler_holds_longer(rt: HostRuntime) -> Result<(), Fail> {
+    let alloc = rt.alloc();
+    let requests = asks(alloc, &[(1, 0, 0), (1, SECOND, SECOND)], None)?;
+    let mut scheduled = debounced_scheduler(alloc, requests, 3 * SECOND);
+    let polls = [
+        (0, NOT_READY),
+        (1, NOT_READY),
+        (3, NOT_READY),
+        (4, 1),
+        (7, NOT_READY),
+    ];
+    poll_all(&rt, alloc, &mut scheduled, &polls)
+}
