@@ -1,9 +1,10 @@
 //! How a watcher lists and watches.
 
 ghost use Rattle.std.specs.Prelude.{◌≡◌, Some, None, true, false, IfOk};
+ghost use Rattle.kube_meta.specs.Selectors.{selector_text};
 
 use kube_meta::text::copy_option;
-use kube_meta::{NoMemory, Text};
+use kube_meta::{NoMemory, Selector, Text};
 use std::alloc::Global;
 
 /// Which version a list may be of (kube-runtime's `ListSemantic`; Kubernetes API concept "resourceVersion" of a list).
@@ -112,6 +113,17 @@ impl Config {
         let label_selector = Some(Text::new(alloc, label_selector)?);
         Ok(Config {
             label_selector,
+            ..self
+        })
+    }
+
+    /// With the labels that a selector has, in its text.
+    pub fn labels_from(self, alloc: Global, selector: &Selector) -> Result<Config, NoMemory>
+        ensures { IfOk result (λ c. c ≡ record self { label_selector = Some (selector_text selector.now) }) }
+    {
+        let text = format!(in alloc; "{selector}")?;
+        Ok(Config {
+            label_selector: Some(Text::from(text)),
             ..self
         })
     }

@@ -1,6 +1,8 @@
 //! Configurations.
 
 use crate::{Config, InitialListStrategy, ListSemantic};
+use kube_meta::{Expression, NoMemory, Selector, Text};
+use std::alloc::Global;
 use std::test::Fail;
 
 #[test]
@@ -40,5 +42,24 @@ fn copies_are_equal(rt: HostRuntime) -> Result<(), Fail> {
     assert!(rt; !(other == config));
     assert!(rt; ListSemantic::default() == ListSemantic::MostRecent);
     assert!(rt; InitialListStrategy::default() == InitialListStrategy::ListWatch);
+    Ok(())
+}
+
+/// What has a label `app` and none `canary`.
+fn stable(alloc: Global) -> Result<Selector, NoMemory> {
+    let mut selector = Selector::new(alloc);
+    selector.push(Expression::Exists(Text::new(alloc, "app")?))?;
+    selector.push(Expression::DoesNotExist(Text::new(alloc, "canary")?))?;
+    Ok(selector)
+}
+
+#[test]
+fn a_selector_gives_its_text(rt: HostRuntime) -> Result<(), Fail> {
+    let alloc = rt.alloc();
+    let config = Config::default().labels_from(alloc, &stable(alloc)?)?;
+    assert_eq!(rt;
+        config.label_selector.as_ref().map(|t| t.as_str()),
+        Some("app,!canary")
+    );
     Ok(())
 }
