@@ -84,6 +84,17 @@ const ROWS: [(&str, &str, &str, u8); 12] = [
 const EVERY_KIND: &str =
     r#"{"asks":[{"answer":"page","call":"list","from":null,"items":[{"metadata":{"name":"a","namespace":"n","resourceVersion":"1","uid":"u"}},{"metadata":{}}],"requests":["ConfigMap.v1./a.n"],"source":0,"token":"t","version":null},{"answer":"page","call":"list","from":"t","items":[],"requests":[],"source":0,"token":null,"version":"1"},{"answer":"fault","call":"list","error":"InitialListFailed","from":null,"items":[],"requests":[],"source":0,"text":"gone"},{"answer":"opened","call":"watch","from":"0","initial":true,"items":[],"requests":[],"source":0},{"answer":"fault","call":"watch","error":"WatchStartFailed","from":"1","initial":false,"items":[],"requests":[],"source":0,"text":"lost"},{"answer":"added","call":"next","items":[],"requests":[],"source":0,"version":"2"},{"answer":"modified","call":"next","error":"NoResourceVersion","items":[],"requests":[],"source":0,"version":null},{"answer":"deleted","call":"next","items":[],"requests":[],"source":0,"version":"3"},{"answer":"bookmark","call":"next","ending":true,"items":[],"requests":[],"source":0,"version":""},{"answer":"error","call":"next","code":410,"error":"WatchError","items":[],"requests":[],"source":0},{"answer":"fault","call":"next","error":"WatchFailed","items":[],"requests":[],"source":7,"text":"read"},{"answer":"end","call":"next","items":[],"requests":[],"source":0},{"answer":"not ready","call":"next","items":[],"requests":[],"source":0},{"answer":"idle","call":"next","items":[],"requests":[],"source":0},{"answer":"item","call":"stream","items":[],"requests":[],"source":0},{"answer":"spent","call":"stream","items":[],"requests":[],"source":0}],"at":18446744073709551615,"ended":true,"finished":[{"error":null,"ref":"ConfigMap.v1./a.n","requeue":5},{"error":"bad \"luck\"\n","ref":"ConfigMap.v1./a.n","requeue":null}],"stops":["not ready","shutdown","budget","paused"],"store":[{"metadata":{"name":"a","namespace":"n","resourceVersion":"1","uid":"u"}}],"taken":[{"found":true,"object":{"metadata":{"name":"a","namespace":"n","resourceVersion":"1","uid":"u"}},"reason":"object updated","ref":"ConfigMap.v1./a.n"},{"found":false,"reason":"related object updated: ConfigMap.v1./a.n","ref":"ConfigMap.v1./a.n"},{"found":false,"reason":"because","ref":"ConfigMap.v1./a.n"}],"turn":9}"#;
 
+/// A script of two turns, and of a third whose moment is before theirs.
+const TURNS: &str =
+    r#"{"kind":{"group":"","version":"v1","kind":"ConfigMap","plural":"configmaps"},"root":{"lists":[{"items":[{"metadata":{"name":"a","resourceVersion":"1"}}],"metadata":{"resourceVersion":"1"}}],"watches":[[{"wait":1000000000000}]]},"turns":[{"at":5,"budget":[3]},{"at":5,"budget":[0]},{"at":4,"budget":[1]}]}"#;
+
+/// The lines of the two turns, and that the third is not built.
+const TURNS_TRACE: [&str; 3] = [
+    r#"{"asks":[{"answer":"page","call":"list","from":null,"items":[{"metadata":{"name":"a","resourceVersion":"1"}}],"requests":["ConfigMap.v1./a"],"source":0,"token":null,"version":"1"},{"answer":"opened","call":"watch","from":"1","initial":false,"items":[],"requests":[],"source":0},{"answer":"not ready","call":"next","items":[],"requests":[],"source":0}],"at":5,"ended":false,"finished":[],"stops":["not ready"],"taken":[{"found":true,"object":{"metadata":{"name":"a","resourceVersion":"1"}},"reason":"object updated","ref":"ConfigMap.v1./a"}],"turn":0}"#,
+    r#"{"asks":[],"at":5,"ended":false,"finished":[],"stops":["budget"],"taken":[],"turn":1}"#,
+    r#"{"error":"not built","turn":2}"#,
+];
+
 /// The words of a text.
 fn words(alloc: Global, text: &str) -> Result<Vec<String>, AllocError> {
     let mut words = Vec::new(alloc);
@@ -191,6 +202,93 @@ fn reads_and_writes_all(rt: HostRuntime) -> Result<(), Fail> {
     let mut counter = NeverFailsSink::new();
     assert!(rt; write_all(&mut counter, &bytes).is_ok());
     assert_eq!(rt; counter.count(), 5);
+    Ok(())
+}
+
+/// Lines, each with its line feed.
+fn lines(alloc: Global, texts: &[&str]) -> Result<Vec<u8>, AllocError> {
+    let mut all = Vec::new(alloc);
+    for text in texts {
+        all.extend_from_slice(text.as_bytes())?;
+        all.push(10)?;
+    }
+    Ok(all)
+}
+
+/// How the script of three turns ends where reads and writes move at most so many bytes, and the read and the write of
+/// these numbers fail, and what is written. Number 0 is none.
+fn in_pieces(
+    alloc: Global,
+    most: usize,
+    read: u64,
+    write: u64,
+) -> Result<(u8, Vec<u8>), AllocError> {
+    let script = Vec::from_slice(alloc, TURNS.as_bytes())?;
+    let mut source = VecSource::new(script, vec![in alloc; read]?, most);
+    let mut sink = VecSink::new(alloc, vec![in alloc; write]?, most);
+    let status = run_program(alloc, &words(alloc, "run")?, &mut source, &mut sink);
+    Ok((status.number(), Vec::from_slice(alloc, sink.as_slice())?))
+}
+
+#[test]
+fn writes_the_same_in_any_pieces(rt: HostRuntime) -> Result<(), Fail> {
+    let alloc = rt.alloc();
+    let wanted = lines(alloc, &TURNS_TRACE)?;
+    for most in [1, 7, 10000] {
+        let (status, written) = in_pieces(alloc, most, 0, 0)?;
+        assert_eq!(rt; status, 4, "by {most} bytes");
+        assert_eq!(rt; written.as_slice(), wanted.as_slice(), "by {most} bytes");
+    }
+    Ok(())
+}
+
+#[test]
+fn tells_each_read_that_fails(rt: HostRuntime) -> Result<(), Fail> {
+    let alloc = rt.alloc();
+    let reads = TURNS.len() as u64 + 1;
+    for read in 1..reads + 1 {
+        let (status, written) = in_pieces(alloc, 1, read, 0)?;
+        assert_eq!(rt; status, 5, "at read {read}");
+        assert!(rt; written.is_empty(), "at read {read}");
+    }
+    // There is no further read.
+    let (status, _) = in_pieces(alloc, 1, reads + 1, 0)?;
+    assert_eq!(rt; status, 4);
+    Ok(())
+}
+
+#[test]
+fn tells_each_write_that_fails(rt: HostRuntime) -> Result<(), Fail> {
+    let alloc = rt.alloc();
+    let wanted = lines(alloc, &TURNS_TRACE)?;
+    for before in 0..wanted.len() {
+        let (status, written) = in_pieces(alloc, 1, 0, before as u64 + 1)?;
+        assert_eq!(rt; status, 6, "after {before} bytes");
+        assert_eq!(rt;
+            written.as_slice(),
+            &wanted[..before],
+            "after {before} bytes"
+        );
+    }
+    // There is no further write.
+    let (status, _) = in_pieces(alloc, 1, 0, wanted.len() as u64 + 1)?;
+    assert_eq!(rt; status, 4);
+    Ok(())
+}
+
+#[test]
+fn tells_each_line_that_fails(rt: HostRuntime) -> Result<(), Fail> {
+    let alloc = rt.alloc();
+    for before in 0..TURNS_TRACE.len() {
+        let (status, written) = in_pieces(alloc, 10000, 0, before as u64 + 1)?;
+        let wanted = lines(alloc, &TURNS_TRACE[..before])?;
+        assert_eq!(rt; status, 6, "after {before} lines");
+        assert_eq!(rt;
+            written.as_slice(),
+            wanted.as_slice(),
+            "after {before} lines"
+        );
+    }
     Ok(())
 }
 
