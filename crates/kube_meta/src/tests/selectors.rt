@@ -35,63 +35,75 @@ fn three(alloc: Global) -> Result<Selector, Fail> {
 }
 
 #[test]
-fn three_expressions(rt: HostRuntime) -> Result<(), Fail> {
+fn three_expressions_are_shown(rt: HostRuntime) -> Result<(), Fail> {
     let alloc = rt.alloc();
     let selector = three(alloc)?;
     assert_eq!(rt;
         format!(in alloc; "{selector}")?.as_str(),
         "env in (a,b),x!=1,!y"
     );
-    assert!(rt; selector.matches(&labels(alloc, "a", None)?));
-    assert!(rt; !selector.matches(&labels(alloc, "a", Some("1"))?));
-    assert!(rt; !selector.matches(&labels(alloc, "c", None)?));
     Ok(())
 }
 
-/// Where there is no label `k`, and how it is shown.
-fn alone(alloc: Global, expression: Expression) -> Result<(bool, String), Fail> {
-    let mut selector = Selector::new(alloc);
-    selector.push(expression)?;
-    let shown = format!(in alloc; "{selector}")?;
-    Ok((selector.matches(&labels(alloc, "a", None)?), shown))
+/// Whether the three hold of labels.
+fn three_hold(alloc: Global, env: &str, y: Option<&str>) -> Result<bool, Fail> {
+    Ok(three(alloc)?.matches(&labels(alloc, env, y)?))
 }
 
 #[test]
-fn absent_labels_meet_negations(rt: HostRuntime) -> Result<(), Fail> {
+fn three_expressions(rt: HostRuntime) -> Result<(), Fail> {
     let alloc = rt.alloc();
-    let (holds, shown) = alone(
-        alloc,
-        Expression::NotIn(text(alloc, "k")?, both(alloc, "v", "u")?),
-    )?;
-    assert!(rt; holds);
-    assert_eq!(rt; shown.as_str(), "k notin (u,v)");
-    let (holds, shown) = alone(
-        alloc,
-        Expression::NotIn(text(alloc, "env")?, both(alloc, "a", "a")?),
-    )?;
-    assert!(rt; !holds);
-    assert_eq!(rt; shown.as_str(), "env notin (a)");
-    let (holds, shown) = alone(
-        alloc,
-        Expression::In(text(alloc, "k")?, TextSet::new(alloc)),
-    )?;
-    assert!(rt; !holds);
-    assert_eq!(rt; shown.as_str(), "k in ()");
+    assert!(rt; three_hold(alloc, "a", None)?);
+    assert!(rt; !three_hold(alloc, "a", Some("1"))?);
+    assert!(rt; !three_hold(alloc, "c", None)?);
+    Ok(())
+}
+
+/// Where there is no label `k`: an expression holds as is told, and is shown so.
+fn alone(alloc: Global, expression: Expression, holds: bool, wanted: &str) -> Result<bool, Fail> {
+    let mut selector = Selector::new(alloc);
+    selector.push(expression)?;
+    let shown = format!(in alloc; "{selector}")?;
+    Ok(shown.as_str() == wanted && selector.matches(&labels(alloc, "a", None)?) == holds)
+}
+
+#[test]
+fn absent_labels_are_not_in(rt: HostRuntime) -> Result<(), Fail> {
+    let alloc = rt.alloc();
+    let expression = Expression::NotIn(text(alloc, "k")?, both(alloc, "v", "u")?);
+    assert!(rt; alone(alloc, expression, true, "k notin (u,v)")?);
+    Ok(())
+}
+
+#[test]
+fn labels_are_not_in_where_they_are_none_of_the_values(rt: HostRuntime) -> Result<(), Fail> {
+    let alloc = rt.alloc();
+    let expression = Expression::NotIn(text(alloc, "env")?, both(alloc, "a", "a")?);
+    assert!(rt; alone(alloc, expression, false, "env notin (a)")?);
+    Ok(())
+}
+
+#[test]
+fn no_label_is_in_no_values(rt: HostRuntime) -> Result<(), Fail> {
+    let alloc = rt.alloc();
+    let expression = Expression::In(text(alloc, "k")?, TextSet::new(alloc));
+    assert!(rt; alone(alloc, expression, false, "k in ()")?);
     Ok(())
 }
 
 #[test]
 fn single_values(rt: HostRuntime) -> Result<(), Fail> {
     let alloc = rt.alloc();
-    let (holds, shown) = alone(
-        alloc,
-        Expression::Equal(text(alloc, "env")?, text(alloc, "a")?),
-    )?;
-    assert!(rt; holds);
-    assert_eq!(rt; shown.as_str(), "env=a");
-    let (holds, shown) = alone(alloc, Expression::Exists(text(alloc, "k")?))?;
-    assert!(rt; !holds);
-    assert_eq!(rt; shown.as_str(), "k");
+    let equal = Expression::Equal(text(alloc, "env")?, text(alloc, "a")?);
+    assert!(rt; alone(alloc, equal, true, "env=a")?);
+    let exists = Expression::Exists(text(alloc, "k")?);
+    assert!(rt; alone(alloc, exists, false, "k")?);
+    Ok(())
+}
+
+#[test]
+fn no_expression_holds_of_all(rt: HostRuntime) -> Result<(), Fail> {
+    let alloc = rt.alloc();
     let empty = Selector::new(alloc);
     assert!(rt; empty.matches(&TextMap::new(alloc)));
     assert_eq!(rt; format!(in alloc; "{empty}")?.as_str(), "");
