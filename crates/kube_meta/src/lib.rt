@@ -25,7 +25,7 @@ pub use memory::NoMemory;
 pub use metadata::{ObjectMeta, OwnerReference, PartialObjectMeta, TypeMeta};
 pub use moment::Moment;
 pub use object_fault::ObjectFault;
-pub use object_ref::{Extra, Lookup, ObjectRef, ObjectReference, RefError};
+pub use object_ref::{Extra, Lookup, ObjectRef, ObjectReference, RefError, api_version};
 pub use poll::{Next, Polled};
 pub use reading::read_object;
 pub use resource::{Resource, TypeInfo};

@@ -257,7 +257,7 @@ impl<K: Resource> ObjectRef<K> {
     ) -> Result<Option<ObjectRef<K>>, NoMemory>
         ensures { IfOk result (λ r. r ≡ (if is_of_type (K.type_of t) owner.now then Some (owner_ref t (option_copied namespace.entry) owner.now) else None)) }
     {
-        let version = api_version::<K>(alloc, &t)?;
+        let version = type_version::<K>(alloc, &t)?;
         if owner.api_version.as_str() != version.as_str() || owner.kind.as_str() != K::kind(&t) {
             return Ok(None);
         }
@@ -301,7 +301,7 @@ impl<K: Resource> ObjectRef<K> {
         let resource = ApiResource {
             group: Text::new(alloc, K::group(&self.dyntype))?,
             version: Text::new(alloc, K::version(&self.dyntype))?,
-            api_version: api_version::<K>(alloc, &self.dyntype)?,
+            api_version: type_version::<K>(alloc, &self.dyntype)?,
             kind: Text::new(alloc, K::kind(&self.dyntype))?,
             plural: Text::new(alloc, K::plural(&self.dyntype))?,
         };
@@ -312,7 +312,7 @@ impl<K: Resource> ObjectRef<K> {
     pub fn into_reference(self, alloc: Global) -> Result<ObjectReference, NoMemory>
         ensures { IfOk result (λ r. r ≡ object_reference (reference_of K.type_of self) self.extra) }
     {
-        let api_version = api_version::<K>(alloc, &self.dyntype)?;
+        let api_version = type_version::<K>(alloc, &self.dyntype)?;
         let kind = Text::new(alloc, K::kind(&self.dyntype))?;
         let ObjectRef {
             dyntype: _,
@@ -336,11 +336,16 @@ impl<K: Resource> ObjectRef<K> {
 }
 
 /// A type's `apiVersion`.
-fn api_version<K: Resource>(alloc: Global, t: &K::DynamicType) -> Result<Text, NoMemory>
+fn type_version<K: Resource>(alloc: Global, t: &K::DynamicType) -> Result<Text, NoMemory>
     ensures { IfOk result (λ v. v ≡ joined_version (K.type_of t.now).group (K.type_of t.now).version) }
 {
-    let group = K::group(t);
-    let version = K::version(t);
+    api_version(alloc, K::group(t), K::version(t))
+}
+
+/// A group and a version as an object's `apiVersion` has them (Kubernetes API concept "API groups").
+pub fn api_version(alloc: Global, group: &str, version: &str) -> Result<Text, NoMemory>
+    ensures { IfOk result (λ v. v ≡ joined_version group.now version.now) }
+{
     if group.is_empty() {
         return Text::new(alloc, version);
     }
@@ -431,7 +436,7 @@ impl<K: Resource> Lookup for K {
     }
 
     fn api_version(alloc: Global, t: &K::DynamicType) -> Result<String, NoMemory> {
-        Ok(String::from(api_version::<K>(alloc, t)?))
+        Ok(String::from(type_version::<K>(alloc, t)?))
     }
 
     fn plural(t: &K::DynamicType) -> &str {
