@@ -2,6 +2,7 @@
 pub mod Configs
 pub mod Events
 pub mod Graceful
+pub mod Streams
 pub mod Table
 pub mod States
 pub mod Units

@@ -107,7 +107,7 @@ pub fn list_page<A: ApiMode>(
     now: Moment,
 ) -> Result<Came<A::Value>, NoMemory>
     ensures talk { IfOk result (λ c. (raw : Raw A.Value) × (raw.call ≡ ListAsked (list_params (settings_of config.now) token.now))
-        × IsCame A.Value.meta_of raw.answer c × (A.talk api.new ≡ grown (A.talk api.old) raw)) }
+        × IsCame A.Value.meta_of raw.answer c × (A.talk api.new ≡ grown (A.talk api.old) raw) × A.moves api.old now.0 raw api.new) }
     ensures unchanged { OnErr result (A.talk api.new ≡ A.talk api.old) }
     ensures answered { IfOk result (λ c. answers (Call.List token.now) c.answer ≡ true) }
     ensures faults { IfOk result (λ c. FaultRose (is_fault_answer c.answer) (A.faults api.old) (A.faults api.new)) }
@@ -142,7 +142,7 @@ pub fn open_watch<A: ApiMode>(
     now: Moment,
 ) -> Result<Came<A::Value>, NoMemory>
     ensures talk { IfOk result (λ c. (raw : Raw A.Value) × (raw.call ≡ WatchAsked (watch_params (settings_of config.now) initial) version.now)
-        × IsCame A.Value.meta_of raw.answer c × (A.talk api.new ≡ grown (A.talk api.old) raw)) }
+        × IsCame A.Value.meta_of raw.answer c × (A.talk api.new ≡ grown (A.talk api.old) raw) × A.moves api.old now.0 raw api.new) }
     ensures unchanged { OnErr result (A.talk api.new ≡ A.talk api.old) }
     ensures answered { IfOk result (λ c. answers (Call.Watch version.now initial) c.answer ≡ true) }
     ensures faults { IfOk result (λ c. FaultRose (is_fault_answer c.answer) (A.faults api.old) (A.faults api.new)) }
@@ -209,7 +209,7 @@ pub fn poll_watch<A: ApiMode>(
     now: Moment,
 ) -> Result<Came<A::Value>, NoMemory>
     ensures talk { IfOk result (λ c. (raw : Raw A.Value) × (raw.call ≡ NextAsked)
-        × IsCame A.Value.meta_of raw.answer c × (A.talk api.new ≡ grown (A.talk api.old) raw)) }
+        × IsCame A.Value.meta_of raw.answer c × (A.talk api.new ≡ grown (A.talk api.old) raw) × A.moves api.old now.0 raw api.new) }
     ensures lost { OnErr result ((A.talk api.new ≡ A.talk api.old) ⊎ ((raw : Raw A.Value) × (raw.call ≡ NextAsked) × (A.talk api.new ≡ grown (A.talk api.old) raw))) }
     ensures answered { IfOk result (λ c. answers Call.Next c.answer ≡ true) }
     ensures faults { IfOk result (λ c. FaultRose (is_fault_answer c.answer) (A.faults api.old) (A.faults api.new)) }

@@ -55,7 +55,7 @@ fn look<A: ApiMode>(
     now: Moment,
 ) -> Result<Came<A::Value>, NoMemory>
     ensures asked { IfOk result (λ c. (raw : Raw A.Value) × IsAsked A.Value.meta_of (settings_of config.now) Call.Next c raw
-        × (A.talk api.new ≡ grown (A.talk api.old) raw)) }
+        × (A.talk api.new ≡ grown (A.talk api.old) raw) × A.moves api.old now.0 raw api.new) }
     ensures lost { OnErr result (IsAskedOnce (settings_of config.now) Call.Next (A.talk api.old) (A.talk api.new)) }
     ensures answered { IfOk result (λ c. answers Call.Next c.answer ≡ true) }
     ensures idle { IfOk result (λ c. idle_fits (is_window_over (window_after config.now.timeout) (nanos_of since) now.0) c.answer ≡ true) }
@@ -79,7 +79,7 @@ fn start<A: ApiMode>(
 ) -> Result<Came<A::Value>, NoMemory>
     ensures asked { IfOk result (λ c. (raw : Raw A.Value)
         × IsAsked A.Value.meta_of (settings_of config.now) (call_in (settings_of config.now) State.Empty) c raw
-        × (A.talk api.new ≡ grown (A.talk api.old) raw)) }
+        × (A.talk api.new ≡ grown (A.talk api.old) raw) × A.moves api.old now.0 raw api.new) }
     ensures lost { OnErr result (IsAskedOnce (settings_of config.now) (call_in (settings_of config.now) State.Empty) (A.talk api.old) (A.talk api.new)) }
     ensures answered { IfOk result (λ c. answers (call_in (settings_of config.now) State.Empty) c.answer ≡ true) }
     ensures faults { IfOk result (λ c. FaultRose (is_fault_answer c.answer) (A.faults api.old) (A.faults api.new)) }
@@ -102,7 +102,7 @@ fn ask<A: ApiMode>(
 ) -> Result<Came<A::Value>, NoMemory>
     ensures asked { IfOk result (λ c. (raw : Raw A.Value)
         × IsAsked A.Value.meta_of (settings_of config.now) (call_in (settings_of config.now) state.now) c raw
-        × (A.talk api.new ≡ grown (A.talk api.old) raw)) }
+        × (A.talk api.new ≡ grown (A.talk api.old) raw) × A.moves api.old now.0 raw api.new) }
     ensures lost { OnErr result (IsAskedOnce (settings_of config.now) (call_in (settings_of config.now) state.now) (A.talk api.old) (A.talk api.new)) }
     ensures answered { IfOk result (λ c. answers (call_in (settings_of config.now) state.now) c.answer ≡ true) }
     ensures idle { IfOk result (λ c. IsTrue (is_next (call_in (settings_of config.now) state.now))
@@ -134,7 +134,7 @@ fn make_unit<A: ApiMode>(
 ) -> Result<(Unit<A::Value>, State, Option<Moment>), NoMemory>
     ensures made { IfOk result (λ p. IsMade (settings_of config.now) state (nanos_of since) now.0 p.0 p.1 (nanos_of p.2)) }
     ensures asked { IfOk result (λ p. (raw : Raw A.Value) × IsRecorded (version_of A.Value.meta_of) (settings_of config.now) raw (exchange_of p.0)
-        × (A.talk api.new ≡ grown (A.talk api.old) raw)) }
+        × (A.talk api.new ≡ grown (A.talk api.old) raw) × A.moves api.old now.0 raw api.new) }
     ensures lost { OnErr result (IsAskedOnce (settings_of config.now) (call_in (settings_of config.now) state) (A.talk api.old) (A.talk api.new)) }
     ensures faults { IfOk result (λ p. FaultRose (is_fault_answer p.0.answer) (A.faults api.old) (A.faults api.new)) }
     ensures rises { A.faults api.old ≤ A.faults api.new }
@@ -179,7 +179,8 @@ impl<A: ApiMode> Watcher<A> {
         ensures stands { IfOk result (λ u. (ds : List (Dated A.Value)) (x : Exchange A.Value) → StandsFor ds self.old
             → x.call ≡ u.call → x.answer ≡ u.answer → StandsFor (ds ++ record { at = now.0; exchange = x } ∷ []) self.new) }
         ensures talk { IfOk result (λ u. (raw : Raw A.Value) × IsRecorded (version_of A.Value.meta_of) (settings_in self.old) raw (exchange_of u)
-            × (A.talk (api_of self.new) ≡ grown (A.talk (api_of self.old)) raw)) }
+            × (A.talk (api_of self.new) ≡ grown (A.talk (api_of self.old)) raw)
+            × A.moves (api_of self.old) now.0 raw (api_of self.new)) }
         ensures faults { IfOk result (λ u. FaultRose (is_fault_answer u.answer) (A.faults (api_of self.old)) (A.faults (api_of self.new))) }
         ensures rises { A.faults (api_of self.old) ≤ A.faults (api_of self.new) }
         ensures config { config_of self.new ≡ config_of self.old }
