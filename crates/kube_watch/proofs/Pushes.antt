@@ -1,6 +1,6 @@
 -- One more exchange of a watcher: what was seen, what is owed, and since when it is silent.
-use Rattle.std.proofs.Common.{◌≡◌, ℕ, Bool, true, false, not, List, [], ◌∷◌, ◌++◌, map, Option, Some, None, unwrap_or, if◌then◌else◌, refl, sym, ap, ◌∙◌, append-nil}
-use Rattle.std.specs.List.{filter, filter_map, find, cons_option}
+use Rattle.std.proofs.Common.{◌≡◌, ℕ, Bool, true, false, not, List, [], ◌∷◌, ◌++◌, Option, Some, None, unwrap_or, if◌then◌else◌, refl, ap, ◌∙◌, append-nil}
+use Rattle.std.specs.List.{filter_map, find, cons_option}
 use Rattle.std.specs.Option.{option_map, option_or}
 use Rattle.std.proofs.lemmas.List.Elements.{filter_map-append}
 use Rattle.std.proofs.lemmas.List.Folds.{find-append}
@@ -10,7 +10,7 @@ use Rattle.kube_model.specs.declared.call.Answer.TheVariants.{Page, Opened, Adde
 use Rattle.kube_model.specs.World.{Settings, Watched}
 use Rattle.kube_model.specs.History.{Exchange, Dated}
 use Rattle.kube_model.specs.Cuts.{last, after_last}
-use Rattle.kube_model.specs.Owed.{Marked, mark, marks, version_seen, seen, is_initial, is_next, is_not_ready, owed, owed_by, owed_after, answered}
+use Rattle.kube_model.specs.Owed.{mark, marks, version_seen, seen, is_initial, is_next, is_not_ready, owed, owed_by, owed_after, answered}
 use Rattle.kube_model.specs.Fits.{silent_since}
 use Rattle.kube_model.specs.SecondForms.{initial_after}
 use Rattle.kube_model.proofs.Lasts.{last-push, after_last-hit, after_last-miss}

@@ -1,22 +1,19 @@
 -- The watcher's table agrees with the definitions.
-use Rattle.std.proofs.Common.{◌≡◌, ℕ, Bool, true, false, ◌==◌, ◌||◌, List, [], ◌∷◌, ◌++◌, map, Option, Some, None, if◌then◌else◌, IsTrue, refl, sym, ap, ◌∙◌}
+use Rattle.std.proofs.Common.{◌≡◌, ℕ, Bool, true, false, List, [], ◌∷◌, ◌++◌, map, Option, Some, None, IsTrue, refl, sym, ap, ◌∙◌}
 use Rattle.std.specs.List.{list_any, filter_map}
-use Rattle.std.proofs.lemmas.List.Elements.{filter_map-append}
-use Rattle.std.proofs.lemmas.List.Folds.{list_any-append}
 use Rattle.kube_model.specs.declared.call.Call.{Call}
 use Rattle.kube_model.specs.declared.call.Call.TheVariants.{List as ListCall, Watch, Next, Stream}
 use Rattle.kube_model.specs.declared.call.Answer.{Answer}
 use Rattle.kube_model.specs.declared.call.Answer.TheVariants.{Page, Opened, Added, Modified, Deleted, Bookmark, ErrorItem, Fault, End, NotReady, Idle, Item, Spent}
 use Rattle.kube_model.specs.World.{Settings, Watched}
 use Rattle.kube_model.specs.History.{Exchange}
-use Rattle.kube_model.specs.Owed.{Marked, mark, owed, is_next, is_initial, seen}
+use Rattle.kube_model.specs.Owed.{owed, is_initial, seen}
 use Rattle.kube_model.specs.Fits.{answers, error_of}
-use Rattle.kube_model.specs.Store.{completes, changes_of, Change, Put, Gone}
+use Rattle.kube_model.specs.Store.{completes, changes_of, Put, Gone}
 use Rattle.kube_watch.specs.declared.event.Event.{Event}
-use Rattle.kube_watch.specs.declared.event.Event.TheVariants.{Apply, Delete, Init, InitApply, InitDone}
+use Rattle.kube_watch.specs.declared.event.Event.TheVariants.{Apply, Delete, InitDone}
 use Rattle.kube_watch.specs.Table.{Row, table, begun, all_init}
 use Rattle.kube_watch.specs.Agrees.{is_done, change_of, asks_api, Agrees}
-use Rattle.kube_watch.specs.Stands.{row_of}
 use Rattle.kube_watch.proofs.Pushes.{seen_after, owed_next, seen-push, owed-push}
 
 changes-begin : (O : Type 0) (token : Option (List ℕ)) → filter_map change_of (begun {O = O} token) ≡ []

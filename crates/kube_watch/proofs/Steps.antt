@@ -1,14 +1,14 @@
 -- One more exchange of a watcher: the state that it leaves is the one that the definitions give.
-use Rattle.std.proofs.Common.{◌≡◌, ℕ, Bool, true, false, ◌==◌, List, [], ◌∷◌, ◌++◌, map, Option, Some, None, if◌then◌else◌, IsTrue, refl, sym, ap, ◌∙◌, subst}
+use Rattle.std.proofs.Common.{◌≡◌, ℕ, Bool, true, false, ◌==◌, List, [], ◌∷◌, ◌++◌, Option, Some, None, if◌then◌else◌, IsTrue, refl, sym, ap, ◌∙◌, subst}
 use Rattle.std.proofs.lemmas.List.{map-append}
 use Rattle.kube_model.specs.declared.call.Call.{Call}
-use Rattle.kube_model.specs.declared.call.Call.TheVariants.{List as ListCall, Watch, Next, Stream}
+use Rattle.kube_model.specs.declared.call.Call.TheVariants.{List as ListCall, Watch, Next}
 use Rattle.kube_model.specs.declared.call.Answer.{Answer}
 use Rattle.kube_model.specs.declared.call.Answer.TheVariants.{Page, Opened, Added, Modified, Deleted, Bookmark, ErrorItem, Fault, End, NotReady, Idle, Item, Spent}
 use Rattle.kube_model.specs.World.{Settings, Watched, start_by, version_zero}
 use Rattle.kube_model.specs.History.{Exchange, Dated}
 use Rattle.kube_model.specs.Owed.{owed, is_initial, seen}
-use Rattle.kube_model.specs.Fits.{answers, silent_since}
+use Rattle.kube_model.specs.Fits.{answers}
 use Rattle.kube_model.specs.SecondForms.{initial_after}
 use Rattle.kube_model.proofs.Marks.{initial-push}
 use Rattle.kube_watch.specs.declared.state.State.{State}

@@ -1,5 +1,5 @@
 -- Events of a watcher. (Crate: `watcher::Event`.)
-use Rattle.std.specs.Prelude.{◌≡◌, ℕ, List, [], ◌∷◌, ◌++◌, unwrap_or, codes}
+use Rattle.std.specs.Prelude.{◌≡◌, ℕ, List, [], ◌++◌, unwrap_or, codes}
 use Rattle.std.specs.Fn.{Mut, CalledAtMut}
 use Rattle.std.specs.Borrow.{MutBor}
 use Rattle.kube_meta.specs.declared.metadata.ObjectMeta.{ObjectMeta}

@@ -3,6 +3,8 @@ pub mod Configs
 pub mod Events
 pub mod Graceful
 pub mod Streams
+pub mod Watching
+pub mod Polls
 pub mod Table
 pub mod States
 pub mod Units

@@ -6,25 +6,28 @@ use Rattle.kube_model.specs.Owed.{owed, is_initial, seen}
 use Rattle.kube_model.specs.Fits.{silent_since}
 use Rattle.kube_watch.specs.declared.state.State.{State}
 use Rattle.kube_watch.specs.declared.state.State.TheVariants.{Empty, InitPage, InitialWatch, InitListed, Watching}
-use Rattle.kube_watch.specs.declared.watching.Watcher.{Watcher}
+use Rattle.kube_watch.specs.Watching.{Told, Watching as Seen}
 use Rattle.kube_watch.specs.declared.config.Config.{Config}
 use Rattle.kube_watch.specs.Configs.{settings_of}
 use Rattle.kube_watch.specs.States.{call_in}
-use Rattle.kube_watch.specs.Units.{nanos_of}
 use Rattle.kube_watch.specs.Table.{Row, table}
 
--- the API of a watcher, its configuration, and whether it once had no memory
-abbrev pub api_of : {A : Type 0} → Watcher A → A
+-- the API of a watcher, its configuration, and whether a call of it once had no memory
+abbrev pub api_of : {A V : Type 0} → Seen A V → A
 api_of w = w.api
 
-abbrev pub config_of : {A : Type 0} → Watcher A → Config
+abbrev pub config_of : {A V : Type 0} → Seen A V → Config
 config_of w = w.config
 
-abbrev pub settings_in : {A : Type 0} → Watcher A → Settings
+abbrev pub settings_in : {A V : Type 0} → Seen A V → Settings
 settings_in w = settings_of w.config
 
-abbrev pub is_spent : {A : Type 0} → Watcher A → Bool
-is_spent w = w.spent
+-- what a watcher has to tell before it asks again
+abbrev pub waiting_in : {A V : Type 0} → Seen A V → List (Told V)
+waiting_in w = w.waiting
+
+abbrev pub is_spent : {A V : Type 0} → Seen A V → Bool
+is_spent w = w.is_spent
 
 abbrev pub exchanges_in : {O : Type 0} → List (Dated O) → List (Exchange O)
 exchanges_in ds = map (λ d. d.exchange) ds
@@ -44,8 +47,8 @@ pub record Stands {O : Type 0} (settings : Settings) (state : State) (since : Op
   pub silent : since ≡ silent_since ds
 
 -- the watcher's owed call, its seen version and the beginning of its silence are those that the definitions give for these exchanges; a watcher that once had no memory stands for none
-pub record StandsFor {A V : Type 0} (ds : List (Dated V)) (w : Watcher A) : Type 0 where
-  pub stands : Stands (settings_in w) w.state (nanos_of w.silent_since) ds
+pub record StandsFor {A V : Type 0} (ds : List (Dated V)) (w : Seen A V) : Type 0 where
+  pub stands : Stands (settings_in w) w.state w.silent_since ds
   pub unspent : is_spent w ≡ false
 
 -- the row of the table for an exchange after those before

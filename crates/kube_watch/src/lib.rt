@@ -6,6 +6,7 @@ pub mod config;
 pub mod event;
 mod idle;
 pub mod laws;
+pub mod polling;
 mod state;
 pub mod stream;
 pub mod stub_watcher;

@@ -15,6 +15,7 @@ ghost use Rattle.kube_watch.specs.Units.{IsMade, exchange_of, events_of, nanos_o
 
 use crate::calls::{Came, list_page, open_watch, poll_watch};
 use crate::config::{Config, InitialListStrategy};
+use crate::event::Event;
 use crate::idle::is_too_silent;
 use crate::state::{State, is_initial, owed_call, since_after, state_after};
 use crate::tell::{error_of, events_of};
@@ -22,18 +23,45 @@ use crate::unit::Unit;
 use kube_api::ApiMode;
 use kube_meta::{Moment, NoMemory};
 use kube_model::call::{Answer, Call};
+use kube_model::error::Error;
 use std::alloc::Global;
+use std::collections::VecDeque;
+use std::marker::Model;
+use std::sync::Arc;
 
 /// Lists and watches an API, call by call (kube-runtime's `watcher`).
 #[derive(Drop)]
-pub struct Watcher<A> {
+pub struct Watcher<A: ApiMode> {
     pub(crate) api: A,
     pub(crate) config: Config,
     pub(crate) state: State,
     /// The moment of the first look at the watch that was not ready after the last other answer.
     pub(crate) silent_since: Option<Moment>,
+    /// What the last calls told and no poll has given yet.
+    pub(crate) events: VecDeque<Event<Arc<A::Value>>>,
+    /// The error after these.
+    pub(crate) error: Option<Error>,
     /// Whether a call of it could have no memory.
     pub(crate) spent: bool,
+}
+
+impl<A: ApiMode> Model for Watcher<A> {
+    ghost use Rattle.std.specs.Prelude.{map};
+    ghost use Rattle.kube_watch.specs.Units.{nanos_of};
+    ghost use Rattle.kube_watch.specs.Events.{event_map};
+    ghost use Rattle.kube_watch.specs.Watching.{Watching, all_told};
+    ghost use Rattle.std.specs.Arc.{arc_value};
+
+    ghost Value = { Watching A A.Value };
+
+    ghost view = { λ w. record {
+      api = w.api;
+      config = w.config;
+      state = w.state;
+      silent_since = nanos_of w.silent_since;
+      waiting = all_told (map (event_map arc_value) w.events.items) w.error;
+      is_spent = w.spent;
+    } };
 }
 
 /// The answer; a look that was not ready is idle where the window is over.
@@ -158,7 +186,7 @@ fn make_unit<A: ApiMode>(
 
 impl<A: ApiMode> Watcher<A> {
     ghost use Rattle.kube_watch.specs.Lending.{LendsApi, with_api};
-    ghost use Rattle.kube_watch.specs.Stands.{StandsFor, api_of, config_of, settings_in, is_spent, exchanges_in, row_of};
+    ghost use Rattle.kube_watch.specs.Stands.{StandsFor, api_of, config_of, settings_in, is_spent, waiting_in, exchanges_in, row_of};
 
     /// Makes the owed call at a moment, and gives its unit.
     ///
@@ -184,6 +212,7 @@ impl<A: ApiMode> Watcher<A> {
         ensures faults { IfOk result (λ u. FaultRose (is_fault_answer u.answer) (A.faults (api_of self.old)) (A.faults (api_of self.new))) }
         ensures rises { A.faults (api_of self.old) ≤ A.faults (api_of self.new) }
         ensures config { config_of self.new ≡ config_of self.old }
+        ensures waiting { waiting_in self.new ≡ waiting_in self.old }
         ensures err { OnErr result (is_spent self.new ≡ true) }
         ensures lost { OnErr result ((ds : List (Dated A.Value)) → StandsFor ds self.old
             → IsAskedOnce (settings_in self.old) (owed (Watched (settings_in self.old)) (exchanges_in ds)) (A.talk (api_of self.old)) (A.talk (api_of self.new))) }
@@ -210,7 +239,7 @@ impl<A: ApiMode> Watcher<A> {
 
     /// The API. What the watcher stands for is as before.
     pub fn api_mut(&mut self) -> &mut A
-        ensures* lends { sem 𝓛 (LendsApi A.row self.entry result) }
+        ensures* lends { sem 𝓛 (LendsApi A.row A.Value.row A.Value.DynamicType.row A.ApiMode A.Value.Resource A.Value.DynamicType.Hash self.entry result) }
         ensures value { result.now ≡ api_of self.old }
         ensures stands { (ds : List (Dated A.Value)) (api : A) → StandsFor ds self.old → StandsFor ds (with_api self.old api) }
     {

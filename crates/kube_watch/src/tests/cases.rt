@@ -338,7 +338,7 @@ fn each_row_of_the_table_comes(rt: HostRuntime) -> Result<(), Fail> {
 fn a_script_that_is_used_up_is_no_failure(rt: HostRuntime) -> Result<(), Fail> {
     let alloc = rt.alloc();
     let api = api(alloc, &[Listing::Page(&[], "", "9"), Listing::Fault], &[])?;
-    let mut watcher = crate::watcher::watcher(api, crate::Config::default());
+    let mut watcher = crate::watcher::watcher(alloc, api, crate::Config::default());
     let page = watcher.poll_unit(alloc, Moment(0))?;
     assert!(rt; page.error.is_none());
     let failed = watcher.poll_unit(alloc, Moment(0))?;

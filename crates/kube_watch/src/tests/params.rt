@@ -98,7 +98,7 @@ const PAGES: [Listing; 2] = [
 fn lists_of_the_newest_version(rt: HostRuntime) -> Result<(), Fail> {
     let alloc = rt.alloc();
     let api = api(alloc, &PAGES, &[&[]])?;
-    let mut watcher = crate::watcher::watcher(api, config(alloc)?);
+    let mut watcher = crate::watcher::watcher(alloc, api, config(alloc)?);
     poll(alloc, &mut watcher, 4)?;
     check_call(&rt, &mut watcher, 0, ("none", "none"), None)?;
     check_call(&rt, &mut watcher, 1, ("t", "none"), None)?;
@@ -111,7 +111,7 @@ fn lists_of_the_newest_version(rt: HostRuntime) -> Result<(), Fail> {
 fn lists_of_any_version(rt: HostRuntime) -> Result<(), Fail> {
     let alloc = rt.alloc();
     let api = api(alloc, &PAGES, &[])?;
-    let mut watcher = crate::watcher::watcher(api, config(alloc)?.any_semantic());
+    let mut watcher = crate::watcher::watcher(alloc, api, config(alloc)?.any_semantic());
     poll(alloc, &mut watcher, 2)?;
     let matched = Some(VersionMatch::NotOlderThan);
     check_call(&rt, &mut watcher, 0, ("none", "0"), matched)?;
@@ -122,7 +122,7 @@ fn lists_of_any_version(rt: HostRuntime) -> Result<(), Fail> {
 fn starts_by_a_watch(rt: HostRuntime) -> Result<(), Fail> {
     let alloc = rt.alloc();
     let api = api(alloc, &[], &[&[Given::Ending("5")], &[]])?;
-    let mut watcher = crate::watcher::watcher(api, config(alloc)?.streaming_lists());
+    let mut watcher = crate::watcher::watcher(alloc, api, config(alloc)?.streaming_lists());
     poll(alloc, &mut watcher, 4)?;
     check_call(&rt, &mut watcher, 0, ("initial", "0"), None)?;
     check_call(&rt, &mut watcher, 1, ("next", ""), None)?;
@@ -134,7 +134,7 @@ fn starts_by_a_watch(rt: HostRuntime) -> Result<(), Fail> {
 fn a_lent_api_changes_nothing_that_is_owed(rt: HostRuntime) -> Result<(), Fail> {
     let alloc = rt.alloc();
     let first = api(alloc, &PAGES, &[])?;
-    let mut watcher = crate::watcher::watcher(first, Config::default());
+    let mut watcher = crate::watcher::watcher(alloc, first, Config::default());
     poll(alloc, &mut watcher, 1)?;
     *watcher.api_mut() = api(alloc, &[Listing::Page(&["c"], "", "3")], &[])?;
     let unit = watcher.poll_unit(alloc, Moment(0))?;

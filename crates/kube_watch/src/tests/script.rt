@@ -279,7 +279,7 @@ fn config_of(case: &Case) -> Config {
 /// The watcher makes of the script what it should.
 pub fn check(rt: &impl Abort, alloc: Global, case: &Case) -> Result<(), Fail> {
     let api = api(alloc, case.lists, case.watches)?;
-    let mut watcher = crate::watcher::watcher(api, config_of(case));
+    let mut watcher = crate::watcher::watcher(alloc, api, config_of(case));
     check_polls(rt, alloc, &mut watcher, case)
 }
 

@@ -1,7 +1,6 @@
-use Rattle.std.proofs.Common.{◌≡◌, List, ℕ, map}
+use Rattle.std.proofs.Common.{map}
 use Rattle.std.proofs.lemmas.Result.{IfOk-weaker}
 use Rattle.std.specs.Arc.{arc_value}
-use Rattle.kube_model.specs.World.{Settings}
 use Rattle.kube_watch.proofs.tell.events_of.Goals as goal
 
 pub returns-in-Watch : goal.returns-in-Watch
