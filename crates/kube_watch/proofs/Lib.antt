@@ -2,6 +2,7 @@ pub mod Annotations
 pub mod Made
 pub mod Orders
 pub mod Polls
+pub mod Objects
 pub mod Pushes
 pub mod Rows
 pub mod Steps

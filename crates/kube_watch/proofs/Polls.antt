@@ -10,14 +10,14 @@ use Rattle.kube_model.specs.Owed.{is_not_ready}
 use Rattle.kube_watch.specs.Configs.{settings_of}
 use Rattle.kube_watch.specs.Stands.{StandsFor, exchanges_in, row_of, settings_in}
 use Rattle.kube_watch.specs.Watching.{Told, Watching}
-use Rattle.kube_watch.specs.Polls.{Look, Tells, Waits, Quiet, look_of, answered_by, polled, told_by, looks, IsNext, AreNext, dated_now, Api, IsCall, AreCalls, Polled, Filled}
+use Rattle.kube_watch.specs.Polls.{Look, Tells, Waits, Quiet, look_of, answered_by, polled, told_by, looks, IsNext, AreNext, dated_now, Api, IsCall, AreCalls, Exchanged, Polled, Filled}
 
 -- so many exchanges that tell nothing
 abbrev pub quiets : {T : Type 0} → ℕ → List (Look T)
 quiets zero = []
 quiets (suc n) = Quiet ∷ quiets n
 
-quiets-snoc : {T : Type 0} (n : ℕ) → quiets {T = T} n ++ Quiet ∷ [] ≡ quiets (n + 1)
+pub quiets-snoc : {T : Type 0} (n : ℕ) → quiets {T = T} n ++ Quiet ∷ [] ≡ quiets (n + 1)
 quiets-snoc zero = refl
 quiets-snoc {T = T} (suc n) = (let e : suc (n + 1) ≡ suc n + 1 = omega arith in ap (λ ls. Quiet ∷ ls) (quiets-snoc n) ∙ ap (quiets {T = T}) e)
 
@@ -27,7 +27,7 @@ ended_by (Tells first rest) = Some (Item first, rest)
 ended_by Waits = Some (NotReady, [])
 ended_by Quiet = None
 
-answered-then : {T : Type 0} (n fuel : ℕ) (l : Look T) (r : Next T × List T) → ended_by l ≡ Some r → n < fuel → answered_by fuel (quiets n ++ l ∷ []) ≡ Some r
+pub answered-then : {T : Type 0} (n fuel : ℕ) (l : Look T) (r : Next T × List T) → ended_by l ≡ Some r → n < fuel → answered_by fuel (quiets n ++ l ∷ []) ≡ Some r
 answered-then zero zero l r h less = absurd (omega arith)
 answered-then zero (suc fuel) (Tells first rest) r h less = h
 answered-then zero (suc fuel) Waits r h less = h
@@ -35,11 +35,11 @@ answered-then zero (suc fuel) Quiet r h less = absurd (cc)
 answered-then (suc n) zero l r h less = absurd (omega arith)
 answered-then (suc n) (suc fuel) l r h less = answered-then n fuel l r h (omega arith)
 
-answered-quiet : {T : Type 0} (fuel : ℕ) → answered_by {T = T} fuel (quiets fuel) ≡ Some (Spent, [])
+pub answered-quiet : {T : Type 0} (fuel : ℕ) → answered_by {T = T} fuel (quiets fuel) ≡ Some (Spent, [])
 answered-quiet zero = refl
 answered-quiet (suc fuel) = answered-quiet fuel
 
-look-unready : {T : Type 0} (a : Answer) → not (is_not_ready a) ≡ false → look_of {T = T} [] a ≡ Waits
+pub look-unready : {T : Type 0} (a : Answer) → not (is_not_ready a) ≡ false → look_of {T = T} [] a ≡ Waits
 look-unready (Page token version) h = absurd (cc)
 look-unready Opened h = absurd (cc)
 look-unready (Added version) h = absurd (cc)
@@ -54,7 +54,7 @@ look-unready Idle h = absurd (cc)
 look-unready StreamItem h = absurd (cc)
 look-unready StreamSpent h = absurd (cc)
 
-look-ready : {T : Type 0} (a : Answer) → not (is_not_ready a) ≡ true → look_of {T = T} [] a ≡ Quiet
+pub look-ready : {T : Type 0} (a : Answer) → not (is_not_ready a) ≡ true → look_of {T = T} [] a ≡ Quiet
 look-ready (Page token version) h = refl
 look-ready Opened h = refl
 look-ready (Added version) h = refl
@@ -108,73 +108,95 @@ module _ {A V : Type 0} (api : Api A V) (now : ℕ) where
   calls-snoc settings old middle new [] x same call = (new, subst (λ a. IsCall api settings now a x new) same call, refl)
   calls-snoc settings old middle new (y ∷ xs) x calls call = (calls.0, calls.1, calls-snoc settings calls.0 middle new xs x calls.2 call)
 
+  -- none were made
+  pub exchanged-none : (w : Watching A V) → Exchanged api now w [] w
+  exchanged-none w = record {
+    calls = refl;
+    made = λ ds h. tt;
+    stands = λ ds h. subst (λ d. StandsFor d w) (sym (append-nil ds)) h;
+    config = refl;
+  }
+
+  -- one more was made
+  pub exchanged-more : (old w new : Watching A V) (xs : List (Exchange V)) (b : Bool) → Exchanged api now old xs w → (f : Filled api now w b new)
+      → Exchanged api now old (xs ++ f.exchange ∷ []) new
+  exchanged-more old w new xs b e f =
+      let same : settings_in w ≡ settings_in old = ap settings_of e.config in
+      record {
+        calls = calls-snoc (settings_in old) old.api w.api new.api xs f.exchange e.calls (subst (λ s. IsCall api s now w.api f.exchange new.api) same f.call);
+        made = λ ds h. next-snoc (settings_in old) now ds xs f.exchange (e.made ds h)
+        (subst (λ s. IsNext s (ds ++ map (dated_now now) xs) now f.exchange) same (f.made (ds ++ map (dated_now now) xs) (e.stands ds h)));
+        stands = λ ds h. subst (λ d. StandsFor d new) (dated-snoc now ds xs f.exchange) (f.stands (ds ++ map (dated_now now) xs) (e.stands ds h));
+        config = f.config ∙ e.config;
+      }
+
+  -- what waits makes no difference
+  pub exchanged-as : (old w new : Watching A V) (xs : List (Exchange V)) → Exchanged api now old xs w → new ≡ record w { waiting = new.waiting } → Exchanged api now old xs new
+  exchanged-as old w new xs e same = record {
+    calls = subst (λ a. AreCalls api (settings_in old) now old.api xs a) (sym (ap (λ (v : Watching A V). v.api) same)) e.calls;
+    made = e.made;
+    stands = λ ds h. (let s = e.stands ds h in subst (λ v. StandsFor (ds ++ map (dated_now now) xs) v) (sym same) (record { stands = s.stands; unspent = s.unspent }));
+    config = ap (λ (v : Watching A V). v.config) same ∙ e.config;
+  }
+
+  -- nor what waited before
+  pub exchanged-from : (old w new : Watching A V) (xs : List (Exchange V)) → w ≡ record old { waiting = w.waiting } → Exchanged api now w xs new → Exchanged api now old xs new
+  exchanged-from old w new xs same =
+      subst (λ m. Exchanged api now m xs new → Exchanged api now old xs new) (sym same)
+      (λ e. record {
+        calls = e.calls;
+        made = λ ds h. e.made ds (record { stands = h.stands; unspent = h.unspent });
+        stands = λ ds h. e.stands ds (record { stands = h.stands; unspent = h.unspent });
+        config = e.config;
+      })
+
+  -- what the last of them told is what waits
+  pub told-last : (old w new : Watching A V) (xs : List (Exchange V)) (b : Bool) → (e : Exchanged api now old xs w) → (f : Filled api now w b new) → (ds : List (Dated V)) → StandsFor ds old
+      → told_by (row_of (settings_in old) (exchanges_in ds ++ xs) f.exchange) ≡ new.waiting
+  told-last old w new xs b e f ds h =
+      ap (λ b. told_by (row_of (settings_in old) b f.exchange)) (sym (exchanges-with now ds xs))
+      ∙ (ap (λ s. told_by (row_of s (exchanges_in (ds ++ map (dated_now now) xs)) f.exchange)) (sym (ap settings_of e.config))
+      ∙ sym (f.told (ds ++ map (dated_now now) xs) (e.stands ds h)))
+
   -- so many exchanges were made that told nothing
   pub record AllQuiet (n : ℕ) (old w : Watching A V) : Type 0 where
     pub exchanges : List (Exchange V)
-    pub calls : AreCalls api (settings_in old) now old.api exchanges w.api
-    pub made : (ds : List (Dated V)) → StandsFor ds old → AreNext (settings_in old) ds now exchanges
+    pub exchanged : Exchanged api now old exchanges w
     pub quiet : (ds : List (Dated V)) → StandsFor ds old → looks (settings_in old) (exchanges_in ds) exchanges ≡ quiets n
-    pub stands : (ds : List (Dated V)) → StandsFor ds old → StandsFor (ds ++ map (dated_now now) exchanges) w
     pub waiting : w.waiting ≡ []
-    pub config : w.config ≡ old.config
 
   pub none-made : (w : Watching A V) → w.waiting ≡ [] → AllQuiet 0 w w
-  none-made w none = record {
-    exchanges = [];
-    calls = refl;
-    made = λ ds h. tt;
-    quiet = λ ds h. refl;
-    stands = λ ds h. subst (λ d. StandsFor d w) (sym (append-nil ds)) h;
-    waiting = none;
-    config = refl;
-  }
+  none-made w none = record { exchanges = []; exchanged = exchanged-none w; quiet = λ ds h. refl; waiting = none }
 
   -- one more exchange, whatever it tells
   pub record OneMore (n : ℕ) (old w : Watching A V) (was_ready : Bool) : Type 0 where
     pub exchanges : List (Exchange V)
     pub last : Exchange V
-    pub calls : AreCalls api (settings_in old) now old.api (exchanges ++ last ∷ []) w.api
-    pub made : (ds : List (Dated V)) → StandsFor ds old → AreNext (settings_in old) ds now (exchanges ++ last ∷ [])
+    pub exchanged : Exchanged api now old (exchanges ++ last ∷ []) w
     pub looked : (ds : List (Dated V)) → StandsFor ds old → looks (settings_in old) (exchanges_in ds) (exchanges ++ last ∷ []) ≡ quiets n ++ look_of w.waiting last.answer ∷ []
-    pub stands : (ds : List (Dated V)) → StandsFor ds old → StandsFor (ds ++ map (dated_now now) (exchanges ++ last ∷ [])) w
     pub ready : was_ready ≡ not (is_not_ready last.answer)
-    pub config : w.config ≡ old.config
 
   pub one-more : (n : ℕ) (old w new : Watching A V) (was_ready : Bool) → AllQuiet n old w → (f : Filled api now w was_ready new) → OneMore n old new was_ready
-  one-more n old w new was_ready q f =
-      let same : settings_in w ≡ settings_in old = ap settings_of q.config in
-      record {
-        exchanges = q.exchanges;
-        last = f.exchange;
-        calls = calls-snoc (settings_in old) old.api w.api new.api q.exchanges f.exchange q.calls (subst (λ s. IsCall api s now w.api f.exchange new.api) same f.call);
-        made = λ ds h. next-snoc (settings_in old) now ds q.exchanges f.exchange (q.made ds h)
-        (subst (λ s. IsNext s (ds ++ map (dated_now now) q.exchanges) now f.exchange) same (f.made (ds ++ map (dated_now now) q.exchanges) (q.stands ds h)));
-        looked = λ ds h.
-        looks-snoc (settings_in old) (exchanges_in ds) q.exchanges f.exchange
-        ∙ (ap (λ ls. ls ++ look_of (told_by (row_of (settings_in old) (exchanges_in ds ++ q.exchanges) f.exchange)) f.exchange.answer ∷ []) (q.quiet ds h)
-        ∙ ap (λ t. quiets n ++ look_of t f.exchange.answer ∷ [])
-        (ap (λ b. told_by (row_of (settings_in old) b f.exchange)) (sym (exchanges-with now ds q.exchanges))
-        ∙ (ap (λ s. told_by (row_of s (exchanges_in (ds ++ map (dated_now now) q.exchanges)) f.exchange)) (sym same)
-        ∙ sym (f.told (ds ++ map (dated_now now) q.exchanges) (q.stands ds h)))));
-        stands = λ ds h. subst (λ d. StandsFor d new) (dated-snoc now ds q.exchanges f.exchange) (f.stands (ds ++ map (dated_now now) q.exchanges) (q.stands ds h));
-        ready = f.ready;
-        config = f.config ∙ q.config;
-      }
+  one-more n old w new was_ready q f = record {
+    exchanges = q.exchanges;
+    last = f.exchange;
+    exchanged = exchanged-more old w new q.exchanges was_ready q.exchanged f;
+    looked = λ ds h.
+    looks-snoc (settings_in old) (exchanges_in ds) q.exchanges f.exchange
+    ∙ (ap (λ ls. ls ++ look_of (told_by (row_of (settings_in old) (exchanges_in ds ++ q.exchanges) f.exchange)) f.exchange.answer ∷ []) (q.quiet ds h)
+    ∙ ap (λ t. quiets n ++ look_of t f.exchange.answer ∷ []) (told-last old w new q.exchanges was_ready q.exchanged f ds h));
+    ready = f.ready;
+  }
 
   -- the poll ends by the last of these exchanges
   ended : (n fuel : ℕ) (old w new : Watching A V) (b : Bool) (m : OneMore n old w b) (answer : Next (Told V)) → old.waiting ≡ [] → n < fuel
       → new ≡ record w { waiting = new.waiting } → ended_by (look_of w.waiting m.last.answer) ≡ Some (answer, new.waiting) → Polled api now fuel old answer new
   ended n fuel old w new b m answer none less same ends = record {
     exchanges = m.exchanges ++ m.last ∷ [];
-    calls = subst (λ a. AreCalls api (settings_in old) now old.api (m.exchanges ++ m.last ∷ []) a) (sym (ap (λ (v : Watching A V). v.api) same)) m.calls;
-    made = m.made;
+    exchanged = exchanged-as old w new (m.exchanges ++ m.last ∷ []) m.exchanged same;
     answered = λ ds h.
     ap (λ ws. polled ws fuel (looks (settings_in old) (exchanges_in ds) (m.exchanges ++ m.last ∷ []))) none
     ∙ (ap (answered_by fuel) (m.looked ds h) ∙ answered-then n fuel (look_of w.waiting m.last.answer) (answer, new.waiting) ends less);
-    stands = λ ds h.
-    let s = m.stands ds h in
-    subst (λ v. StandsFor (ds ++ map (dated_now now) (m.exchanges ++ m.last ∷ [])) v) (sym same) (record { stands = s.stands; unspent = s.unspent });
-    config = ap (λ (v : Watching A V). v.config) same ∙ m.config;
   }
 
   pub ended-told : (n fuel : ℕ) (old w new : Watching A V) (b : Bool) → OneMore n old w b → (told : Told V) → old.waiting ≡ [] → n < fuel
@@ -195,27 +217,21 @@ module _ {A V : Type 0} (api : Api A V) (now : ℕ) where
       subst (λ v. AllQuiet (n + 1) old v) (sym same)
       (record {
         exchanges = m.exchanges ++ m.last ∷ [];
-        calls = m.calls;
-        made = m.made;
+        exchanged = m.exchanged;
         quiet = λ ds h.
         m.looked ds h
         ∙ (ap (λ ws. quiets n ++ look_of ws m.last.answer ∷ []) waits
         ∙ (ap (λ l. quiets n ++ l ∷ []) (look-ready m.last.answer (sym m.ready ∙ ready)) ∙ quiets-snoc n));
-        stands = m.stands;
         waiting = waits;
-        config = m.config;
       })
 
   pub ended-spent : (n fuel : ℕ) (old w : Watching A V) → AllQuiet n old w → n ≡ fuel → old.waiting ≡ [] → Polled api now fuel old Spent w
   ended-spent n fuel old w q all none = record {
     exchanges = q.exchanges;
-    calls = q.calls;
-    made = q.made;
+    exchanged = q.exchanged;
     answered = λ ds h.
     ap (λ ws. polled ws fuel (looks (settings_in old) (exchanges_in ds) q.exchanges)) none
     ∙ (ap (answered_by fuel) (q.quiet ds h) ∙ (ap (λ k. answered_by fuel (quiets k)) all ∙ (answered-quiet fuel ∙ ap (λ ws. Some (Spent, ws)) (sym q.waiting))));
-    stands = q.stands;
-    config = q.config;
   }
 
   -- what waits is given without an exchange
@@ -223,11 +239,8 @@ module _ {A V : Type 0} (api : Api A V) (now : ℕ) where
       → Polled api now fuel old (Item told) new
   given-first fuel old new told waits same = record {
     exchanges = [];
-    calls = ap (λ (v : Watching A V). v.api) same;
-    made = λ ds h. tt;
+    exchanged = exchanged-as old old new [] (exchanged-none old) same;
     answered = λ ds h. ap (λ ws. polled ws fuel []) waits;
-    stands = λ ds h. subst (λ v. StandsFor (ds ++ []) v) (sym same) (subst (λ d. StandsFor d (record old { waiting = new.waiting })) (sym (append-nil ds)) (record { stands = h.stands; unspent = h.unspent }));
-    config = ap (λ (v : Watching A V). v.config) same;
   }
 
   -- a watcher that kept what one exchange told

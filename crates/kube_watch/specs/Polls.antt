@@ -87,14 +87,18 @@ module _ {A V : Type 0} (api : Api A V) (settings : Settings) (now : ℕ) where
   AreCalls old [] new = new ≡ old
   AreCalls old (x ∷ xs) new = (middle : A) × IsCall old x middle × AreCalls middle xs new
 
--- a poll made these exchanges: its answer and what waits then are those that they come to, and the watcher stands for them too
+-- a watcher made these exchanges: one after another, each as it was owed, and now it stands for them too
+pub record Exchanged {A V : Type 0} (api : Api A V) (now : ℕ) (old : Watching A V) (xs : List (Exchange V)) (new : Watching A V) : Type 0 where
+  pub calls : AreCalls api (settings_in old) now old.api xs new.api
+  pub made : (ds : List (Dated V)) → StandsFor ds old → AreNext (settings_in old) ds now xs
+  pub stands : (ds : List (Dated V)) → StandsFor ds old → StandsFor (ds ++ map (dated_now now) xs) new
+  pub config : new.config ≡ old.config
+
+-- what a poll did: its answer, and what waits then, are those that its exchanges come to
 pub record Polled {A V : Type 0} (api : Api A V) (now fuel : ℕ) (old : Watching A V) (answer : Next (Told V)) (new : Watching A V) : Type 0 where
   pub exchanges : List (Exchange V)
-  pub calls : AreCalls api (settings_in old) now old.api exchanges new.api
-  pub made : (ds : List (Dated V)) → StandsFor ds old → AreNext (settings_in old) ds now exchanges
+  pub exchanged : Exchanged api now old exchanges new
   pub answered : (ds : List (Dated V)) → StandsFor ds old → polled old.waiting fuel (looks (settings_in old) (exchanges_in ds) exchanges) ≡ Some (answer, new.waiting)
-  pub stands : (ds : List (Dated V)) → StandsFor ds old → StandsFor (ds ++ map (dated_now now) exchanges) new
-  pub config : new.config ≡ old.config
 
 -- one exchange was made, which is all that there is to tell, and was ready or not
 pub record Filled {A V : Type 0} (api : Api A V) (now : ℕ) (old : Watching A V) (was_ready : Bool) (new : Watching A V) : Type 0 where

@@ -44,6 +44,13 @@ impl<A: ApiMode> Watcher<A> {
         }
     }
 
+    // Whether a call of it could have no memory.
+    pub(crate) fn is_spent(&self) -> bool
+        ensures { result ≡ is_spent self.now }
+    {
+        self.spent
+    }
+
     // Makes the owed call, and keeps what it tells in place of what waits. Whether it was ready.
     pub(crate) fn fill(&mut self, alloc: Global, now: Moment) -> Result<bool, NoMemory>
         ensures filled { IfOk result (λ ready. Filled (record { moves = A.moves; talk = A.talk; faults = A.faults; version = version_of A.Value.meta_of }) now.0 self.old ready self.new) }
