@@ -1,4 +1,5 @@
 pub mod Annotations
+pub mod Idling
 pub mod Made
 pub mod Orders
 pub mod Polls

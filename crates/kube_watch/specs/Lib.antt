@@ -5,6 +5,7 @@ pub mod Graceful
 pub mod Streams
 pub mod Watching
 pub mod Polls
+pub mod Idling
 pub mod Objects
 pub mod Table
 pub mod States

@@ -1,8 +1,10 @@
 -- What a poll of a watcher makes of it, by the exchanges that it makes. V is the type of objects. (Crate: `watcher`, as a stream.)
-use Rattle.std.specs.Prelude.{◌≡◌, ℕ, zero, suc, Bool, not, List, [], ◌∷◌, ◌++◌, map, Option, Some, None, IsTrue}
+use Rattle.std.specs.Prelude.{◌≡◌, ℕ, zero, suc, Bool, not, List, [], ◌∷◌, ◌++◌, map, Option, Some, None, Ok, Err, IsTrue, true, false}
+use Rattle.std.specs.declared.sync.Arc.{Arc}
+use Rattle.std.specs.declared.alloc.Global.{Global}
 use Rattle.kube_meta.specs.declared.poll.Next.{Next}
 use Rattle.kube_meta.specs.declared.poll.Next.TheVariants.{Item, NotReady, Spent}
-use Rattle.kube_model.specs.declared.call.Answer.{Answer}
+use Rattle.kube_model.specs.declared.call.Answer.{Answer as CallAnswer}
 use Rattle.kube_model.specs.declared.call.Answer.TheVariants.{NotReady as Unready}
 use Rattle.kube_model.specs.World.{Settings, Watched, window_of}
 use Rattle.kube_model.specs.History.{Dated, Exchange}
@@ -13,7 +15,10 @@ use Rattle.kube_model.specs.Recorded.{IsRecorded}
 use Rattle.kube_watch.specs.Calls.{is_fault_answer}
 use Rattle.kube_watch.specs.Stands.{StandsFor, exchanges_in, row_of, settings_in}
 use Rattle.kube_watch.specs.Table.{Row}
-use Rattle.kube_watch.specs.Watching.{Told, Watching, all_told}
+use Rattle.kube_watch.specs.declared.event.Event.{Event}
+use Rattle.kube_watch.specs.declared.stream.StreamFault.TheVariants.{NoMemory, Unnamed}
+use Rattle.kube_watch.specs.Streams.{Answer}
+use Rattle.kube_watch.specs.Watching.{Told, Watching, all_told, next_told}
 
 -- what an exchange comes to for a poll: it tells something, the rest after the first; or it was not ready; or it tells nothing
 pub data Look (T : Type 0) : Type 0 where
@@ -21,7 +26,7 @@ pub data Look (T : Type 0) : Type 0 where
   Waits : Look T
   Quiet : Look T
 
-abbrev pub look_of : {T : Type 0} → List T → Answer → Look T
+abbrev pub look_of : {T : Type 0} → List T → CallAnswer → Look T
 look_of (t ∷ ts) answer = Tells t ts
 look_of [] Unready = Waits
 look_of [] answer = Quiet
@@ -109,3 +114,9 @@ pub record Filled {A V : Type 0} (api : Api A V) (now : ℕ) (old : Watching A V
   pub ready : was_ready ≡ not (is_not_ready exchange.answer)
   pub stands : (ds : List (Dated V)) → StandsFor ds old → StandsFor (ds ++ dated_now now exchange ∷ []) new
   pub config : new.config ≡ old.config
+
+-- what a poll did, as that of a stream: a watcher that had no memory is spent, and a spent one stays as it is
+abbrev pub IsPolled : {A V : Type 0} → Api A V → ℕ → ℕ → Watching A V → Answer (Event (Arc V Global)) → Watching A V → Type 0
+IsPolled api now fuel old (Ok answer) new = (old.is_spent ≡ false) × Polled api now fuel old (next_told answer) new
+IsPolled api now fuel old (Err NoMemory) new = (new.is_spent ≡ true) × (old.is_spent ≡ true → new ≡ old)
+IsPolled api now fuel old (Err Unnamed) new = ⊥

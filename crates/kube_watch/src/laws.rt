@@ -1,14 +1,16 @@
 //! Laws of the watcher's table: each is the contract of a function that does nothing. `O` is any type of objects.
 
-ghost use Rattle.std.specs.Prelude.{◌≡◌, List, [], ◌∷◌, ◌++◌, true, false, IsTrue};
+ghost use Rattle.std.specs.Prelude.{◌≡◌, ◌≤◌, ℕ, List, [], ◌∷◌, ◌++◌, true, false, IsTrue};
 ghost use Rattle.std.specs.List.{list_any};
 ghost use Rattle.kube_model.specs.World.{Settings, Watched};
-ghost use Rattle.kube_model.specs.History.{Exchange};
+ghost use Rattle.kube_model.specs.History.{Dated, Exchange};
 ghost use Rattle.kube_model.specs.Owed.{owed};
 ghost use Rattle.kube_model.specs.Fits.{answers};
 ghost use Rattle.kube_watch.specs.declared.event.Event.{Event};
 ghost use Rattle.kube_watch.specs.declared.event.Event.TheVariants.{Init};
 ghost use Rattle.kube_watch.specs.Agrees.{Agrees, asks_api, is_done};
+ghost use Rattle.kube_watch.specs.Idling.{idles};
+ghost use Rattle.kube_watch.specs.Polls.{AreNext};
 ghost use Rattle.kube_watch.specs.Order.{AreMade, IsOrdered, Unbegun, events_after, is_change};
 
 /// The row of an exchange has the error, the owed call, the seen version and the changes that the definitions give,
@@ -28,4 +30,9 @@ pub fn events_are_ordered<O>()
 pub fn no_change_stands_in_a_list<O>()
     ensures { (settings : Settings) (xs : List (Exchange O)) → AreMade settings [] xs → (front middle back : List (Event O))
         → events_after settings [] xs ≡ front ++ Init ∷ (middle ++ back) → list_any is_done middle ≡ false → list_any is_change middle ≡ false }
+{}
+
+/// At one moment a watcher idles at most once, since a window is 6 seconds long at least and begins anew where it was over.
+pub fn idles_at_most_once<O>()
+    ensures { (settings : Settings) (ds : List (Dated O)) (now : ℕ) (xs : List (Exchange O)) → AreNext settings ds now xs → idles xs ≤ 1 }
 {}

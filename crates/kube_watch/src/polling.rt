@@ -4,6 +4,7 @@ ghost use Rattle.std.specs.Prelude.{◌≡◌, IfOk, OnErr, not};
 ghost use Rattle.kube_model.specs.Owed.{is_not_ready};
 
 use crate::event::Event;
+use crate::stream::{EventStream, StreamFault};
 use crate::unit::Unit;
 use crate::watching::Watcher;
 use kube_api::ApiMode;
@@ -25,7 +26,7 @@ fn is_ready(answer: &Answer) -> bool
 }
 
 impl<A: ApiMode> Watcher<A> {
-    ghost use Rattle.std.specs.Prelude.{[], true, IsErr};
+    ghost use Rattle.std.specs.Prelude.{[], true, false, IsErr, OnOk};
     ghost use Rattle.kube_watch.specs.Watching.{TakesFirst, next_told};
     ghost use Rattle.kube_watch.specs.Stands.{is_spent};
     ghost use Rattle.kube_watch.specs.Polls.{Filled, Polled};
@@ -103,6 +104,7 @@ impl<A: ApiMode> Watcher<A> {
         ensures polled { IfOk result (λ a. Polled (record { moves = A.moves; talk = A.talk; faults = A.faults; version = version_of A.Value.meta_of }) now.0 fuel self.old (next_told a) self.new) }
         ensures err { OnErr result (is_spent self.new ≡ true) }
         ensures spent { is_spent self.old ≡ true → IsErr result × (self.new ≡ self.old) }
+        ensures unspent { OnOk result (is_spent self.old ≡ false) }
     {
         if self.spent {
             return Err(NoMemory);
@@ -110,6 +112,31 @@ impl<A: ApiMode> Watcher<A> {
         match self.take_told() {
             Some(told) => Ok(Next::Item(told)),
             None => self.ask(alloc, now, fuel),
+        }
+    }
+}
+
+/// The events and errors of the watcher, one by one.
+impl<A: ApiMode> EventStream for Watcher<A> {
+    ghost use Rattle.std.specs.Prelude.{None};
+    ghost use Rattle.kube_watch.specs.Polls.{IsPolled};
+    ghost use Rattle.kube_watch.specs.Calls.{version_of};
+
+    type Item = Event<Arc<A::Value>>;
+
+    ghost told = { λ _. None };
+
+    ghost polls = { λ old now fuel answer new. IsPolled (record { moves = A.moves; talk = A.talk; faults = A.faults; version = version_of A.Value.meta_of }) now fuel old answer new };
+
+    fn poll_next(
+        &mut self,
+        alloc: Global,
+        now: Moment,
+        fuel: u32,
+    ) -> Result<Next<Result<Event<Arc<A::Value>>, Error>>, StreamFault> {
+        match Watcher::poll_next(self, alloc, now, fuel) {
+            Ok(answer) => Ok(answer),
+            Err(NoMemory) => Err(StreamFault::NoMemory),
         }
     }
 }

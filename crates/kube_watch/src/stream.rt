@@ -14,6 +14,10 @@ pub enum StreamFault {
 }
 
 impl From<NoMemory> for StreamFault {
+    ghost use Rattle.std.specs.Prelude.{◌≡◌};
+
+    ghost from_gives = { λ e f. f ≡ StreamFault.NoMemory };
+
     fn from(_error: NoMemory) -> StreamFault {
         StreamFault::NoMemory
     }
