@@ -95,9 +95,9 @@ module _ {O : Type 0} (settings : Settings) (now : ℕ) where
   idles-once ds (x ∷ xs) made =
       elim (idle-or-not x.answer) [
         | inl idle ↦
-        let since : silent_since (ds ++ dated_now now x ∷ []) ≡ None = silent-push ds (dated_now now x) ∙ ap (since_after (silent_since ds) now x.call) idle in
-        let none = none-idle (ds ++ dated_now now x ∷ []) xs (inl since) made.1 in
-        let one = ap idle_count idle in
-        omega arith
+            let since : silent_since (ds ++ dated_now now x ∷ []) ≡ None = silent-push ds (dated_now now x) ∙ ap (since_after (silent_since ds) now x.call) idle in
+            let none = none-idle (ds ++ dated_now now x ∷ []) xs (inl since) made.1 in
+            let one = ap idle_count idle in
+            omega arith
         | inr none ↦ let rest = idles-once (ds ++ dated_now now x ∷ []) xs made.1 in omega arith
       ]

@@ -75,15 +75,15 @@ module _ {A V : Type 0} (api : Api A V) (now : ℕ) where
         last = f.exchange;
         exchanged = exchanged-more api now old.watcher o.watcher w q.exchanges was_ready q.exchanged f;
         looked = λ ds h.
-        looks-snoc settings (is_held old) (exchanges_in ds) q.exchanges f.exchange
-        ∙ (ap (λ ls. ls ++ look_of (answers_to (held_through settings (is_held old) (exchanges_in ds) q.exchanges) (told_by (row_of settings (exchanges_in ds ++ q.exchanges) f.exchange))) f.exchange.answer ∷ []) (q.quiet ds h)
-        ∙ (ap (λ k. quiets n ++ look_of (answers_to k (told_by (row_of settings (exchanges_in ds ++ q.exchanges) f.exchange))) f.exchange.answer ∷ []) (sym (q.held ds h))
-        ∙ ap (λ t. quiets n ++ look_of (answers_to o.held t) f.exchange.answer ∷ []) (told-last api now old.watcher o.watcher w q.exchanges was_ready q.exchanged f ds h)));
+            looks-snoc settings (is_held old) (exchanges_in ds) q.exchanges f.exchange
+            ∙ (ap (λ ls. ls ++ look_of (answers_to (held_through settings (is_held old) (exchanges_in ds) q.exchanges) (told_by (row_of settings (exchanges_in ds ++ q.exchanges) f.exchange))) f.exchange.answer ∷ []) (q.quiet ds h)
+            ∙ (ap (λ k. quiets n ++ look_of (answers_to k (told_by (row_of settings (exchanges_in ds ++ q.exchanges) f.exchange))) f.exchange.answer ∷ []) (sym (q.held ds h))
+            ∙ ap (λ t. quiets n ++ look_of (answers_to o.held t) f.exchange.answer ∷ []) (told-last api now old.watcher o.watcher w q.exchanges was_ready q.exchanged f ds h)));
         ready = f.ready;
         held = λ ds h.
-        sym (held-snoc settings (is_held old) (exchanges_in ds) q.exchanges f.exchange
-        ∙ (ap (λ k. held_by k (told_by (row_of settings (exchanges_in ds ++ q.exchanges) f.exchange))) (sym (q.held ds h))
-        ∙ ap (held_by o.held) (told-last api now old.watcher o.watcher w q.exchanges was_ready q.exchanged f ds h)));
+            sym (held-snoc settings (is_held old) (exchanges_in ds) q.exchanges f.exchange
+            ∙ (ap (λ k. held_by k (told_by (row_of settings (exchanges_in ds ++ q.exchanges) f.exchange))) (sym (q.held ds h))
+            ∙ ap (held_by o.held) (told-last api now old.watcher o.watcher w q.exchanges was_ready q.exchanged f ds h)));
       }
 
   -- v is o, as the code has it in parts
@@ -99,8 +99,8 @@ module _ {A V : Type 0} (api : Api A V) (now : ℕ) where
     exchanges = m.exchanges ++ m.last ∷ [];
     exchanged = exchanged-as api now old.watcher o.watcher new.watcher (m.exchanges ++ m.last ∷ []) m.exchanged same;
     answered = λ ds h.
-    ap (λ ts. polled (answers_to old.held ts) fuel (object_looks (settings_in old.watcher) (is_held old) (exchanges_in ds) (m.exchanges ++ m.last ∷ []))) none
-    ∙ (ap (answered_by fuel) (m.looked ds h) ∙ answered-then n fuel (look_of (answers_in o) m.last.answer) (answer, answers_in new) ends less);
+        ap (λ ts. polled (answers_to old.held ts) fuel (object_looks (settings_in old.watcher) (is_held old) (exchanges_in ds) (m.exchanges ++ m.last ∷ []))) none
+        ∙ (ap (answered_by fuel) (m.looked ds h) ∙ answered-then n fuel (look_of (answers_in o) m.last.answer) (answer, answers_in new) ends less);
     held = λ ds h. held ∙ m.held ds h;
   }
 
@@ -122,9 +122,9 @@ module _ {A V : Type 0} (api : Api A V) (now : ℕ) where
     exchanges = m.exchanges ++ m.last ∷ [];
     exchanged = exchanged-as api now old.watcher o.watcher new.watcher (m.exchanges ++ m.last ∷ []) m.exchanged same;
     quiet = λ ds h.
-    m.looked ds h
-    ∙ (ap (λ ws. quiets n ++ look_of ws m.last.answer ∷ []) first
-    ∙ (ap (λ l. quiets n ++ l ∷ []) (look-ready m.last.answer (sym m.ready ∙ ready)) ∙ quiets-snoc n));
+        m.looked ds h
+        ∙ (ap (λ ws. quiets n ++ look_of ws m.last.answer ∷ []) first
+        ∙ (ap (λ l. quiets n ++ l ∷ []) (look-ready m.last.answer (sym m.ready ∙ ready)) ∙ quiets-snoc n));
     waiting = left;
     held = λ ds h. sym (ap (held_by new.held) left) ∙ (held ∙ m.held ds h);
   }
@@ -134,8 +134,8 @@ module _ {A V : Type 0} (api : Api A V) (now : ℕ) where
     exchanges = q.exchanges;
     exchanged = q.exchanged;
     answered = λ ds h.
-    ap (λ ts. polled (answers_to old.held ts) fuel (object_looks (settings_in old.watcher) (is_held old) (exchanges_in ds) q.exchanges)) none
-    ∙ (ap (answered_by fuel) (q.quiet ds h) ∙ (ap (λ k. answered_by fuel (quiets k)) all ∙ (answered-quiet fuel ∙ ap (λ ts. Some (Spent, answers_to o.held ts)) (sym q.waiting))));
+        ap (λ ts. polled (answers_to old.held ts) fuel (object_looks (settings_in old.watcher) (is_held old) (exchanges_in ds) q.exchanges)) none
+        ∙ (ap (answered_by fuel) (q.quiet ds h) ∙ (ap (λ k. answered_by fuel (quiets k)) all ∙ (answered-quiet fuel ∙ ap (λ ts. Some (Spent, answers_to o.held ts)) (sym q.waiting))));
     held = λ ds h. ap (held_by o.held) q.waiting ∙ q.held ds h;
   }
 
@@ -160,10 +160,10 @@ module _ {A V : Type 0} (api : Api A V) (now : ℕ) where
         exchanges = p.exchanges;
         exchanged = exchanged-from api now old.watcher middle.watcher new.watcher p.exchanges same p.exchanged;
         answered = λ ds h.
-        ap (λ ws. polled ws fuel (object_looks (settings_in old.watcher) (is_held old) (exchanges_in ds) p.exchanges)) (first ∙ ap (answers_to middle.held) (sym left))
-        ∙ (ap (λ s. polled (answers_in middle) fuel (object_looks s (is_held old) (exchanges_in ds) p.exchanges)) (sym settings)
-        ∙ (ap (λ k. polled (answers_in middle) fuel (object_looks (settings_in middle.watcher) k (exchanges_in ds) p.exchanges)) (sym held) ∙ p.answered ds (asks ds h)));
+            ap (λ ws. polled ws fuel (object_looks (settings_in old.watcher) (is_held old) (exchanges_in ds) p.exchanges)) (first ∙ ap (answers_to middle.held) (sym left))
+            ∙ (ap (λ s. polled (answers_in middle) fuel (object_looks s (is_held old) (exchanges_in ds) p.exchanges)) (sym settings)
+            ∙ (ap (λ k. polled (answers_in middle) fuel (object_looks (settings_in middle.watcher) k (exchanges_in ds) p.exchanges)) (sym held) ∙ p.answered ds (asks ds h)));
         held = λ ds h.
-        p.held ds (asks ds h)
-        ∙ (ap (λ s. held_through s (is_held middle) (exchanges_in ds) p.exchanges) settings ∙ ap (λ k. held_through (settings_in old.watcher) k (exchanges_in ds) p.exchanges) held);
+            p.held ds (asks ds h)
+            ∙ (ap (λ s. held_through s (is_held middle) (exchanges_in ds) p.exchanges) settings ∙ ap (λ k. held_through (settings_in old.watcher) k (exchanges_in ds) p.exchanges) held);
       }

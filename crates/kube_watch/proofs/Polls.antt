@@ -81,9 +81,11 @@ module _ {V : Type 0} (settings : Settings) where
   pub next-snoc : (now : ℕ) (ds : List (Dated V)) (xs : List (Exchange V)) (x : Exchange V) → AreNext settings ds now xs
       → IsNext settings (ds ++ map (dated_now now) xs) now x → AreNext settings ds now (xs ++ x ∷ [])
   next-snoc now ds [] x made next = (subst (λ d. IsNext settings d now x) (append-nil ds) next, tt)
-  next-snoc now ds (y ∷ xs) x made next =
-      (made.0, next-snoc now (ds ++ dated_now now y ∷ []) xs x made.1
-      (subst (λ d. IsNext settings d now x) (sym (append_assoc ds (dated_now now y ∷ []) (map (dated_now now) xs))) next))
+  next-snoc now ds (y ∷ xs) x made next = (
+    made.0,
+    next-snoc now (ds ++ dated_now now y ∷ []) xs x made.1
+        (subst (λ d. IsNext settings d now x) (sym (append_assoc ds (dated_now now y ∷ []) (map (dated_now now) xs))) next),
+  )
 
 exchanges-now : {V : Type 0} (now : ℕ) (xs : List (Exchange V)) → exchanges_in (map (dated_now now) xs) ≡ xs
 exchanges-now now [] = refl
@@ -125,7 +127,7 @@ module _ {A V : Type 0} (api : Api A V) (now : ℕ) where
       record {
         calls = calls-snoc (settings_in old) old.api w.api new.api xs f.exchange e.calls (subst (λ s. IsCall api s now w.api f.exchange new.api) same f.call);
         made = λ ds h. next-snoc (settings_in old) now ds xs f.exchange (e.made ds h)
-        (subst (λ s. IsNext s (ds ++ map (dated_now now) xs) now f.exchange) same (f.made (ds ++ map (dated_now now) xs) (e.stands ds h)));
+            (subst (λ s. IsNext s (ds ++ map (dated_now now) xs) now f.exchange) same (f.made (ds ++ map (dated_now now) xs) (e.stands ds h)));
         stands = λ ds h. subst (λ d. StandsFor d new) (dated-snoc now ds xs f.exchange) (f.stands (ds ++ map (dated_now now) xs) (e.stands ds h));
         config = f.config ∙ e.config;
       }
@@ -182,9 +184,9 @@ module _ {A V : Type 0} (api : Api A V) (now : ℕ) where
     last = f.exchange;
     exchanged = exchanged-more old w new q.exchanges was_ready q.exchanged f;
     looked = λ ds h.
-    looks-snoc (settings_in old) (exchanges_in ds) q.exchanges f.exchange
-    ∙ (ap (λ ls. ls ++ look_of (told_by (row_of (settings_in old) (exchanges_in ds ++ q.exchanges) f.exchange)) f.exchange.answer ∷ []) (q.quiet ds h)
-    ∙ ap (λ t. quiets n ++ look_of t f.exchange.answer ∷ []) (told-last old w new q.exchanges was_ready q.exchanged f ds h));
+        looks-snoc (settings_in old) (exchanges_in ds) q.exchanges f.exchange
+        ∙ (ap (λ ls. ls ++ look_of (told_by (row_of (settings_in old) (exchanges_in ds ++ q.exchanges) f.exchange)) f.exchange.answer ∷ []) (q.quiet ds h)
+        ∙ ap (λ t. quiets n ++ look_of t f.exchange.answer ∷ []) (told-last old w new q.exchanges was_ready q.exchanged f ds h));
     ready = f.ready;
   }
 
@@ -195,8 +197,8 @@ module _ {A V : Type 0} (api : Api A V) (now : ℕ) where
     exchanges = m.exchanges ++ m.last ∷ [];
     exchanged = exchanged-as old w new (m.exchanges ++ m.last ∷ []) m.exchanged same;
     answered = λ ds h.
-    ap (λ ws. polled ws fuel (looks (settings_in old) (exchanges_in ds) (m.exchanges ++ m.last ∷ []))) none
-    ∙ (ap (answered_by fuel) (m.looked ds h) ∙ answered-then n fuel (look_of w.waiting m.last.answer) (answer, new.waiting) ends less);
+        ap (λ ws. polled ws fuel (looks (settings_in old) (exchanges_in ds) (m.exchanges ++ m.last ∷ []))) none
+        ∙ (ap (answered_by fuel) (m.looked ds h) ∙ answered-then n fuel (look_of w.waiting m.last.answer) (answer, new.waiting) ends less);
   }
 
   pub ended-told : (n fuel : ℕ) (old w new : Watching A V) (b : Bool) → OneMore n old w b → (told : Told V) → old.waiting ≡ [] → n < fuel
@@ -219,9 +221,9 @@ module _ {A V : Type 0} (api : Api A V) (now : ℕ) where
         exchanges = m.exchanges ++ m.last ∷ [];
         exchanged = m.exchanged;
         quiet = λ ds h.
-        m.looked ds h
-        ∙ (ap (λ ws. quiets n ++ look_of ws m.last.answer ∷ []) waits
-        ∙ (ap (λ l. quiets n ++ l ∷ []) (look-ready m.last.answer (sym m.ready ∙ ready)) ∙ quiets-snoc n));
+            m.looked ds h
+            ∙ (ap (λ ws. quiets n ++ look_of ws m.last.answer ∷ []) waits
+            ∙ (ap (λ l. quiets n ++ l ∷ []) (look-ready m.last.answer (sym m.ready ∙ ready)) ∙ quiets-snoc n));
         waiting = waits;
       })
 
@@ -230,8 +232,8 @@ module _ {A V : Type 0} (api : Api A V) (now : ℕ) where
     exchanges = q.exchanges;
     exchanged = q.exchanged;
     answered = λ ds h.
-    ap (λ ws. polled ws fuel (looks (settings_in old) (exchanges_in ds) q.exchanges)) none
-    ∙ (ap (answered_by fuel) (q.quiet ds h) ∙ (ap (λ k. answered_by fuel (quiets k)) all ∙ (answered-quiet fuel ∙ ap (λ ws. Some (Spent, ws)) (sym q.waiting))));
+        ap (λ ws. polled ws fuel (looks (settings_in old) (exchanges_in ds) q.exchanges)) none
+        ∙ (ap (answered_by fuel) (q.quiet ds h) ∙ (ap (λ k. answered_by fuel (quiets k)) all ∙ (answered-quiet fuel ∙ ap (λ ws. Some (Spent, ws)) (sym q.waiting))));
   }
 
   -- what waits is given without an exchange

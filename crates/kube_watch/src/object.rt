@@ -36,7 +36,11 @@ impl<A: ApiMode> Model for WatchObject<A> {
 }
 
 /// Watches the object of a name (`watch_object`). It lists and watches by the field selector `metadata.name=<name>`.
-pub fn watch_object<A: ApiMode>(alloc: Global, api: A, name: &str) -> Result<WatchObject<A>, NoMemory>
+pub fn watch_object<A: ApiMode>(
+    alloc: Global,
+    api: A,
+    name: &str,
+) -> Result<WatchObject<A>, NoMemory>
     ensures { IfOk result (λ w. IsOpened api name.now w) }
 {
     let fields = format!(in alloc; "metadata.name={name}")?;

@@ -4,4 +4,5 @@ mod cases;
 mod config;
 mod event;
 mod params;
+mod polls;
 mod script;

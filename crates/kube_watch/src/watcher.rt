@@ -7,6 +7,7 @@ use crate::config::Config;
 use crate::state::State;
 use crate::watching::Watcher;
 use kube_api::ApiMode;
+use kube_meta::{PartialObjectMeta, Resource};
 use std::alloc::Global;
 use std::collections::VecDeque;
 
@@ -26,4 +27,18 @@ pub fn watcher<A: ApiMode>(alloc: Global, api: A, config: Config) -> Watcher<A>
         error: None,
         spent: false,
     }
+}
+
+/// A watcher of metadata alone, which has made no call (`metadata_watcher`).
+pub fn metadata_watcher<K: Resource, A: ApiMode<Value = PartialObjectMeta<K>>>(
+    alloc: Global,
+    api: A,
+    config: Config,
+) -> Watcher<A>
+    ensures api { api_of result ≡ api }
+    ensures config { config_of result ≡ config }
+    ensures waiting { waiting_in result ≡ [] }
+    ensures stands { StandsFor [] result }
+{
+    watcher(alloc, api, config)
 }

@@ -11,6 +11,7 @@ use std::sync::Arc;
 use std::test::Fail;
 
 /// What a list call is answered.
+#[derive(Drop)]
 pub enum Listing {
     /// Names of objects, a token and a version; the empty text for none.
     Page(&'static [&'static str], &'static str, &'static str),
@@ -18,6 +19,7 @@ pub enum Listing {
 }
 
 /// What a watch gives.
+#[derive(Drop)]
 pub enum Given {
     /// Name and version of an object; the empty text for no version.
     Added(&'static str, &'static str),
@@ -283,6 +285,19 @@ pub fn check(rt: &impl Abort, alloc: Global, case: &Case) -> Result<(), Fail> {
     check_polls(rt, alloc, &mut watcher, case)
 }
 
+fn check_poll(
+    rt: &impl Abort,
+    alloc: Global,
+    watcher: &mut Watcher<TestMode<DynamicObject>>,
+    at: u64,
+    wanted: &str,
+) -> Result<(), Fail> {
+    let unit = watcher.poll_unit(alloc, Moment(at))?;
+    let shown = shown(alloc, &unit)?;
+    assert_eq!(rt; shown.as_str(), wanted);
+    Ok(())
+}
+
 fn check_polls(
     rt: &impl Abort,
     alloc: Global,
@@ -291,9 +306,7 @@ fn check_polls(
 ) -> Result<(), Fail> {
     assert_eq!(rt; case.polls.len(), case.wanted.len());
     for (poll, wanted) in case.polls.iter().zip(case.wanted) {
-        let unit = watcher.poll_unit(alloc, Moment(*poll))?;
-        let shown = shown(alloc, &unit)?;
-        assert_eq!(rt; shown.as_str(), *wanted);
+        check_poll(rt, alloc, watcher, *poll, wanted)?;
     }
     Ok(())
 }
