@@ -29,12 +29,15 @@ pub fn watcher<A: ApiMode>(alloc: Global, api: A, config: Config) -> Watcher<A>
     }
 }
 
+/// Objects of which the metadata alone is held.
+pub trait MetadataAlone {}
+
+impl<K: Resource> MetadataAlone for PartialObjectMeta<K> {}
+
 /// A watcher of metadata alone, which has made no call (`metadata_watcher`).
-pub fn metadata_watcher<K: Resource, A: ApiMode<Value = PartialObjectMeta<K>>>(
-    alloc: Global,
-    api: A,
-    config: Config,
-) -> Watcher<A>
+pub fn metadata_watcher<A: ApiMode>(alloc: Global, api: A, config: Config) -> Watcher<A>
+where
+    A::Value: MetadataAlone,
     ensures api { api_of result ≡ api }
     ensures config { config_of result ≡ config }
     ensures waiting { waiting_in result ≡ [] }
