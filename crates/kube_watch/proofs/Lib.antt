@@ -1,0 +1,10 @@
+pub mod Annotations
+pub mod Idling
+pub mod Made
+pub mod Orders
+pub mod Polls
+pub mod Objects
+pub mod Pushes
+pub mod Rows
+pub mod Steps
+pub mod Texts

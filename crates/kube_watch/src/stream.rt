@@ -1,0 +1,58 @@
+//! Streams of what happens.
+
+use kube_meta::{Moment, Next, NoMemory};
+use kube_model::error::Error;
+use std::alloc::Global;
+
+/// Why a stream gives nothing any more.
+#[derive(Clone, Copy, Debug, PartialEq, Eq)]
+pub enum StreamFault {
+    /// Memory could not be had.
+    NoMemory,
+    /// An object that must become a reference has no name.
+    Unnamed,
+}
+
+impl From<NoMemory> for StreamFault {
+    ghost use Rattle.std.specs.Prelude.{◌≡◌};
+
+    ghost from_gives = { λ e f. f ≡ StreamFault.NoMemory };
+
+    fn from(_error: NoMemory) -> StreamFault {
+        StreamFault::NoMemory
+    }
+}
+
+/// A stream of items and errors that is polled at moments (the streams that kube-runtime's `WatchStreamExt` extends).
+///
+/// A stream that answered a fault answers only that from then on.
+pub trait EventStream: Drop {
+    ghost use Rattle.std.specs.Prelude.{ℕ, List, Option, None, ⊤, ◌≡◌, ◌≤◌};
+    ghost use Rattle.kube_watch.specs.Streams.{Answer, told_after};
+
+    /// What it gives.
+    type Item: Drop;
+
+    /// What it answered so far, where it tells that. Want of memory is no such answer.
+    ghost told: { Self → Option (List (Answer Self.Item)) };
+
+    /// Whether it may be polled: so a stream that calls a closure says that the closure may be called.
+    ghost can_poll: { Self → Type 0 } = { λ _. ⊤ };
+
+    /// What a poll makes of the stream, where it says so: the stream before it, the moment in nanoseconds, the fuel, the
+    /// answer, the stream after it. Where it doesn't say so that may be anything.
+    ghost polls: { Self → ℕ → ℕ → Answer Self.Item → Self → Type 0 } = { λ _ _ _ _ _. ⊤ };
+
+    /// The next item or error; `Spent` where so many answers of what it stands on gave nothing.
+    fn poll_next(
+        &mut self,
+        alloc: Global,
+        now: Moment,
+        fuel: u32,
+    ) -> Result<Next<Result<Self::Item, Error>>, StreamFault>
+        requires may { can_poll self.old }
+        requires fuel { 1 ≤ fuel }
+        ensures may { can_poll self.new }
+        ensures told { told self.new ≡ told_after (told self.old) result }
+        ensures polls { polls self.old now.0 fuel result self.new };
+}
