@@ -4,3 +4,4 @@ pub mod Entries
 pub mod Schedule
 pub mod Least
 pub mod Polls
+pub mod Futures
