@@ -1,8 +1,8 @@
 -- Futures by key, one place after another.
-use Rattle.std.proofs.Common.{◌≡◌, ℕ, zero, suc, ◌+◌, Bool, true, false, if◌then◌else◌, cond, List, [], ◌∷◌, ◌++◌, length, Option, Some, refl, sym, ap, subst, ◌∙◌, append_assoc, append-nil, remove, slice_get, arith}
+use Rattle.std.proofs.Common.{◌≡◌, ◌≢◌, ◌≤◌, ℕ, zero, suc, ◌+◌, Bool, true, false, if◌then◌else◌, cond, List, [], ◌∷◌, ◌++◌, length, Option, Some, refl, sym, ap, subst, ◌∙◌, append_assoc, append-nil, remove, slice_get, arith}
 use Rattle.std.specs.List.{AllByRecursion}
 use Rattle.std.proofs.lemmas.List.{length-append}
-use Rattle.std.specs.Map.{remove_entry}
+use Rattle.std.specs.Map.{remove_entry, keys_of}
 use Rattle.indexmap.specs.IndexMap.{set_value_at, insert_entry}
 use Rattle.futures.specs.declared.task.Poll.{Poll}
 use Rattle.kube_sched.specs.Futures.{CanPollAll, TellsPending, AllPending, FirstReady, PlaceReady, PlacePending}
@@ -152,6 +152,37 @@ module _ {K F X : Type 0} (told : F → Option (List (Poll X))) (gives : F → X
       let c = length-append q.before ((q.key, q.future) ∷ q.behind) in
       let d = length-append q.before ((q.key, q.left) ∷ q.behind) in
       omega arith
+
+-- What stays the same, and what falls.
+
+not-nothing : {A : Type 0} (xs : List A) (x : A) (ys : List A) → xs ++ x ∷ ys ≡ [] → ⊥
+not-nothing [] x ys e = absurd (cc)
+not-nothing (w ∷ xs) x ys e = absurd (cc)
+
+module _ {K F X : Type 0} (told : F → Option (List (Poll X))) (gives : F → X → Type 0) where
+  pub keys-pending : (old new : List (K × F)) → AllPending told gives old new → keys_of new ≡ keys_of old
+  keys-pending [] [] h = refl
+  keys-pending (e ∷ es) [] h = absurd h
+  keys-pending [] (e' ∷ es') h = absurd h
+  keys-pending (e ∷ es) (e' ∷ es') h = let head = h.0 in let tail = keys-pending es es' h.2 in cc
+
+  pub length-pending : (old new : List (K × F)) → AllPending told gives old new → length new ≡ length old
+  length-pending [] [] h = refl
+  length-pending (e ∷ es) [] h = absurd h
+  length-pending [] (e' ∷ es') h = absurd h
+  length-pending (e ∷ es) (e' ∷ es') h = ap suc (length-pending es es' h.2)
+
+  pub length-first : (old new : List (K × F)) (x : X) → FirstReady told gives old new x → length new ≤ length old
+  length-first old new x f =
+      let a = ap length f.was in
+      let b = ap length f.is in
+      let c = length-append f.before (f.entry ∷ f.behind) in
+      let d = length-append f.polled f.behind in
+      let e = length-pending f.before f.polled f.pending in
+      omega arith
+
+  pub first-some : (old new : List (K × F)) (x : X) → FirstReady told gives old new x → old ≢ []
+  first-some old new x f e = not-nothing f.before f.entry f.behind (sym f.was ∙ e)
 
 -- A list with a value put, or without one.
 

@@ -6,3 +6,4 @@ pub mod Steps
 pub mod Least
 pub mod Polls
 pub mod Futures
+pub mod Runs

@@ -41,6 +41,11 @@ module _ {F X : Type 0} (told : F → Option (List (Poll X))) (gives : F → X �
     pub pending : AllPending before polled
     pub ready : TellsReady entry.1 x
 
+  -- what a poll of each does until one is ready
+  abbrev pub FirstPolled : {K : Type 0} → List (K × F) → List (K × F) → Option X → Type 0
+  FirstPolled old new (Some x) = FirstReady old new x
+  FirstPolled old new None = AllPending old new
+
   -- what a poll of futures by key does and answers
   abbrev pub MapPolled : {K : Type 0} → List (K × F) → List (K × F) → Polled (Option X) → Type 0
   MapPolled old new (Ready (Some x)) = FirstReady old new x

@@ -5,3 +5,4 @@ pub mod Schedule
 pub mod Least
 pub mod Polls
 pub mod Futures
+pub mod Runs

@@ -5,7 +5,7 @@ ghost use Rattle.std.specs.List.{AllByRecursion, IsDistinct};
 ghost use Rattle.std.specs.Map.{keys_of, values_of, lookup, remove_entry};
 ghost use Rattle.indexmap.specs.IndexMap.{insert_entry, index_map_len};
 ghost use Rattle.futures.specs.Task.{Keeps};
-ghost use Rattle.kube_sched.specs.Futures.{PlacePolled, MapPolled, CanPollAll};
+ghost use Rattle.kube_sched.specs.Futures.{PlacePolled, FirstPolled, MapPolled, CanPollAll};
 
 use crate::told_future::ToldFuture;
 use futures::task::{Context, Poll};
@@ -68,6 +68,7 @@ impl<K: Eq + Hash + Drop, F: ToldFuture> FutureHashMap<K, F> {
         ensures old { IfOk result (λ old. old ≡ lookup (K.eq key) self.old) }
         ensures put { IfOk result (λ old. self.new ≡ insert_entry K.eq self.old key future) }
         ensures err { OnErr result (self.new ≡ self.old) }
+        ensures unique { IsDistinct K.eq (keys_of self.new) }
     {
         Ok(self.futures.insert(key, future)?)
     }
@@ -91,8 +92,24 @@ impl<K: Eq + Hash + Drop, F: ToldFuture> FutureHashMap<K, F> {
     pub(crate) fn remove(&mut self, key: &K) -> Option<F>
         ensures value { result ≡ lookup (K.eq key.now) self.old }
         ensures removed { self.new ≡ remove_entry (K.eq key.now) self.old }
+        ensures unique { IsDistinct K.eq (keys_of self.new) }
     {
         self.futures.shift_remove(key)
+    }
+
+    // The value of the first ready future in order of insertion, which is removed.
+    pub(crate) fn poll_first(&mut self, cx: &mut Context<'_>) -> Option<F::Output>
+        ensures polled { FirstPolled F.told F.gives self.old self.new result }
+        ensures unique { IsDistinct K.eq (keys_of self.new) }
+    {
+        let count = self.futures.len();
+        for place in 0..count {
+            if let Some(value) = poll_place(&mut self.futures, place, cx) {
+                self.futures.shift_remove_index(place);
+                return Some(value);
+            }
+        }
+        None
     }
 
     /// The first ready future in order of insertion, which is removed.
@@ -102,17 +119,16 @@ impl<K: Eq + Hash + Drop, F: ToldFuture> FutureHashMap<K, F> {
         ensures polled { MapPolled F.told F.gives self.old self.new result }
         ensures empty { (result ≡ Polled.Ready None) ↔ (self.old ≡ []) }
     {
-        let count = self.futures.len();
-        for place in 0..count {
-            if let Some(value) = poll_place(&mut self.futures, place, cx) {
-                self.futures.shift_remove_index(place);
-                return Polled::Ready(Some(value));
+        let count = self.len();
+        match self.poll_first(cx) {
+            Some(value) => Polled::Ready(Some(value)),
+            None => {
+                if count == 0 {
+                    Polled::Ready(None)
+                } else {
+                    Polled::NotReady
+                }
             }
-        }
-        if count == 0 {
-            Polled::Ready(None)
-        } else {
-            Polled::NotReady
         }
     }
 }

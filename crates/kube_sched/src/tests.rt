@@ -1,6 +1,7 @@
 //! Each call of a scheduler, with ample memory.
 
 mod future_hash_map;
+mod runner;
 mod waiting;
 
 use crate::plain::{Message, Plain};

@@ -1,7 +1,9 @@
-use Rattle.std.proofs.Common.{length, ap, subst, sym, ◌∙◌, ◌≡◌}
+use Rattle.std.proofs.Common.{List, arith, length, ap, subst, sym, ◌∙◌, ◌≡◌}
 use Rattle.kube_sched.specs.Futures.{CanPollAll, FirstReady}
-use Rattle.kube_sched.proofs.Futures.{Polling, polling-none, polling-more, polling-ready, can-more, can-ready, length-more}
-use Rattle.kube_sched.proofs.future_hash_map.FutureHashMap.poll_next.Goals as goal
+use Rattle.std.specs.List.{IsDistinct}
+use Rattle.std.specs.Map.{keys_of}
+use Rattle.kube_sched.proofs.Futures.{Polling, polling-all, keys-pending, polling-none, polling-more, polling-ready, can-more, can-ready, length-more}
+use Rattle.kube_sched.proofs.future_hash_map.FutureHashMap.poll_first.Goals as goal
 
 pub loop-place-init : goal.loop-place-init
 loop-place-init g c =
@@ -39,3 +41,14 @@ loop-place-preserved g c =
       len = length-more told gives can now after place c.in_default.ensures.polled ∙ c.loop-place.invariant.len;
       same = c.loop-place.invariant.same;
     }
+
+pub returns-clause-unique : goal.returns-clause-unique
+returns-clause-unique g c =
+    let told = g.F.ToldFuture.told in
+    let gives = g.F.Future.gives in
+    let eq = g.K.PartialEq.eq in
+    let last = c.loop-place.self-inside.futures.entries in
+    let all : c.loop-place.place ≡ c.len-count.result = (let a = c.loop-place.auto.place-end in let b = c.loop-place-test.false in omega arith) in
+    let pending = polling-all told gives c.args.self.now last c.loop-place.place c.loop-place.invariant.polling (c.loop-place.invariant.len ∙ sym all) in
+    subst (IsDistinct eq) (sym (keys-pending told gives c.args.self.now last pending))
+    (subst (λ (es : List (g.row.K.Denot × g.row.F.Denot)). IsDistinct eq (keys_of es)) c.self.view_is c.len-count.ensures.unique)

@@ -1,7 +1,7 @@
 use Rattle.std.proofs.Common.{◌≡◌, length}
 use Rattle.kube_sched.specs.Futures.{CanPollAll}
 use Rattle.kube_sched.proofs.Futures.{Polling}
-use Rattle.kube_sched.proofs.future_hash_map.FutureHashMap.poll_next.Given as goal
+use Rattle.kube_sched.proofs.future_hash_map.FutureHashMap.poll_first.Given as goal
 
 -- none of the futures before this place is ready
 abbrev pub invariant-loop-place : goal.invariant-loop-place
