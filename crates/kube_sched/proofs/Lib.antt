@@ -5,3 +5,5 @@ pub mod Queues
 pub mod Steps
 pub mod Least
 pub mod Polls
+pub mod Futures
+pub mod Runs

@@ -1,15 +1,18 @@
 -- What a poll of a scheduler over a stream of requests does.
-use Rattle.std.proofs.Common.{◌≡◌, ℕ, zero, suc, ◌+◌, ◌<◌, Bool, true, false, List, [], ◌∷◌, ◌++◌, map, length, Option, Some, None, refl, sym, ap, subst, ◌∙◌, append-nil, append_assoc, arith, inr, IfSome, IfNone}
+use Rattle.std.proofs.Common.{◌≡◌, ℕ, zero, suc, ◌+◌, ◌<◌, Bool, true, false, List, [], ◌∷◌, ◌++◌, map, length, get_or, Option, Some, None, refl, sym, ap, subst, ◌∙◌, append-nil, append_assoc, arith, inl, inr, IfSome, IfNone, IfOk, Result, Ok, Err}
 use Rattle.std.proofs.lemmas.List.{length_push}
 use Rattle.kube_meta.specs.declared.moment.Moment.{Moment}
+use Rattle.kube_meta.specs.declared.poll.Next.{Next}
 use Rattle.kube_meta.specs.declared.poll.Next.TheVariants.{Item, NotReady, Spent, End}
 use Rattle.kube_model.specs.Queue.{QueueEvent}
 use Rattle.kube_model.specs.Raw.{grown, grown_by}
 use Rattle.kube_sched.specs.declared.request.ScheduleRequest.{ScheduleRequest}
+use Rattle.kube_sched.specs.declared.held.Held.{Held}
+use Rattle.kube_sched.specs.Held.{messages, IsFirstAt}
 use Rattle.kube_sched.specs.declared.asks.Ending.{Ending}
 use Rattle.kube_sched.specs.declared.asks.Ending.TheVariants.{Filled, Waits, Ends}
 use Rattle.kube_sched.specs.Schedule.{Schedule, Stands, with_request, with_take, IsFirst, waiting_messages, passes_none}
-use Rattle.kube_sched.specs.Polls.{Stream, Answer, requests_in, ends_by, ending_of, with_requests, Asked, ending_at, is_end, prepared, Prepared, Polled, given}
+use Rattle.kube_sched.specs.Polls.{Stream, Answer, requests_in, ends_by, ending_of, with_requests, Asked, ending_at, is_end, prepared, Prepared, Polled, CountedPoll, given}
 
 pub grown_by-nothing : {A : Type 0} (told : Option (List A)) → told ≡ grown_by told []
 grown_by-nothing None = refl
@@ -78,45 +81,49 @@ module _ {M R : Type 0} (same : M → M → Bool) (told : R → Option (List (An
         subst (Stands same s'') (sym (with-more events t.taken q now)) (step (with_requests events t.taken now) (t.stands events h));
   }
 
-  pub asked-filled : (fuel : ℕ) (s s' : Schedule M) (r r' : R) → Taking s r s' r' fuel → Asked same told now fuel s r s' r' Filled
+  pub asked-filled : (fuel : ℕ) (s s' : Schedule M) (r r' : R) → Taking s r s' r' fuel → Asked same told now fuel s r s' r' Filled 0
   asked-filled fuel s s' r r' t = record {
     answers = items t.taken;
     tells = t.tells;
     ended = subst (λ n. ending_of n (items t.taken) ≡ Some Filled) t.counts (ending-filled t.taken);
+    counted = (let e = ap length (items-in t.taken) in let k = t.counts in omega arith);
     stands = λ events h. subst (λ qs. Stands same s' (with_requests events qs now)) (sym (items-in t.taken)) (t.stands events h);
   }
 
-  pub asked-then : (fuel count : ℕ) (s s' : Schedule M) (r r' r'' : R) (x : Answer M) (e : Ending) → Taking s r s' r' count → count < fuel
-      → told r'' ≡ grown (told r') x → ends_by x ≡ Some e → requests_in (x ∷ []) ≡ [] → Asked same told now fuel s r s' r'' e
-  asked-then fuel count s s' r r' r'' x e t l tells ends none = record {
+  pub asked-then : (fuel count left : ℕ) → left + count ≡ fuel → (s s' : Schedule M) (r r' r'' : R) (x : Answer M) (e : Ending) → Taking s r s' r' count → count < fuel
+      → told r'' ≡ grown (told r') x → ends_by x ≡ Some e → requests_in (x ∷ []) ≡ [] → Asked same told now fuel s r s' r'' e left
+  asked-then fuel count left sum s s' r r' r'' x e t l tells ends none = record {
     answers = items t.taken ++ x ∷ [];
     tells = tells ∙ ap (λ y. grown y x) t.tells ∙ grown-more (told r) (items t.taken) x;
     ended = ending-then t.taken x e ends fuel (let k = t.counts in omega arith);
+    counted = (let i = ap length (items-then t.taken x none) in let k = t.counts in omega arith);
     stands = λ events h. subst (λ qs. Stands same s' (with_requests events qs now)) (sym (items-then t.taken x none)) (t.stands events h);
   }
 
   -- What a call did before it takes a message.
 
   pub prepared-over : (fuel : ℕ) (s s' : Stream M R) → s.is_over ≡ true → s'.requests ≡ s.requests → s'.is_over ≡ true → s'.is_spent ≡ false
-      → s'.schedule.debounce ≡ s.schedule.debounce → Stands same s'.schedule [] → Prepared same told now fuel s s' Ends
+      → s'.schedule.debounce ≡ s.schedule.debounce → Stands same s'.schedule [] → Prepared same told now fuel s s' Ends fuel
   prepared-over fuel s s' over asks over' fresh kept stands = record {
     answers = [];
     tells = ap told asks ∙ grown_by-nothing (told s.requests);
     ended = ap (λ b. ending_at {M = M} b fuel []) over;
+    counted = (omega arith);
     over = over';
     fresh = fresh;
     kept = kept;
     stands = λ events h. stands;
   }
 
-  pub prepared-by : (fuel : ℕ) (s s' : Stream M R) (schedule : Schedule M) (ending : Ending) → Asked same told now fuel s.schedule s.requests schedule s'.requests ending
+  pub prepared-by : (fuel : ℕ) (s s' : Stream M R) (schedule : Schedule M) (ending : Ending) {left : ℕ} → Asked same told now fuel s.schedule s.requests schedule s'.requests ending left
       → s.is_over ≡ false → s'.is_over ≡ is_end ending → s'.is_spent ≡ false → s'.schedule.debounce ≡ s.schedule.debounce
       → ((events : List (QueueEvent M)) (qs : List (ScheduleRequest M)) → Stands same schedule (with_requests events qs now) → Stands same s'.schedule (prepared ending events qs now))
-      → Prepared same told now fuel s s' ending
+      → Prepared same told now fuel s s' ending left
   prepared-by fuel s s' schedule ending a over over' fresh kept stands = record {
     answers = a.answers;
     tells = a.tells;
     ended = ap (λ b. ending_at b fuel a.answers) over ∙ a.ended;
+    counted = a.counted;
     over = over';
     fresh = fresh;
     kept = kept;
@@ -125,7 +132,7 @@ module _ {M R : Type 0} (same : M → M → Bool) (told : R → Option (List (An
 
   -- What it answers.
 
-  pub polled-end : (passes : M → Bool → Type 0) (fuel : ℕ) (s s' : Stream M R) → Prepared same told now fuel s s' Ends → Polled same passes told now fuel s s' End
+  pub polled-end : {left : ℕ} (passes : M → Bool → Type 0) (fuel : ℕ) (s s' : Stream M R) → Prepared same told now fuel s s' Ends left → Polled same passes told now fuel s s' End
   polled-end passes fuel s s' p = record {
     answers = p.answers;
     ending = Ends;
@@ -141,7 +148,7 @@ module _ {M R : Type 0} (same : M → M → Bool) (told : R → Option (List (An
     stands = p.stands;
   }
 
-  pub polled-spent : (passes : M → Bool → Type 0) (fuel : ℕ) (s s' : Stream M R) → Prepared same told now fuel s s' Filled → Polled same passes told now fuel s s' Spent
+  pub polled-spent : {left : ℕ} (passes : M → Bool → Type 0) (fuel : ℕ) (s s' : Stream M R) → Prepared same told now fuel s s' Filled left → Polled same passes told now fuel s s' Spent
   polled-spent passes fuel s s' p = record {
     answers = p.answers;
     ending = Filled;
@@ -158,14 +165,14 @@ module _ {M R : Type 0} (same : M → M → Bool) (told : R → Option (List (An
   }
 
   -- the first that passes is so for the debounce of before
-  first-by : (passes : M → Bool → Type 0) (fuel : ℕ) (s s1 : Stream M R) (p : Prepared same told now fuel s s1 Waits) (first : Option M)
+  first-by : {left : ℕ} (passes : M → Bool → Type 0) (fuel : ℕ) (s s1 : Stream M R) (p : Prepared same told now fuel s s1 Waits left) (first : Option M)
       → ((events : List (QueueEvent M)) → Stands same s1.schedule events → IsFirst passes (waiting_messages same s1.schedule.debounce events) first)
       → (events : List (QueueEvent M)) → Stands same s.schedule events → IsFirst passes (waiting_messages same s.schedule.debounce (prepared Waits events (requests_in p.answers) now)) first
   first-by passes fuel s s1 p first h events stands =
       subst (λ d. IsFirst passes (waiting_messages same d (prepared Waits events (requests_in p.answers) now)) first) p.kept
       (h (prepared Waits events (requests_in p.answers) now) (p.stands events stands))
 
-  pub polled-none : (passes : M → Bool → Type 0) (fuel : ℕ) (s s1 s' : Stream M R) → Prepared same told now fuel s s1 Waits
+  pub polled-none : {left : ℕ} (passes : M → Bool → Type 0) (fuel : ℕ) (s s1 s' : Stream M R) → Prepared same told now fuel s s1 Waits left
       → ((events : List (QueueEvent M)) → Stands same s1.schedule events → IsFirst passes (waiting_messages same s1.schedule.debounce events) None)
       → s'.schedule ≡ s1.schedule → s'.requests ≡ s1.requests → s'.is_over ≡ s1.is_over → s'.is_spent ≡ s1.is_spent → Polled same passes told now fuel s s' NotReady
   polled-none passes fuel s s1 s' p first is asks over fresh = record {
@@ -183,7 +190,7 @@ module _ {M R : Type 0} (same : M → M → Bool) (told : R → Option (List (An
     stands = λ events h. subst (λ x. Stands same x (prepared Waits events (requests_in p.answers) now)) (sym is) (p.stands events h);
   }
 
-  pub polled-some : (passes : M → Bool → Type 0) (fuel : ℕ) (s s1 s' : Stream M R) (m : M) → Prepared same told now fuel s s1 Waits
+  pub polled-some : {left : ℕ} (passes : M → Bool → Type 0) (fuel : ℕ) (s s1 s' : Stream M R) (m : M) → Prepared same told now fuel s s1 Waits left
       → ((events : List (QueueEvent M)) → Stands same s1.schedule events → IsFirst passes (waiting_messages same s1.schedule.debounce events) (Some m))
       → ((events : List (QueueEvent M)) → Stands same s1.schedule events → Stands same s'.schedule (with_take events m))
       → s'.requests ≡ s1.requests → s'.is_over ≡ s1.is_over → s'.is_spent ≡ s1.is_spent → s'.schedule.debounce ≡ s1.schedule.debounce
@@ -204,7 +211,7 @@ module _ {M R : Type 0} (same : M → M → Bool) (told : R → Option (List (An
   }
 
   -- and takes the first
-  pub polled-took : (passes : M → Bool → Type 0) (fuel : ℕ) (s s1 s' : Stream M R) (o : Option M) → Prepared same told now fuel s s1 Waits
+  pub polled-took : {left : ℕ} (passes : M → Bool → Type 0) (fuel : ℕ) (s s1 s' : Stream M R) (o : Option M) → Prepared same told now fuel s s1 Waits left
       → ((events : List (QueueEvent M)) → Stands same s1.schedule events → IsFirst passes (waiting_messages same s1.schedule.debounce events) o)
       → IfSome o (λ m. (events : List (QueueEvent M)) → Stands same s1.schedule events → Stands same s'.schedule (with_take events m))
       → IfNone o (s'.schedule ≡ s1.schedule)
@@ -213,7 +220,82 @@ module _ {M R : Type 0} (same : M → M → Bool) (told : R → Option (List (An
   polled-took passes fuel s s1 s' (Some m) p first took none asks over fresh kept = polled-some passes fuel s s1 s' m p first took asks over fresh kept
   polled-took passes fuel s s1 s' None p first took none asks over fresh kept = polled-none passes fuel s s1 s' p first none asks over fresh
 
+  -- The same, counted.
+
+  pub counted-end : (passes : M → Bool → Type 0) (fuel left : ℕ) (s s' : Stream M R) → Prepared same told now fuel s s' Ends left → CountedPoll same passes told now fuel s s' End left
+  unfolding polled-end
+  counted-end passes fuel left s s' p = record { polled = polled-end passes fuel s s' p; counted = p.counted }
+
+  pub counted-spent : (passes : M → Bool → Type 0) (fuel left : ℕ) (s s' : Stream M R) → Prepared same told now fuel s s' Filled left → CountedPoll same passes told now fuel s s' Spent left
+  unfolding polled-spent
+  counted-spent passes fuel left s s' p = record { polled = polled-spent passes fuel s s' p; counted = p.counted }
+
+  pub counted-took : (passes : M → Bool → Type 0) (fuel left : ℕ) (s s1 s' : Stream M R) (o : Option M) → Prepared same told now fuel s s1 Waits left
+      → ((events : List (QueueEvent M)) → Stands same s1.schedule events → IsFirst passes (waiting_messages same s1.schedule.debounce events) o)
+      → IfSome o (λ m. (events : List (QueueEvent M)) → Stands same s1.schedule events → Stands same s'.schedule (with_take events m))
+      → IfNone o (s'.schedule ≡ s1.schedule)
+      → s'.requests ≡ s1.requests → s'.is_over ≡ s1.is_over → s'.is_spent ≡ s1.is_spent → s'.schedule.debounce ≡ s1.schedule.debounce
+      → CountedPoll same passes told now fuel s s' (given o) left
+  unfolding polled-none polled-some
+  counted-took passes fuel left s s1 s' (Some m) p first took none asks over fresh kept = record {
+    polled = polled-some passes fuel s s1 s' m p first took asks over fresh kept;
+    counted = p.counted;
+  }
+  counted-took passes fuel left s s1 s' None p first took none asks over fresh kept = record {
+    polled = polled-none passes fuel s s1 s' p first none asks over fresh;
+    counted = p.counted;
+  }
+
+  pub counted-as : {passes : M → Bool → Type 0} {fuel left : ℕ} {s s' : Stream M R} {a b : Next M} → a ≡ b → CountedPoll same passes told now fuel s s' b left → CountedPoll same passes told now fuel s s' a left
+  counted-as {passes} {fuel} {left} {s} {s'} e p = subst (λ x. CountedPoll same passes told now fuel s s' x left) (sym e) p
+
 -- where all are held, none is the first
 pub none-first : {M : Type 0} (ms : List M) → IsFirst passes_none ms None
 none-first [] = refl
 none-first (m ∷ ms) = inr (refl, none-first ms)
+
+-- the message at the place of the first that passes does
+pub passes-at : {M : Type 0} (passes : M → Bool → Type 0) (hs : List (Held M)) (i : ℕ) (x : Held M) → i < length hs → x ≡ get_or hs i x → IsFirstAt passes (messages hs) (Some i) → passes x.message true
+passes-at passes [] i x l e h = absurd (omega arith)
+passes-at passes (d ∷ hs) zero x l e h = subst (λ (y : Held _). passes y.message true) (sym e) h
+passes-at passes (d ∷ hs) (suc i) x l e h = passes-at passes hs i x (omega arith) e h.1
+
+pub item-of : {M : Type 0} (P : M → Type 0) (o : Option M) (a : Next M) (m : M) → a ≡ given o → a ≡ Item m → IfSome o P → P m
+item-of P (Some n) a m e f h = let same : n ≡ m = cc in subst P same h
+item-of P None a m e f h = absurd (cc)
+
+-- What passes by one test passes by another.
+module _ {M : Type 0} (P Q : M → Bool → Type 0) (h : (m : M) (b : Bool) → P m b → Q m b) where
+  first-also : (ms : List M) (first : Option M) → IsFirst P ms first → IsFirst Q ms first
+  first-also [] first f = f
+  first-also (m ∷ ms) first (inl (p, e)) = inl (h m true p, e)
+  first-also (m ∷ ms) first (inr (p, f)) = inr (h m false p, first-also ms first f)
+
+  pub counted-also : {R : Type 0} (same : M → M → Bool) (told : R → Option (List (Answer M))) (now : Moment) (fuel left : ℕ) (s s' : Stream M R) (a : Next M)
+      → CountedPoll same P told now fuel s s' a left → CountedPoll same Q told now fuel s s' a left
+  counted-also same told now fuel left s s' a c = record {
+    polled = record {
+      answers = c.polled.answers;
+      ending = c.polled.ending;
+      tells = c.polled.tells;
+      ended = c.polled.ended;
+      end = c.polled.end;
+      spent = c.polled.spent;
+      not_ready = λ e. ((c.polled.not_ready e).0, λ events stands. first-also _ None ((c.polled.not_ready e).1 events stands));
+      item = λ m e. ((c.polled.item m e).0, λ events stands. first-also _ (Some m) ((c.polled.item m e).1 events stands));
+      over = c.polled.over;
+      fresh = c.polled.fresh;
+      kept = c.polled.kept;
+      stands = c.polled.stands;
+    };
+    counted = c.counted;
+  }
+
+  pub counted-ok : {R N : Type 0} (same : M → M → Bool) (told : R → Option (List (Answer M))) (now : Moment) (fuel : ℕ) (s1 s s' : Stream M R) (r : Result (Next M × ℕ) N) → s1 ≡ s
+      → IfOk r (λ c. CountedPoll same P told now fuel s1 s' c.0 c.1) → IfOk r (λ c. CountedPoll same Q told now fuel s s' c.0 c.1)
+  counted-ok same told now fuel s1 s s' (Ok c) e p = counted-also same told now fuel c.1 s s' c.0 (subst (λ x. CountedPoll same P told now fuel x s' c.0 c.1) e p)
+  counted-ok same told now fuel s1 s s' (Err n) e p = tt
+
+  pub passes-ok : {N : Type 0} (r : Result (Next M × ℕ) N) → IfOk r (λ c. (m : M) → c.0 ≡ Item m → P m true) → IfOk r (λ c. (m : M) → c.0 ≡ Item m → Q m true)
+  passes-ok (Ok c) p = λ m e. h m true (p m e)
+  passes-ok (Err n) p = tt

@@ -4,3 +4,5 @@ pub mod Entries
 pub mod Schedule
 pub mod Least
 pub mod Polls
+pub mod Futures
+pub mod Runs

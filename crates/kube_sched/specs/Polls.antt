@@ -1,5 +1,5 @@
 -- What a poll of a scheduler over a stream of requests does. (Crate: `Scheduler`, `HoldUnless` and `Hold`, as streams.)
-use Rattle.std.specs.Prelude.{◌≡◌, ◌↔◌, ℕ, zero, suc, Bool, true, false, List, [], ◌∷◌, Option, Some, None}
+use Rattle.std.specs.Prelude.{◌≡◌, ◌↔◌, ℕ, ◌+◌, length, zero, suc, Bool, true, false, List, [], ◌∷◌, Option, Some, None}
 use Rattle.kube_meta.specs.declared.moment.Moment.{Moment}
 use Rattle.kube_meta.specs.declared.poll.Next.{Next}
 use Rattle.kube_meta.specs.declared.poll.Next.TheVariants.{Item, NotReady, Spent, End}
@@ -54,10 +54,11 @@ with_requests events (q ∷ qs) now = with_requests (with_request events q now) 
 
 -- what the asks of one call did
 pub record Asked {M R : Type 0} (same : M → M → Bool) (told : R → Option (List (Answer M))) (now : Moment) (fuel : ℕ)
-    (s : Schedule M) (r : R) (s' : Schedule M) (r' : R) (ending : Ending) : Type 0 where
+    (s : Schedule M) (r : R) (s' : Schedule M) (r' : R) (ending : Ending) (left : ℕ) : Type 0 where
   pub answers : List (Answer M)
   pub tells : told r' ≡ grown_by (told r) answers
   pub ended : ending_of fuel answers ≡ Some ending
+  pub counted : left + length (requests_in answers) ≡ fuel
   pub stands : (events : List (QueueEvent M)) → Stands same s events → Stands same s' (with_requests events (requests_in answers) now)
 
 -- no requests are asked for once they have ended
@@ -78,10 +79,11 @@ prepared Waits events qs now = with_settle (with_requests events qs now) now
 prepared Ends events qs now = []
 
 -- what a call did before it takes a message
-pub record Prepared {M R : Type 0} (same : M → M → Bool) (told : R → Option (List (Answer M))) (now : Moment) (fuel : ℕ) (s s' : Stream M R) (ending : Ending) : Type 0 where
+pub record Prepared {M R : Type 0} (same : M → M → Bool) (told : R → Option (List (Answer M))) (now : Moment) (fuel : ℕ) (s s' : Stream M R) (ending : Ending) (left : ℕ) : Type 0 where
   pub answers : List (Answer M)
   pub tells : told s'.requests ≡ grown_by (told s.requests) answers
   pub ended : ending_at s.is_over fuel answers ≡ Some ending
+  pub counted : left + length (requests_in answers) ≡ fuel
   pub over : s'.is_over ≡ is_end ending
   pub fresh : s'.is_spent ≡ false
   pub kept : s'.schedule.debounce ≡ s.schedule.debounce
@@ -117,6 +119,12 @@ pub record Polled {M R : Type 0} (same : M → M → Bool) (passes : M → Bool 
   pub fresh : s'.is_spent ≡ false
   pub kept : s'.schedule.debounce ≡ s.schedule.debounce
   pub stands : (events : List (QueueEvent M)) → Stands same s.schedule events → Stands same s'.schedule (answered answer (prepared ending events (requests_in answers) now))
+
+-- the same, and how many more requests might have been taken
+pub record CountedPoll {M R : Type 0} (same : M → M → Bool) (passes : M → Bool → Type 0) (told : R → Option (List (Answer M))) (now : Moment) (fuel : ℕ)
+    (s s' : Stream M R) (answer : Next M) (left : ℕ) : Type 0 where
+  pub polled : Polled same passes told now fuel s s' answer
+  pub counted : left + length (requests_in polled.answers) ≡ fuel
 
 -- a stream that holds nothing
 pub record IsOpened {M R : Type 0} (same : M → M → Bool) (s : Stream M R) (asks : R) (delay : ℕ) : Type 0 where

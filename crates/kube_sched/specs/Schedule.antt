@@ -1,5 +1,5 @@
 -- What a scheduler holds, and the events that it stands for. (Crate: `Scheduler`.)
-use Rattle.std.specs.Prelude.{◌≡◌, ℕ, Bool, true, false, List, [], ◌∷◌, ◌++◌, map, Option, Some, None, ◌⊎◌}
+use Rattle.std.specs.Prelude.{◌≡◌, ℕ, ◌+◌, length, Bool, true, false, List, [], ◌∷◌, ◌++◌, map, Option, Some, None, ◌⊎◌}
 use Rattle.std.specs.List.{count_by}
 use Rattle.kube_meta.specs.declared.moment.Moment.{Moment}
 use Rattle.kube_model.specs.Queue.{QueueEvent, Requested, Settled, Took, is_request, is_settle, Entry, Frozen, waiting}
@@ -13,6 +13,10 @@ pub record Schedule (M : Type 0) : Type 0 where
   pub waiting : List (Held M)
   pub scheduled : List (Held M)
   pub spare : ℕ
+
+-- the number of messages that it holds
+abbrev pub held_len : {M : Type 0} → Schedule M → ℕ
+held_len s = length s.waiting + length s.scheduled
 
 -- an entry as it is held
 abbrev pub held_of : {M : Type 0} → Entry M → Held M

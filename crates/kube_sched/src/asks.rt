@@ -1,6 +1,7 @@
 //! How a scheduler takes requests.
 
-ghost use Rattle.std.specs.Prelude.{◌≡◌, IfOk};
+ghost use Rattle.std.specs.Prelude.{◌≡◌, ◌+◌, ◌≤◌, IfOk};
+ghost use Rattle.kube_sched.specs.Schedule.{held_len};
 ghost use Rattle.kube_sched.specs.Polls.{Asked};
 
 use crate::request::ScheduleRequest;
@@ -21,24 +22,27 @@ pub enum Ending {
     Ends,
 }
 
-/// Takes requests until none is ready, at most `fuel` of them.
+/// Takes requests until none is ready, at most `fuel` of them. It answers how that ended, and how many more it might
+/// have taken.
 pub fn take_requests<T: Eq + Hash + Drop, R: Requests<T>>(
     alloc: Global,
     scheduler: &mut Scheduler<T>,
     requests: &mut R,
     now: Moment,
     fuel: u32,
-) -> Result<Ending, NoMemory>
-    ensures asked { IfOk result (λ ending. Asked T.eq R.told now fuel scheduler.old requests.old scheduler.new requests.new ending) }
+) -> Result<(Ending, u32), NoMemory>
+    ensures asked { IfOk result (λ asks. Asked T.eq R.told now fuel scheduler.old requests.old scheduler.new requests.new asks.0 asks.1) }
+    ensures held { IfOk result (λ asks. held_len scheduler.new + asks.1 ≤ held_len scheduler.old + fuel) }
     ensures debounce { scheduler.new.debounce ≡ scheduler.old.debounce }
 {
-    for _taken in 0..fuel {
+    for taken in 0..fuel {
+        let left = fuel - taken;
         match requests.poll_request(alloc, now)? {
             Next::Item(request) => scheduler.schedule(alloc, request, now)?,
-            Next::NotReady => return Ok(Ending::Waits),
-            Next::Spent => return Ok(Ending::Waits),
-            Next::End => return Ok(Ending::Ends),
+            Next::NotReady => return Ok((Ending::Waits, left)),
+            Next::Spent => return Ok((Ending::Waits, left)),
+            Next::End => return Ok((Ending::Ends, left)),
         }
     }
-    Ok(Ending::Filled)
+    Ok((Ending::Filled, 0))
 }

@@ -1,6 +1,6 @@
 //! The scheduler (kube-runtime's `Scheduler`, without its stream of requests).
 
-ghost use Rattle.std.specs.Prelude.{◌≡◌, ◌+◌, ◌≤◌, List, [], map, length, IfSome, IfNone, OnOk, OnErr, min};
+ghost use Rattle.std.specs.Prelude.{◌≡◌, ◌+◌, ◌≤◌, true, List, [], map, length, IfSome, IfNone, OnOk, OnErr, min};
 ghost use Rattle.std.specs.Fn.{FnReturnsAt};
 ghost use Rattle.kube_model.specs.Queue.{QueueEvent, entry, waiting, plus, longest_wait};
 ghost use Rattle.kube_model.specs.WaitingOnce.{is_frozen};
@@ -48,7 +48,7 @@ impl<T> Model for Scheduler<T> {
 }
 
 impl<T: Eq + Hash + Drop> Scheduler<T> {
-    ghost use Rattle.kube_sched.specs.Schedule.{Stands, with_request, with_settle, with_take, IsFirst, waiting_messages, passes_all};
+    ghost use Rattle.kube_sched.specs.Schedule.{Stands, with_request, with_settle, with_take, IsFirst, waiting_messages, passes_all, held_len};
 
     /// A scheduler that holds nothing. A message is held for `debounce` nanoseconds longer than asked.
     pub fn new(alloc: Global, debounce: u64) -> Scheduler<T>
@@ -73,6 +73,7 @@ impl<T: Eq + Hash + Drop> Scheduler<T> {
         ensures stands { OnOk result ((events : List (QueueEvent T)) → Stands T.eq self.old events → Stands T.eq self.new (with_request events request now)) }
         ensures debounce { self.new.debounce ≡ self.old.debounce }
         ensures spare { OnOk result (self.new.spare ≡ self.old.spare) }
+        ensures held { OnOk result (held_len self.new ≤ held_len self.old + 1) }
         ensures err { OnErr result (self.new ≡ self.old) }
     {
         let spare = self.spare;
@@ -91,6 +92,7 @@ impl<T: Eq + Hash + Drop> Scheduler<T> {
         ensures stands { (events : List (QueueEvent T)) → Stands T.eq self.old events → Stands T.eq self.new (with_request events request now) }
         ensures debounce { self.new.debounce ≡ self.old.debounce }
         ensures spare { self.old.spare ≤ self.new.spare + 1 }
+        ensures held { held_len self.new ≤ held_len self.old + 1 }
     {
         let ScheduleRequest { message, run_at } = request;
         if has_message(&self.waiting, &message) {
@@ -135,6 +137,7 @@ impl<T: Eq + Hash + Drop> Scheduler<T> {
         ensures stands { (events : List (QueueEvent T)) → Stands T.eq self.old events → Stands T.eq self.new (with_settle events now) }
         ensures debounce { self.new.debounce ≡ self.old.debounce }
         ensures spare { self.new.spare ≡ self.old.spare }
+        ensures held { held_len self.new ≡ held_len self.old }
     {
         settle_due(&mut self.waiting, &mut self.scheduled, now);
     }
@@ -159,6 +162,8 @@ impl<T: Eq + Hash + Drop> Scheduler<T> {
         ensures none { IfNone result (self.new ≡ self.old) }
         ensures debounce { self.new.debounce ≡ self.old.debounce }
         ensures spare { self.new.spare ≡ self.old.spare }
+        ensures held { IfSome result (λ m. held_len self.new + 1 ≡ held_len self.old) }
+        ensures passes { IfSome result (λ m. FnReturnsAt C.Fn c.now m true) }
     {
         match first_passing(&self.waiting, c) {
             Some(place) => {
@@ -187,6 +192,7 @@ impl<T: Eq + Hash + Drop> Scheduler<T> {
     pub(crate) fn clear(&mut self)
         ensures stands { Stands T.eq self.new [] }
         ensures debounce { self.new.debounce ≡ self.old.debounce }
+        ensures held { held_len self.new ≡ 0 }
     {
         self.waiting.clear();
         self.scheduled.clear();

@@ -1,6 +1,6 @@
 //! The scheduler over a stream of requests (kube-runtime's `Scheduler`, `HoldUnless` and `Hold`).
 
-ghost use Rattle.std.specs.Prelude.{◌≡◌, ◌≤◌, List, [], Bool, true, false, IfOk, OnErr, IsErr};
+ghost use Rattle.std.specs.Prelude.{◌≡◌, ◌+◌, ◌≤◌, ◌<◌, List, [], Bool, true, false, IfOk, OnErr, IsErr};
 ghost use Rattle.std.specs.Fn.{FnReturnsAt};
 ghost use Rattle.kube_model.specs.Queue.{QueueEvent, entry};
 ghost use Rattle.kube_model.specs.WaitingOnce.{is_frozen};
@@ -69,12 +69,13 @@ fn given<T>(first: Option<T>) -> Next<T>
 }
 
 impl<T: Eq + Hash + Drop, R: Requests<T>> Scheduled<T, R> {
-    ghost use Rattle.kube_sched.specs.Schedule.{Stands, passes_all, passes_none};
-    ghost use Rattle.kube_sched.specs.Polls.{Prepared, Polled};
+    ghost use Rattle.kube_sched.specs.Schedule.{Stands, passes_all, passes_none, held_len};
+    ghost use Rattle.kube_sched.specs.Polls.{Prepared, Polled, CountedPoll};
 
     // Takes requests until none is ready, and lets wait what is due.
-    fn prepare(&mut self, alloc: Global, now: Moment, fuel: u32) -> Result<Ending, NoMemory>
-        ensures prepared { IfOk result (λ ending. Prepared T.eq R.told now fuel self.old self.new ending) }
+    fn prepare(&mut self, alloc: Global, now: Moment, fuel: u32) -> Result<(Ending, u32), NoMemory>
+        ensures prepared { IfOk result (λ asks. Prepared T.eq R.told now fuel self.old self.new asks.0 asks.1) }
+        ensures held { IfOk result (λ asks. held_len self.new.schedule + asks.1 ≤ held_len self.old.schedule + fuel) }
         ensures spent { OnErr result (self.new.is_spent ≡ true) }
         ensures stays_spent { self.old.is_spent ≡ true → IsErr result }
         ensures unchanged { self.old.is_spent ≡ true → self.new ≡ self.old }
@@ -84,14 +85,14 @@ impl<T: Eq + Hash + Drop, R: Requests<T>> Scheduled<T, R> {
         }
         if self.is_over {
             self.scheduler.clear();
-            return Ok(Ending::Ends);
+            return Ok((Ending::Ends, fuel));
         }
-        let Ok(ending) = take_requests(alloc, &mut self.scheduler, &mut self.requests, now, fuel)
+        let Ok(asks) = take_requests(alloc, &mut self.scheduler, &mut self.requests, now, fuel)
         else {
             self.is_spent = true;
             return Err(NoMemory);
         };
-        match ending {
+        match asks.0 {
             Ending::Filled => {}
             Ending::Waits => self.scheduler.settle(now),
             Ending::Ends => {
@@ -99,7 +100,7 @@ impl<T: Eq + Hash + Drop, R: Requests<T>> Scheduled<T, R> {
                 self.is_over = true;
             }
         }
-        Ok(ending)
+        Ok(asks)
     }
 
     /// The first waiting message, after at most `fuel` requests.
@@ -113,7 +114,7 @@ impl<T: Eq + Hash + Drop, R: Requests<T>> Scheduled<T, R> {
         ensures stays_spent { self.old.is_spent ≡ true → IsErr result }
         ensures unchanged { self.old.is_spent ≡ true → self.new ≡ self.old }
     {
-        match self.prepare(alloc, now, fuel)? {
+        match self.prepare(alloc, now, fuel)?.0 {
             Ending::Filled => Ok(Next::Spent),
             Ending::Ends => Ok(Next::End),
             Ending::Waits => Ok(given(self.scheduler.take_any())),
@@ -134,10 +135,30 @@ impl<T: Eq + Hash + Drop, R: Requests<T>> Scheduled<T, R> {
         ensures stays_spent { self.old.is_spent ≡ true → IsErr result }
         ensures unchanged { self.old.is_spent ≡ true → self.new ≡ self.old }
     {
-        match self.prepare(alloc, now, fuel)? {
-            Ending::Filled => Ok(Next::Spent),
-            Ending::Ends => Ok(Next::End),
-            Ending::Waits => Ok(given(self.scheduler.take_passing(passes))),
+        Ok(self.poll_counted(alloc, now, fuel, passes)?.0)
+    }
+
+    // The same, and how many more requests might have been taken.
+    pub(crate) fn poll_counted<C: Fn(&T) -> bool>(
+        &mut self,
+        alloc: Global,
+        now: Moment,
+        fuel: u32,
+        passes: &C,
+    ) -> Result<(Next<T>, u32), NoMemory>
+        requires { C.IsAlwaysCallable passes.now }
+        ensures polled { IfOk result (λ c. CountedPoll T.eq (FnReturnsAt C.Fn passes.now) R.told now fuel self.old self.new c.0 c.1) }
+        ensures held { IfOk result (λ c. (m : _) → c.0 ≡ Next.Item m → held_len self.new.schedule + c.1 < held_len self.old.schedule + fuel) }
+        ensures passes { IfOk result (λ c. (m : _) → c.0 ≡ Next.Item m → FnReturnsAt C.Fn passes.now m true) }
+        ensures spent { OnErr result (self.new.is_spent ≡ true) }
+        ensures stays_spent { self.old.is_spent ≡ true → IsErr result }
+        ensures unchanged { self.old.is_spent ≡ true → self.new ≡ self.old }
+    {
+        let (ending, left) = self.prepare(alloc, now, fuel)?;
+        match ending {
+            Ending::Filled => Ok((Next::Spent, left)),
+            Ending::Ends => Ok((Next::End, left)),
+            Ending::Waits => Ok((given(self.scheduler.take_passing(passes)), left)),
         }
     }
 
@@ -153,7 +174,7 @@ impl<T: Eq + Hash + Drop, R: Requests<T>> Scheduled<T, R> {
         ensures stays_spent { self.old.is_spent ≡ true → IsErr result }
         ensures unchanged { self.old.is_spent ≡ true → self.new ≡ self.old }
     {
-        match self.prepare(alloc, now, fuel)? {
+        match self.prepare(alloc, now, fuel)?.0 {
             Ending::Filled => Ok(Next::Spent),
             Ending::Ends => Ok(Next::End),
             Ending::Waits => Ok(Next::NotReady),

@@ -1,5 +1,9 @@
 //! Each call of a scheduler, with ample memory.
 
+mod future_hash_map;
+mod runner;
+mod waiting;
+
 use crate::plain::{Message, Plain};
 use crate::{Requests, ScheduleRequest, Scheduled, Scheduler, debounced_scheduler, scheduler};
 use kube_meta::{Moment, Next, NoMemory};

@@ -1,4 +1,4 @@
-use Rattle.std.proofs.Common.{◌≡◌, [], ◌∷◌, ◌∙◌, ap, subst, arith}
+use Rattle.std.proofs.Common.{◌≡◌, ◌-◌, [], ◌∷◌, ◌∙◌, ap, subst, arith}
 use Rattle.kube_model.specs.Raw.{grown}
 use Rattle.kube_sched.specs.declared.asks.Ending.TheVariants.{Waits, Ends}
 use Rattle.kube_sched.specs.Polls.{Answer, requests_in, ends_by}
@@ -8,27 +8,27 @@ use Rattle.kube_sched.proofs.asks.take_requests.Goals as goal
 pub returns-in-NotReady-clause-asked : goal.returns-in-NotReady-clause-asked
 returns-in-NotReady-clause-asked g c =
     let is = c.in-NotReady.is in
-    asked-then g.T.PartialEq.eq g.R.Requests.told c.args.now c.args.fuel c.loop-taken._taken c.args.scheduler.now c.loop-taken.scheduler c.args.requests.now c.loop-taken.requests
+    asked-then g.T.PartialEq.eq g.R.Requests.told c.args.now c.args.fuel c.loop-taken.taken (c.args.fuel - c.loop-taken.taken) (let t = c.loop-taken-test.true in omega arith) c.args.scheduler.now c.loop-taken.scheduler c.args.requests.now c.loop-taken.requests
     c.poll_request.new.self c.in_ok-request.field-0 Waits c.loop-taken.invariant.takes c.loop-taken-test.true c.in_ok-request.ensures.grows
     (ap ends_by is) (ap (λ (x : Answer g.row.T.Denot). requests_in (x ∷ [])) is)
 
 pub returns-in-Spent-clause-asked : goal.returns-in-Spent-clause-asked
 returns-in-Spent-clause-asked g c =
     let is = c.in-Spent.is in
-    asked-then g.T.PartialEq.eq g.R.Requests.told c.args.now c.args.fuel c.loop-taken._taken c.args.scheduler.now c.loop-taken.scheduler c.args.requests.now c.loop-taken.requests
+    asked-then g.T.PartialEq.eq g.R.Requests.told c.args.now c.args.fuel c.loop-taken.taken (c.args.fuel - c.loop-taken.taken) (let t = c.loop-taken-test.true in omega arith) c.args.scheduler.now c.loop-taken.scheduler c.args.requests.now c.loop-taken.requests
     c.poll_request.new.self c.in_ok-request.field-0 Waits c.loop-taken.invariant.takes c.loop-taken-test.true c.in_ok-request.ensures.grows
     (ap ends_by is) (ap (λ (x : Answer g.row.T.Denot). requests_in (x ∷ [])) is)
 
 pub returns-in-End-clause-asked : goal.returns-in-End-clause-asked
 returns-in-End-clause-asked g c =
     let is = c.in-End.is in
-    asked-then g.T.PartialEq.eq g.R.Requests.told c.args.now c.args.fuel c.loop-taken._taken c.args.scheduler.now c.loop-taken.scheduler c.args.requests.now c.loop-taken.requests
+    asked-then g.T.PartialEq.eq g.R.Requests.told c.args.now c.args.fuel c.loop-taken.taken (c.args.fuel - c.loop-taken.taken) (let t = c.loop-taken-test.true in omega arith) c.args.scheduler.now c.loop-taken.scheduler c.args.requests.now c.loop-taken.requests
     c.poll_request.new.self c.in_ok-request.field-0 Ends c.loop-taken.invariant.takes c.loop-taken-test.true c.in_ok-request.ensures.grows
     (ap ends_by is) (ap (λ (x : Answer g.row.T.Denot). requests_in (x ∷ [])) is)
 
 pub returns-clause-asked : goal.returns-clause-asked
 returns-clause-asked g c =
-    let all : c.loop-taken._taken ≡ c.args.fuel = (let a = c.loop-taken.auto._taken-end in let b = c.loop-taken-test.false in omega arith) in
+    let all : c.loop-taken.taken ≡ c.args.fuel = (let a = c.loop-taken.auto.taken-end in let b = c.loop-taken-test.false in omega arith) in
     asked-filled g.T.PartialEq.eq g.R.Requests.told c.args.now c.args.fuel c.args.scheduler.now c.loop-taken.scheduler c.args.requests.now c.loop-taken.requests
     (subst (Taking g.T.PartialEq.eq g.R.Requests.told c.args.now c.args.scheduler.now c.args.requests.now c.loop-taken.scheduler c.loop-taken.requests) all c.loop-taken.invariant.takes)
 
@@ -36,8 +36,9 @@ pub loop-taken-preserved : goal.loop-taken-preserved
 loop-taken-preserved g c = record {
   takes =
       taking-more g.T.PartialEq.eq g.R.Requests.told c.args.now c.args.scheduler.now c.loop-taken.scheduler c.schedule.new.self c.args.requests.now c.loop-taken.requests
-      c.poll_request.new.self c.loop-taken._taken c.in-Item.request c.loop-taken.invariant.takes
+      c.poll_request.new.self c.loop-taken.taken c.in-Item.request c.loop-taken.invariant.takes
       (c.in_ok-request.ensures.grows ∙ ap (grown (g.R.Requests.told c.loop-taken.requests)) c.in-Item.is)
       c.in_ok-schedule-in-Item.ensures.stands;
+  held = (let a = c.in_ok-schedule-in-Item.ensures.held in let b = c.loop-taken.invariant.held in omega arith);
   kept = c.schedule.ensures.debounce ∙ c.loop-taken.invariant.kept;
 }

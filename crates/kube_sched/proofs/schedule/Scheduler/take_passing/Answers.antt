@@ -4,6 +4,7 @@ use Rattle.std.specs.List.{remove}
 use Rattle.kube_sched.specs.Held.{IsFirstAt, messages}
 use Rattle.kube_sched.specs.Schedule.{Schedule}
 use Rattle.kube_sched.proofs.Steps.{stands-took, takes-some, takes-none}
+use Rattle.kube_sched.proofs.Polls.{passes-at}
 use Rattle.kube_sched.proofs.schedule.Scheduler.take_passing.Goals as goal
 
 pub returns-in-Some-clause-first : goal.returns-in-Some-clause-first
@@ -35,3 +36,13 @@ returns-in-None-clause-first g c events stands =
     let waits = c.deref.ensures.value ∙ ap (λ (s : Schedule g.row.T.Denot). s.waiting) c.self.view_is in
     takes-none g.T.PartialEq.eq (FnReturnsAt g.C.Fn c.args.c.now) c.args.self.now events stands
     (subst (λ hs. IsFirstAt (FnReturnsAt g.C.Fn c.args.c.now) (messages hs) None) waits c.in-None.ensures.first)
+
+pub returns-in-Some-clause-passes : goal.returns-in-Some-clause-passes
+returns-in-Some-clause-passes g c =
+    let waits = c.deref.ensures.value ∙ ap (λ (s : Schedule g.row.T.Denot). s.waiting) c.self.view_is in
+    let inside = ap (λ (s : Schedule g.row.T.Denot). s.waiting) c.self.view_is in
+    let i = c.in-Some.place in
+    passes-at (FnReturnsAt g.C.Fn c.args.c.now) c.args.self.now.waiting i c.remove-message.result
+    (subst (λ hs. i < length hs) waits c.in-Some.ensures.within)
+    (c.remove-message.ensures.value ∙ ap (λ hs. get_or hs i c.remove-message.result) inside)
+    (subst (λ hs. IsFirstAt (FnReturnsAt g.C.Fn c.args.c.now) (messages hs) (Some i)) waits c.in-Some.ensures.first)

@@ -7,5 +7,5 @@ use Rattle.kube_sched.proofs.scheduled.Scheduled.poll_held.Goals as goal
 pub returns-in-Waits-clause-polled : goal.returns-in-Waits-clause-polled
 returns-in-Waits-clause-polled g c =
     let s = c.prepare.new.self in
-    let ready = subst (Prepared g.T.PartialEq.eq g.R.Requests.told c.args.now c.args.fuel c.args.self.now s) c.in-Waits.is c.in_ok-prepare.ensures.prepared in
+    let ready = subst (λ e. Prepared g.T.PartialEq.eq g.R.Requests.told c.args.now c.args.fuel c.args.self.now s e c.in_ok-prepare.field-0.1) c.in-Waits.is c.in_ok-prepare.ensures.prepared in
     polled-none g.T.PartialEq.eq g.R.Requests.told c.args.now passes_none c.args.fuel c.args.self.now s s ready (λ events stands. none-first _) refl refl refl refl

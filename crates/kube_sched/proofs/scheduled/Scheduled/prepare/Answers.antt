@@ -1,7 +1,7 @@
 use Rattle.std.proofs.Common.{ap, sym, subst, ◌∙◌}
 use Rattle.kube_sched.specs.Schedule.{Stands}
 use Rattle.kube_sched.specs.Polls.{Stream, Asked, is_end, prepared, with_requests}
-use Rattle.kube_sched.proofs.Polls.{prepared-by}
+use Rattle.kube_sched.proofs.Polls.{prepared-by, prepared-over}
 use Rattle.kube_sched.proofs.scheduled.Scheduled.prepare.Goals as goal
 
 pub returns-in-Filled-clause-prepared : goal.returns-in-Filled-clause-prepared
@@ -11,9 +11,9 @@ returns-in-Filled-clause-prepared g c =
     let taken = c.take_requests.new in
     let is = c.in-Filled.is in
     let asked =
-    subst (λ (s : Stream g.row.T.Denot g.row.R.Denot). Asked eq told c.args.now c.args.fuel s.schedule s.requests taken.scheduler taken.requests c.in-Ok.ending) c.self.view_is
+    subst (λ (s : Stream g.row.T.Denot g.row.R.Denot). Asked eq told c.args.now c.args.fuel s.schedule s.requests taken.scheduler taken.requests c.in-Ok.asks.0 c.in-Ok.asks.1) c.self.view_is
     c.in-Ok.ensures.asked in
-    prepared-by eq told c.args.now c.args.fuel c.args.self.now _ taken.scheduler c.in-Ok.ending asked
+    prepared-by eq told c.args.now c.args.fuel c.args.self.now _ taken.scheduler c.in-Ok.asks.0 asked
     (sym (ap (λ (s : Stream g.row.T.Denot g.row.R.Denot). s.is_over) c.self.view_is) ∙ c.if-self-2.false)
     (c.if-self-2.false ∙ sym (ap is_end is))
     c.if-self.false
@@ -27,12 +27,21 @@ returns-in-Waits-clause-prepared g c =
     let taken = c.take_requests.new in
     let is = c.in-Waits.is in
     let asked =
-    subst (λ (s : Stream g.row.T.Denot g.row.R.Denot). Asked eq told c.args.now c.args.fuel s.schedule s.requests taken.scheduler taken.requests c.in-Ok.ending) c.self.view_is
+    subst (λ (s : Stream g.row.T.Denot g.row.R.Denot). Asked eq told c.args.now c.args.fuel s.schedule s.requests taken.scheduler taken.requests c.in-Ok.asks.0 c.in-Ok.asks.1) c.self.view_is
     c.in-Ok.ensures.asked in
-    prepared-by eq told c.args.now c.args.fuel c.args.self.now _ taken.scheduler c.in-Ok.ending asked
+    prepared-by eq told c.args.now c.args.fuel c.args.self.now _ taken.scheduler c.in-Ok.asks.0 asked
     (sym (ap (λ (s : Stream g.row.T.Denot g.row.R.Denot). s.is_over) c.self.view_is) ∙ c.if-self-2.false)
     (c.if-self-2.false ∙ sym (ap is_end is))
     c.if-self.false
     (c.settle.ensures.debounce ∙ c.take_requests.ensures.debounce ∙ ap (λ (s : Stream g.row.T.Denot g.row.R.Denot). s.schedule.debounce) c.self.view_is)
     (λ events qs h.
     subst (λ e. Stands eq c.settle.new.self (prepared e events qs c.args.now)) (sym is) (c.settle.ensures.stands (with_requests events qs c.args.now) h))
+
+pub returns-then-self-2-clause-prepared : goal.returns-then-self-2-clause-prepared
+returns-then-self-2-clause-prepared g c =
+    prepared-over g.T.PartialEq.eq g.R.Requests.told c.args.now c.args.fuel c.args.self.now _
+    (sym (ap (λ (s : Stream g.row.T.Denot g.row.R.Denot). s.is_over) c.self.view_is) ∙ c.if-self-2.true)
+    (ap (λ (s : Stream g.row.T.Denot g.row.R.Denot). s.requests) c.self.view_is)
+    c.if-self-2.true c.if-self.false
+    (c.clear.ensures.debounce ∙ ap (λ (s : Stream g.row.T.Denot g.row.R.Denot). s.schedule.debounce) c.self.view_is)
+    c.clear.ensures.stands

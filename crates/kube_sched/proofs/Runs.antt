@@ -1,0 +1,297 @@
+-- What runs, and what is started.
+use Rattle.std.proofs.Common.{◌≡◌, ℕ, ◌+◌, ◌-◌, ◌≤◌, ◌==◌, nat_lt, Bool, true, false, not, ◌&&◌, ◌||◌, cond, if◌then◌else◌, List, [], ◌∷◌, ◌++◌, length, Option, Some, None, is_some, refl, sym, ap, subst, ◌∙◌, ◌⊎◌, inl, inr, append_assoc, append-nil, arith, Result, Ok, Err}
+use Rattle.std.specs.Map.{lookup, remove_entry}
+use Rattle.std.proofs.lemmas.List.{length-append}
+use Rattle.std.proofs.lemmas.Bool.Decides.{nat_tests}
+use Rattle.indexmap.specs.IndexMap.{insert_entry}
+use Rattle.kube_meta.specs.declared.moment.Moment.{Moment}
+use Rattle.kube_meta.specs.declared.poll.Next.{Next}
+use Rattle.kube_meta.specs.declared.poll.Next.TheVariants.{Item}
+use Rattle.kube_sched.specs.declared.asks.Ending.{Ending}
+use Rattle.kube_sched.specs.declared.asks.Ending.TheVariants.{Waits}
+use Rattle.kube_sched.specs.Polls.{Stream, Answer, requests_in, CountedPoll}
+use Rattle.kube_sched.specs.Runs.{Runs, has_room, IsWithin, runs, MayStart, ending_by, Starts, Started, StartsAll, ReadinessPolled, RunnerPolled, Gave, Failed, Went, answer_after}
+use Rattle.kube_sched.specs.declared.runner.Error.{Error}
+use Rattle.kube_sched.specs.declared.runner.Error.TheVariants.{Readiness}
+use Rattle.kube_sched.specs.Futures.{AllPending, FirstReady}
+use Rattle.futures.specs.declared.task.Poll.{Poll}
+use Rattle.kube_sched.proofs.Futures.{length-pending, length-first}
+
+module _ {M F : Type 0} (same : M → M → Bool) where
+  -- a message of which no equal one runs goes last
+  pub put-absent : (es : List (M × F)) (k : M) (f : F) → runs same k es ≡ false → insert_entry same es k f ≡ es ++ (k, f) ∷ []
+  put-absent [] k f h = refl
+  put-absent (e ∷ es) k f h = go (same k e.0) h (put-absent es k f)
+    where
+      go : (b : Bool) → is_some (cond b (Some e.1) (lookup (same k) es)) ≡ false → (runs same k es ≡ false → insert_entry same es k f ≡ es ++ (k, f) ∷ [])
+          → (if b then (e.0, f) ∷ es else e ∷ insert_entry same es k f) ≡ e ∷ (es ++ (k, f) ∷ [])
+      go true h r = absurd (cc)
+      go false h r = ap (λ xs. e ∷ xs) (r h)
+
+room-within : (limit count : ℕ) → ((limit == 0) || nat_lt count limit) ≡ true → (limit ≡ 0) ⊎ (count + 1 ≤ limit)
+room-within limit count h = grind (arith, nat_tests)
+
+pub within-room : {M F : Type 0} (limit : ℕ) (es : List (M × F)) (e : M × F) → has_room limit es ≡ true → IsWithin limit (es ++ e ∷ [])
+within-room limit es e h =
+    subst (λ n. (limit ≡ 0) ⊎ (n ≤ limit)) (sym (length-append es (e ∷ []))) (room-within limit (length es) h)
+
+length-removed : {M F : Type 0} (test : M → Bool) (es : List (M × F)) → length (remove_entry test es) ≤ length es
+length-removed test [] = omega arith
+length-removed test (e ∷ es) = go (test e.0) (length-removed test es)
+  where
+    go : (b : Bool) → length (remove_entry test es) ≤ length es → length (cond b es (e ∷ remove_entry test es)) ≤ length (e ∷ es)
+    go true r = omega arith
+    go false r = omega arith
+
+pub within-removed : {M F : Type 0} (limit : ℕ) (test : M → Bool) (es : List (M × F)) → IsWithin limit es → IsWithin limit (remove_entry test es)
+within-removed limit test es (inl z) = inl z
+within-removed limit test es (inr w) = inr (let l = length-removed test es in omega arith)
+
+-- a message that may be started: some may, and no equal one runs
+pub may-room : (a b : Bool) → true ≡ (a && not b) → a ≡ true
+may-room true b h = refl
+may-room false b h = absurd (cc)
+
+pub may-absent : (a b : Bool) → true ≡ (a && not b) → b ≡ false
+may-absent true true h = absurd (cc)
+may-absent true false h = refl
+may-absent false b h = absurd (cc)
+
+pub not-true : (b : Bool) → not b ≡ true → b ≡ false
+not-true true h = absurd (cc)
+not-true false h = refl
+
+pub both-left : (a b : Bool) → a && b ≡ true → a ≡ true
+both-left true b h = refl
+both-left false b h = absurd (cc)
+
+pub both-right : (a b : Bool) → a && b ≡ true → b ≡ true
+both-right true b h = h
+both-right false b h = absurd (cc)
+
+pub started-by : {M R F C G : Type 0} (made_by : C → M → F → C → Type 0) (m : M) (f : F) (r1 r r' : Runs M R F C G) → r1 ≡ r → made_by r1.makes m f r'.makes
+    → r'.running ≡ r1.running ++ (m, f) ∷ [] → r' ≡ record r1 { makes = r'.makes; running = r'.running } → Started made_by m r r'
+started-by made_by m f r1 r r' e call run rest =
+    subst (λ x. Started made_by m x r') e
+    (record { future = f; made = call; rest = rest ∙ ap (λ xs. record r1 { makes = r'.makes; running = xs }) run })
+
+module _ {M R F C : Type 0} (same : M → M → Bool) (told : R → Option (List (Answer M))) (made : C → M → F → C → Type 0) (now : Moment) (is_ready : Bool) (limit : ℕ) where
+  -- none is started
+  pub starts-none : (fuel left : ℕ) (s s' : Stream M R) (c : C) (running : List (M × F)) (answer : Next M) (ending : Ending)
+      → CountedPoll same (MayStart same (is_ready && has_room limit running) running) told now fuel s s' answer left → ending_by answer ≡ Some ending
+      → Starts same told made now is_ready limit fuel s c running [] s' c ending
+  starts-none fuel left s s' c running answer ending p e = (refl, answer, p.polled, e)
+
+  -- one is, and then these
+  pub starts-more : (fuel left : ℕ) (s between : Stream M R) (c c1 : C) (running : List (M × F)) (m : M) (f : F) (es : List (M × F)) (s' : Stream M R) (c' : C) (ending : Ending)
+      → CountedPoll same (MayStart same (is_ready && has_room limit running) running) told now fuel s between (Item m) left → is_ready && has_room limit running ≡ true
+      → made c m f c1 → has_room limit (running ++ (m, f) ∷ []) ≡ true → Starts same told made now is_ready limit left between c1 (running ++ (m, f) ∷ []) es s' c' ending
+      → Starts same told made now is_ready limit fuel s c running ((m, f) ∷ es) s' c' ending
+  starts-more fuel left s between c c1 running m f es s' c' ending p may call room h =
+      let q = subst (λ b. CountedPoll same (MayStart same b running) told now fuel s between (Item m) left) may p in
+      let n : left ≡ fuel - length (requests_in q.polled.answers) = (let k = q.counted in omega arith) in
+      (may, between, c1, q.polled, call, inl (room, subst (λ k. Starts same told made now is_ready limit k between c1 (running ++ (m, f) ∷ []) es s' c' ending) n h))
+
+  -- the last is, since no more may run
+  pub starts-last : (fuel left : ℕ) (s between : Stream M R) (c c1 : C) (running : List (M × F)) (m : M) (f : F)
+      → CountedPoll same (MayStart same (is_ready && has_room limit running) running) told now fuel s between (Item m) left → is_ready && has_room limit running ≡ true
+      → made c m f c1 → has_room limit (running ++ (m, f) ∷ []) ≡ false
+      → Starts same told made now is_ready limit fuel s c running ((m, f) ∷ []) between c1 Waits
+  starts-last fuel left s between c c1 running m f p may call room =
+      let q = subst (λ b. CountedPoll same (MayStart same b running) told now fuel s between (Item m) left) may p in
+      (may, between, c1, q.polled, call, inr (room, refl, refl, refl, refl))
+
+-- These were started so far: what is started from here on is started after them.
+module _ {M R F C G : Type 0} (same : M → M → Bool) (told : R → Option (List (Answer M))) (made : C → M → F → C → Type 0) (now : Moment) where
+  pub record Starting (fuel : ℕ) (r : Runs M R F C G) (left : ℕ) (r' : Runs M R F C G) : Type 0 where
+    pub started : List (M × F)
+    pub goes_on : (es : List (M × F)) (s' : Stream M R) (c' : C) (ending : Ending)
+        → Starts same told made now (not (is_some r.readiness)) r.limit left r'.scheduler r'.makes r'.running es s' c' ending
+        → Starts same told made now (not (is_some r.readiness)) r.limit fuel r.scheduler r.makes r.running (started ++ es) s' c' ending
+    pub rest : r' ≡ record r { scheduler = r'.scheduler; makes = r'.makes; running = r.running ++ started }
+
+  pub starting-none : (fuel : ℕ) (r : Runs M R F C G) → Starting fuel r fuel r
+  starting-none fuel r = record {
+    started = [];
+    goes_on = λ es s' c' ending h. h;
+    rest = ap (λ xs. record r { running = xs }) (sym (append-nil r.running));
+  }
+
+  -- one round: a poll of the scheduler
+  pub record Round (left : ℕ) (r' r2 : Runs M R F C G) (answer : Next M) (more : ℕ) : Type 0 where
+    pub counted : CountedPoll same (MayStart same (not (is_some r'.readiness) && has_room r'.limit r'.running) r'.running) told now left r'.scheduler r2.scheduler answer more
+    pub passes : (m : M) → answer ≡ Item m → MayStart same (not (is_some r'.readiness) && has_room r'.limit r'.running) r'.running m true
+    pub rest : r2 ≡ record r' { scheduler = r2.scheduler }
+
+  -- where it gives no message
+  pub starting-ends : (fuel left more : ℕ) (r r' r2 : Runs M R F C G) (answer : Next M) (ending : Ending) → Starting fuel r left r' → Round left r' r2 answer more → ending_by answer ≡ Some ending
+      → StartsAll same told made now fuel r r2 ending
+  starting-ends fuel left more r r' r2 answer ending g d e =
+      let ready : r'.readiness ≡ r.readiness = ap (λ (x : Runs M R F C G). x.readiness) g.rest in
+      let limit : r'.limit ≡ r.limit = ap (λ (x : Runs M R F C G). x.limit) g.rest in
+      let p = subst (λ l. CountedPoll same (MayStart same (not (is_some r.readiness) && has_room l r'.running) r'.running) told now left r'.scheduler r2.scheduler answer more) limit
+      (subst (λ o. CountedPoll same (MayStart same (not (is_some o) && has_room r'.limit r'.running) r'.running) told now left r'.scheduler r2.scheduler answer more) ready d.counted) in
+      let makes : r2.makes ≡ r'.makes = ap (λ (x : Runs M R F C G). x.makes) d.rest in
+      let all = g.goes_on [] r2.scheduler r'.makes ending (starts-none same told made now (not (is_some r.readiness)) r.limit left more r'.scheduler r2.scheduler r'.makes r'.running answer ending p e) in
+      record {
+        started = g.started ++ [];
+        starts = subst (λ c. Starts same told made now (not (is_some r.readiness)) r.limit fuel r.scheduler r.makes r.running (g.started ++ []) r2.scheduler c ending) (sym makes) all;
+        rest =
+            d.rest
+            ∙ ap (λ (x : Runs M R F C G). record x { scheduler = r2.scheduler }) g.rest
+            ∙ ap (λ c. record r { scheduler = r2.scheduler; makes = c; running = r.running ++ g.started }) (sym makes)
+            ∙ ap (λ es. record r { scheduler = r2.scheduler; makes = r2.makes; running = r.running ++ es }) (sym (append-nil g.started));
+      }
+
+  -- a message is started, after which more may run
+  pub starting-more : (fuel left more : ℕ) (r r' r2 r3 : Runs M R F C G) (answer : Next M) (m : M) → Starting fuel r left r' → Round left r' r2 answer more → answer ≡ Item m
+      → Started made m r2 r3 → has_room r3.limit r3.running ≡ true → Starting fuel r more r3
+  starting-more fuel left more r r' r2 r3 answer m g d e t room = record {
+    started = g.started ++ (m, t.future) ∷ [];
+    goes_on = λ es s' c' ending h.
+        subst (λ xs. Starts same told made now (not (is_some r.readiness)) r.limit fuel r.scheduler r.makes r.running xs s' c' ending) (sym (append_assoc g.started ((m, t.future) ∷ []) es))
+        (g.goes_on ((m, t.future) ∷ es) s' c' ending
+        (starts-more same told made now (not (is_some r.readiness)) r.limit left more r'.scheduler r2.scheduler r'.makes r3.makes r'.running m t.future es s' c' ending
+        counted may call room1 (subst (λ xs. Starts same told made now (not (is_some r.readiness)) r.limit more r2.scheduler r3.makes xs es s' c' ending) runs3
+        (subst (λ s. Starts same told made now (not (is_some r.readiness)) r.limit more s r3.makes r3.running es s' c' ending) sched h))));
+    rest = after;
+  }
+    where
+      ready : r'.readiness ≡ r.readiness
+      ready = ap (λ (x : Runs M R F C G). x.readiness) g.rest
+
+      limit : r'.limit ≡ r.limit
+      limit = ap (λ (x : Runs M R F C G). x.limit) g.rest
+
+      sched : r3.scheduler ≡ r2.scheduler
+      sched = ap (λ (x : Runs M R F C G). x.scheduler) t.rest
+
+      limit3 : r3.limit ≡ r.limit
+      limit3 = ap (λ (x : Runs M R F C G). x.limit) t.rest ∙ ap (λ (x : Runs M R F C G). x.limit) d.rest ∙ limit
+
+      runs3 : r3.running ≡ r'.running ++ (m, t.future) ∷ []
+      runs3 = ap (λ (x : Runs M R F C G). x.running) t.rest ∙ ap (λ (x : Runs M R F C G). x.running ++ (m, t.future) ∷ []) d.rest
+
+      counted : CountedPoll same (MayStart same (not (is_some r.readiness) && has_room r.limit r'.running) r'.running) told now left r'.scheduler r2.scheduler (Item m) more
+      counted =
+          subst (λ a. CountedPoll same (MayStart same (not (is_some r.readiness) && has_room r.limit r'.running) r'.running) told now left r'.scheduler r2.scheduler a more) e
+          (subst (λ l. CountedPoll same (MayStart same (not (is_some r.readiness) && has_room l r'.running) r'.running) told now left r'.scheduler r2.scheduler answer more) limit
+          (subst (λ o. CountedPoll same (MayStart same (not (is_some o) && has_room r'.limit r'.running) r'.running) told now left r'.scheduler r2.scheduler answer more) ready d.counted))
+
+      may : not (is_some r.readiness) && has_room r.limit r'.running ≡ true
+      may =
+          subst (λ l. not (is_some r.readiness) && has_room l r'.running ≡ true) limit
+          (subst (λ o. not (is_some o) && has_room r'.limit r'.running ≡ true) ready (may-room _ _ (d.passes m e)))
+
+      call : made r'.makes m t.future r3.makes
+      call = subst (λ c. made c m t.future r3.makes) (ap (λ (x : Runs M R F C G). x.makes) d.rest) t.made
+
+      room1 : has_room r.limit (r'.running ++ (m, t.future) ∷ []) ≡ true
+      room1 = subst (λ xs. has_room r.limit xs ≡ true) runs3 (subst (λ l. has_room l r3.running ≡ true) limit3 room)
+
+      after : r3 ≡ record r { scheduler = r3.scheduler; makes = r3.makes; running = r.running ++ (g.started ++ (m, t.future) ∷ []) }
+      after =
+          t.rest
+          ∙ ap (λ (x : Runs M R F C G). record x { makes = r3.makes; running = x.running ++ (m, t.future) ∷ [] }) d.rest
+          ∙ ap (λ (x : Runs M R F C G). record x { scheduler = r2.scheduler; makes = r3.makes; running = x.running ++ (m, t.future) ∷ [] }) g.rest
+          ∙ ap (λ s. record r { scheduler = s; makes = r3.makes; running = (r.running ++ g.started) ++ (m, t.future) ∷ [] }) (sym sched)
+          ∙ ap (λ xs. record r { scheduler = r3.scheduler; makes = r3.makes; running = xs }) (append_assoc r.running g.started ((m, t.future) ∷ []))
+
+  -- the last is started
+  pub starting-last : (fuel left more : ℕ) (r r' r2 r3 : Runs M R F C G) (answer : Next M) (m : M) → Starting fuel r left r' → Round left r' r2 answer more → answer ≡ Item m
+      → Started made m r2 r3 → has_room r3.limit r3.running ≡ false → StartsAll same told made now fuel r r3 Waits
+  starting-last fuel left more r r' r2 r3 answer m g d e t room = record {
+    started = g.started ++ (m, t.future) ∷ [];
+    starts =
+        subst (λ s. Starts same told made now (not (is_some r.readiness)) r.limit fuel r.scheduler r.makes r.running (g.started ++ (m, t.future) ∷ []) s r3.makes Waits) (sym sched)
+        (g.goes_on ((m, t.future) ∷ []) r2.scheduler r3.makes Waits
+        (starts-last same told made now (not (is_some r.readiness)) r.limit left more r'.scheduler r2.scheduler r'.makes r3.makes r'.running m t.future counted may call room1));
+    rest = after;
+  }
+    where
+      ready : r'.readiness ≡ r.readiness
+      ready = ap (λ (x : Runs M R F C G). x.readiness) g.rest
+
+      limit : r'.limit ≡ r.limit
+      limit = ap (λ (x : Runs M R F C G). x.limit) g.rest
+
+      sched : r3.scheduler ≡ r2.scheduler
+      sched = ap (λ (x : Runs M R F C G). x.scheduler) t.rest
+
+      limit3 : r3.limit ≡ r.limit
+      limit3 = ap (λ (x : Runs M R F C G). x.limit) t.rest ∙ ap (λ (x : Runs M R F C G). x.limit) d.rest ∙ limit
+
+      runs3 : r3.running ≡ r'.running ++ (m, t.future) ∷ []
+      runs3 = ap (λ (x : Runs M R F C G). x.running) t.rest ∙ ap (λ (x : Runs M R F C G). x.running ++ (m, t.future) ∷ []) d.rest
+
+      counted : CountedPoll same (MayStart same (not (is_some r.readiness) && has_room r.limit r'.running) r'.running) told now left r'.scheduler r2.scheduler (Item m) more
+      counted =
+          subst (λ a. CountedPoll same (MayStart same (not (is_some r.readiness) && has_room r.limit r'.running) r'.running) told now left r'.scheduler r2.scheduler a more) e
+          (subst (λ l. CountedPoll same (MayStart same (not (is_some r.readiness) && has_room l r'.running) r'.running) told now left r'.scheduler r2.scheduler answer more) limit
+          (subst (λ o. CountedPoll same (MayStart same (not (is_some o) && has_room r'.limit r'.running) r'.running) told now left r'.scheduler r2.scheduler answer more) ready d.counted))
+
+      may : not (is_some r.readiness) && has_room r.limit r'.running ≡ true
+      may =
+          subst (λ l. not (is_some r.readiness) && has_room l r'.running ≡ true) limit
+          (subst (λ o. not (is_some o) && has_room r'.limit r'.running ≡ true) ready (may-room _ _ (d.passes m e)))
+
+      call : made r'.makes m t.future r3.makes
+      call = subst (λ c. made c m t.future r3.makes) (ap (λ (x : Runs M R F C G). x.makes) d.rest) t.made
+
+      room1 : has_room r.limit (r'.running ++ (m, t.future) ∷ []) ≡ false
+      room1 = subst (λ xs. has_room r.limit xs ≡ false) runs3 (subst (λ l. has_room l r3.running ≡ false) limit3 room)
+
+      after : r3 ≡ record r { scheduler = r3.scheduler; makes = r3.makes; running = r.running ++ (g.started ++ (m, t.future) ∷ []) }
+      after =
+          t.rest
+          ∙ ap (λ (x : Runs M R F C G). record x { makes = r3.makes; running = x.running ++ (m, t.future) ∷ [] }) d.rest
+          ∙ ap (λ (x : Runs M R F C G). record x { scheduler = r2.scheduler; makes = r3.makes; running = x.running ++ (m, t.future) ∷ [] }) g.rest
+          ∙ ap (λ s. record r { scheduler = s; makes = r3.makes; running = (r.running ++ g.started) ++ (m, t.future) ∷ [] }) (sym sched)
+          ∙ ap (λ xs. record r { scheduler = r3.scheduler; makes = r3.makes; running = xs }) (append_assoc r.running g.started ((m, t.future) ∷ []))
+
+-- What runs after a poll is within the limit.
+module _ {M F X : Type 0} (told : F → Option (List (Poll X))) (gives : F → X → Type 0) (limit : ℕ) (old new : List (M × F)) where
+  pub within-pending : AllPending told gives old new → IsWithin limit old → IsWithin limit new
+  within-pending h (inl z) = inl z
+  within-pending h (inr w) = inr (let l = length-pending told gives old new h in omega arith)
+
+  pub within-first : (x : X) → FirstReady told gives old new x → IsWithin limit old → IsWithin limit new
+  within-first x h (inl z) = inl z
+  within-first x h (inr w) = inr (let l = length-first told gives old new x h in omega arith)
+
+-- What a poll does and answers, by its course.
+module _ {M R F C G X E : Type 0} (same : M → M → Bool) (told : R → Option (List (Answer M))) (told_future : F → Option (List (Poll X))) (gives : F → X → Type 0)
+    (told_ready : G → Option (List (Poll (Result Unit E)))) (made : C → M → F → C → Type 0) (now : Moment) (fuel : ℕ) where
+  pub ran-gave : (r1 r r' : Runs M R F C G) (x : X) → r1 ≡ r → r1.is_stopped ≡ false → FirstReady told_future gives r1.running r'.running x
+      → r' ≡ record r1 { running = r'.running } → RunnerPolled same told told_future gives told_ready made now fuel r r' (Item (Ok x))
+  ran-gave r1 r r' x e stopped first rest =
+      subst (λ k. RunnerPolled same told told_future gives told_ready made now fuel k r' (Item (Ok x))) e
+      (record { course = Gave x; follows = (stopped, first, rest); answers = refl })
+
+  pub ran-failed : (r1 r r' : Runs M R F C G) (error : E) → r1 ≡ r → r1.is_stopped ≡ false → AllPending told_future gives r1.running r'.running
+      → ReadinessPolled told_ready r1.readiness r'.readiness (Some error)
+      → r' ≡ record r1 { running = r'.running; readiness = r'.readiness; is_stopped = true }
+      → RunnerPolled same told told_future gives told_ready made now fuel r r' (Item (Err (Readiness error)))
+  ran-failed r1 r r' error e stopped pending failed rest =
+      subst (λ k. RunnerPolled same told told_future gives told_ready made now fuel k r' (Item (Err (Readiness error)))) e
+      (record { course = Failed error; follows = (stopped, pending, failed, rest); answers = refl })
+
+  pub ran-went : (r1 r r' : Runs M R F C G) (polled : List (M × F)) (readiness : Option G) (ending : Ending) (answer : Next (Result X (Error E))) → r1 ≡ r → r1.is_stopped ≡ false
+      → AllPending told_future gives r1.running polled → ReadinessPolled told_ready r1.readiness readiness None
+      → StartsAll same told made now fuel (record r1 { running = polled; readiness = readiness }) r' ending → answer ≡ answer_after ending r'.running
+      → RunnerPolled same told told_future gives told_ready made now fuel r r' answer
+  ran-went r1 r r' polled readiness ending answer e stopped pending waits all is =
+      let ready : r'.readiness ≡ readiness = ap (λ (x : Runs M R F C G). x.readiness) all.rest in
+      subst (λ k. RunnerPolled same told told_future gives told_ready made now fuel k r' answer) e
+      (record {
+        course = Went all.started ending;
+        follows = (
+          stopped,
+          polled,
+          pending,
+          subst (λ o. ReadinessPolled told_ready r1.readiness o None) (sym ready) waits,
+          subst (λ o. Starts same told made now (not (is_some o)) r1.limit fuel r1.scheduler r1.makes polled all.started r'.scheduler r'.makes ending) (sym ready) all.starts,
+          all.rest ∙ ap (λ o. record r1 { scheduler = r'.scheduler; makes = r'.makes; running = polled ++ all.started; readiness = o }) (sym ready),
+        );
+        answers = is;
+      })

@@ -1,0 +1,138 @@
+-- What a poll of a runner does. (Crate: `Runner`.)
+use Rattle.std.specs.Prelude.{◌≡◌, ℕ, ◌-◌, ◌==◌, ◌≤◌, nat_lt, Bool, true, false, not, ◌&&◌, ◌||◌, List, [], ◌∷◌, ◌++◌, length, Option, Some, None, is_some, Ok, Err, Result, ◌⊎◌}
+use Rattle.std.specs.Map.{lookup}
+use Rattle.std.specs.Fn.{CalledAt, Mut}
+use Rattle.std.specs.Borrow.{Bor}
+use Rattle.futures.specs.declared.task.Poll.{Poll}
+use Rattle.futures.specs.declared.task.Poll.TheVariants.{Ready as ReadyNow, Pending}
+use Rattle.kube_meta.specs.declared.moment.Moment.{Moment}
+use Rattle.kube_meta.specs.declared.poll.Next.{Next}
+use Rattle.kube_meta.specs.declared.poll.Next.TheVariants.{Item, NotReady, Spent, End}
+use Rattle.kube_model.specs.Raw.{grown}
+use Rattle.kube_sched.specs.declared.asks.Ending.{Ending}
+use Rattle.kube_sched.specs.declared.asks.Ending.TheVariants.{Filled, Waits, Ends}
+use Rattle.kube_sched.specs.declared.runner.Error.{Error}
+use Rattle.kube_sched.specs.declared.runner.Error.TheVariants.{Readiness}
+use Rattle.kube_sched.specs.Polls.{Stream, Answer, requests_in, Polled}
+use Rattle.kube_sched.specs.Futures.{AllPending, FirstReady}
+
+-- a runner: its messages, what makes a future of one, the futures that run, in the order in which they were started,
+-- the future whose readiness is waited for, if it hasn't come, how many may run (0: any number), whether readiness
+-- failed, and whether memory was wanted. M are messages, R requests, F futures, C what makes them, G readiness
+pub record Runs (M R F C G : Type 0) : Type 0 where
+  pub scheduler : Stream M R
+  pub makes : C
+  pub running : List (M × F)
+  pub readiness : Option G
+  pub limit : ℕ
+  pub is_stopped : Bool
+  pub is_spent : Bool
+
+-- whether one more may run
+abbrev pub has_room : {M F : Type 0} → ℕ → List (M × F) → Bool
+has_room limit running = (limit == 0) || nat_lt (length running) limit
+
+-- not more run than may
+abbrev pub IsWithin : {M F : Type 0} → ℕ → List (M × F) → Type 0
+IsWithin limit running = (limit ≡ 0) ⊎ (length running ≤ limit)
+
+-- whether an equal message runs
+abbrev pub runs : {M F : Type 0} → (M → M → Bool) → M → List (M × F) → Bool
+runs same m running = is_some (lookup (same m) running)
+
+-- a message may be started where some may, and no equal one runs
+abbrev pub MayStart : {M F : Type 0} → (M → M → Bool) → Bool → List (M × F) → M → Bool → Type 0
+MayStart same may running m passes = passes ≡ (may && not (runs same m running))
+
+-- how the asks ended, where a poll gave no message
+abbrev pub ending_by : {M : Type 0} → Next M → Option Ending
+ending_by (Item m) = None
+ending_by NotReady = Some Waits
+ending_by Spent = Some Filled
+ending_by End = Some Ends
+
+-- what a poll of the readiness does, which isn't polled once it has come, and the error where it failed
+abbrev pub ReadinessPolled : {G E : Type 0} → (G → Option (List (Poll (Result Unit E)))) → Option G → Option G → Option E → Type 0
+ReadinessPolled told None None None = Unit {0}
+ReadinessPolled told (Some g) (Some g') None = told g' ≡ grown (told g) Pending
+ReadinessPolled {G} told (Some g) None None = (left : G) × (told left ≡ grown (told g) (ReadyNow (Ok tt)))
+ReadinessPolled {G} told (Some g) None (Some e) = (left : G) × (told left ≡ grown (told g) (ReadyNow (Err e)))
+ReadinessPolled told None (Some g') failed = ⊥
+ReadinessPolled told None None (Some e) = ⊥
+ReadinessPolled told (Some g) (Some g') (Some e) = ⊥
+
+module _ {M R F C : Type 0} (same : M → M → Bool) (told : R → Option (List (Answer M))) (made : C → M → F → C → Type 0) (now : Moment) (is_ready : Bool) (limit : ℕ) where
+  -- the messages that a call starts, with their futures: each is the first of a poll of the scheduler, which takes
+  -- requests until none is ready and lets wait what is due, that may be started. So on until none is left, no more may
+  -- run, the requests have ended or so many requests as may be were taken by all these polls
+  abbrev pub Starts : ℕ → Stream M R → C → List (M × F) → List (M × F) → Stream M R → C → Ending → Type 0
+  Starts fuel s c running [] s' c' ending =
+      (c' ≡ c) × (answer : Next M) × Polled same (MayStart same (is_ready && has_room limit running) running) told now fuel s s' answer × (ending_by answer ≡ Some ending)
+  Starts fuel s c running (e ∷ es) s' c' ending =
+      (is_ready && has_room limit running ≡ true)
+      × (between : Stream M R) × (left : C)
+      × (p : Polled same (MayStart same true running) told now fuel s between (Item e.0))
+      × made c e.0 e.1 left
+      × (((has_room limit (running ++ e ∷ []) ≡ true) × Starts (fuel - length (requests_in p.answers)) between left (running ++ e ∷ []) es s' c' ending)
+      ⊎ ((has_room limit (running ++ e ∷ []) ≡ false) × (es ≡ []) × (s' ≡ between) × (c' ≡ left) × (ending ≡ Waits)))
+
+-- a message was started: its future is what was made of it, and runs behind the others
+pub record Started {M R F C G : Type 0} (made_by : C → M → F → C → Type 0) (m : M) (r r' : Runs M R F C G) : Type 0 where
+  pub future : F
+  pub made : made_by r.makes m future r'.makes
+  pub rest : r' ≡ record r { makes = r'.makes; running = r.running ++ (m, future) ∷ [] }
+
+-- what is started in a call
+pub record StartsAll {M R F C G : Type 0} (same : M → M → Bool) (told : R → Option (List (Answer M))) (made : C → M → F → C → Type 0) (now : Moment) (fuel : ℕ)
+    (r r' : Runs M R F C G) (ending : Ending) : Type 0 where
+  pub started : List (M × F)
+  pub starts : Starts same told made now (not (is_some r.readiness)) r.limit fuel r.scheduler r.makes r.running started r'.scheduler r'.makes ending
+  pub rest : r' ≡ record r { scheduler = r'.scheduler; makes = r'.makes; running = r.running ++ started }
+
+-- each future that is made may be polled
+abbrev pub MakesFutures : {M F C : Type 0} → Mut C (Bor M × Unit {0}) F → (F → Type 0) → Type 0
+MakesFutures {M} {F} {C} makes can = (c c' : C) (m : M) (f : F) → CalledAt makes c m f c' → can f
+
+-- the course of a poll: there is nothing more after a failed readiness; a future that runs gave a result; the
+-- readiness failed; or these were started, and the asks ended so
+pub data Course (M F X E : Type 0) : Type 0 where
+  Over : Course M F X E
+  Gave : (result : X) → Course M F X E
+  Failed : (error : E) → Course M F X E
+  Went : (started : List (M × F)) (ending : Ending) → Course M F X E
+
+-- the answer that is no result, after asks that ended so, where these run
+abbrev pub answer_after : {M F A : Type 0} → Ending → List (M × F) → Next A
+answer_after Filled running = Spent
+answer_after Waits running = NotReady
+answer_after Ends [] = End
+answer_after Ends (e ∷ es) = NotReady
+
+-- its answer, where these run after it
+abbrev pub answer_of : {M F X E : Type 0} → Course M F X E → List (M × F) → Next (Result X (Error E))
+answer_of Over running = End
+answer_of (Gave x) running = Item (Ok x)
+answer_of (Failed e) running = Item (Err (Readiness e))
+answer_of (Went started ending) running = answer_after ending running
+
+module _ {M R F C G X E : Type 0} (same : M → M → Bool) (told : R → Option (List (Answer M))) (told_future : F → Option (List (Poll X))) (gives : F → X → Type 0)
+    (told_ready : G → Option (List (Poll (Result Unit E)))) (made : C → M → F → C → Type 0) (now : Moment) (fuel : ℕ) where
+  -- what a poll of this course does: a result comes first, then a failed readiness, then what is started
+  abbrev pub Follows : Course M F X E → Runs M R F C G → Runs M R F C G → Type 0
+  Follows Over r r' = (r.is_stopped ≡ true) × (r' ≡ r)
+  Follows (Gave x) r r' =
+      (r.is_stopped ≡ false) × FirstReady told_future gives r.running r'.running x × (r' ≡ record r { running = r'.running })
+  Follows (Failed e) r r' =
+      (r.is_stopped ≡ false) × AllPending told_future gives r.running r'.running × ReadinessPolled told_ready r.readiness r'.readiness (Some e)
+      × (r' ≡ record r { running = r'.running; readiness = r'.readiness; is_stopped = true })
+  Follows (Went started ending) r r' =
+      (r.is_stopped ≡ false)
+      × (polled : List (M × F)) × AllPending told_future gives r.running polled × ReadinessPolled told_ready r.readiness r'.readiness None
+      × Starts same told made now (not (is_some r'.readiness)) r.limit fuel r.scheduler r.makes polled started r'.scheduler r'.makes ending
+      × (r' ≡ record r { scheduler = r'.scheduler; makes = r'.makes; running = polled ++ started; readiness = r'.readiness })
+
+  -- what a poll does and answers
+  pub record RunnerPolled (r r' : Runs M R F C G) (answer : Next (Result X (Error E))) : Type 0 where
+    pub course : Course M F X E
+    pub follows : Follows course r r'
+    pub answers : answer ≡ answer_of course r'.running
