@@ -256,15 +256,24 @@ fn a_watch_that_fails_leaves_the_open_one(rt: HostRuntime) -> Result<(), Fail> {
     polls(&rt, &mut api, 0, "a")
 }
 
-/// Which call it is, and its token or version.
-fn shown_call(call: &Recording) -> (&str, &str) {
+/// Which call it is.
+fn kind_of(call: &Recording) -> &str {
+    match call {
+        Recording::List(_) => "list",
+        Recording::Watch(_, _) => "watch",
+        Recording::Next => "next",
+    }
+}
+
+/// Its token or version.
+fn text_of(call: &Recording) -> &str {
     match call {
         Recording::List(params) => match &params.continue_token {
-            Some(token) => ("list", token.as_str()),
-            None => ("list", "first"),
+            Some(token) => token.as_str(),
+            None => "first",
         },
-        Recording::Watch(_, version) => ("watch", version.as_str()),
-        Recording::Next => ("next", ""),
+        Recording::Watch(_, version) => version.as_str(),
+        Recording::Next => "",
     }
 }
 
@@ -277,28 +286,56 @@ fn check_calls(
     let recordings = api.get_recordings();
     assert_eq!(rt; recordings.len(), wanted.len());
     for (call, wanted) in recordings.iter().zip(wanted) {
-        assert_eq!(rt; shown_call(call), *wanted);
+        let (kind, text) = *wanted;
+        assert_eq!(rt; kind_of(call), kind);
+        assert_eq!(rt; text_of(call), text);
     }
     Ok(())
 }
 
-/// Two pages.
-fn ask_pages(alloc: Global, api: &mut TestMode<DynamicObject>) -> Result<(), NoMemory> {
-    let _page = api.list(alloc, &any_list(), Moment(0))?;
-    let second = ListParams {
+fn ask_list(
+    alloc: Global,
+    api: &mut TestMode<DynamicObject>,
+    params: &ListParams,
+) -> Result<(), NoMemory> {
+    let _page = api.list(alloc, params, Moment(0))?;
+    Ok(())
+}
+
+/// The parameters of a list's second page.
+fn second_page(alloc: Global) -> Result<ListParams, NoMemory> {
+    Ok(ListParams {
         continue_token: Some(Text::new(alloc, "t")?),
         ..any_list()
-    };
-    let _page = api.list(alloc, &second, Moment(0))?;
+    })
+}
+
+/// Two pages.
+fn ask_pages(alloc: Global, api: &mut TestMode<DynamicObject>) -> Result<(), NoMemory> {
+    ask_list(alloc, api, &any_list())?;
+    ask_list(alloc, api, &second_page(alloc)?)
+}
+
+fn ask_watch(
+    alloc: Global,
+    api: &mut TestMode<DynamicObject>,
+    version: &str,
+    moment: u64,
+) -> Result<(), NoMemory> {
+    let _opened = api.watch(alloc, &any_watch(), version, Moment(moment))?;
+    Ok(())
+}
+
+fn ask_next(alloc: Global, api: &mut TestMode<DynamicObject>) -> Result<(), NoMemory> {
+    let _event = api.next(alloc, Moment(1))?;
     Ok(())
 }
 
 /// A watch, a look at it, and another watch.
 fn ask_watches(alloc: Global, api: &mut TestMode<DynamicObject>) -> Result<(), NoMemory> {
-    let _opened = api.watch(alloc, &any_watch(), "9", Moment(0))?;
-    let _event = api.next(alloc, Moment(1))?;
-    let _opened = api.watch(alloc, &any_watch(), "", Moment(2))?;
-    Ok(())
+    ask_watch(alloc, api, "9", 0)?;
+    ask_next(alloc, api)?;
+    ask_watch(alloc, api, "", 2)
 }
 
 #[test]
