@@ -52,9 +52,10 @@ fn page(alloc: Global, name: &str, version: &str) -> Result<Listed, NoMemory> {
 }
 
 fn object(alloc: Global, name: &str) -> Result<DynamicObject, NoMemory> {
-    let mut metadata = ObjectMeta::empty();
-    metadata.name = Some(Text::new(alloc, name)?);
-    Ok(DynamicObject::bare(metadata))
+    Ok(DynamicObject::bare(ObjectMeta {
+        name: Some(Text::new(alloc, name)?),
+        ..ObjectMeta::empty()
+    }))
 }
 
 /// An object of a name was added.
@@ -120,17 +121,55 @@ fn shown(answer: &Polled<Option<Event>>) -> &str {
     }
 }
 
-#[test]
-fn lists_are_answered_until_none_is_left(rt: HostRuntime) -> Result<(), Fail> {
-    let alloc = rt.alloc();
+/// A list call is answered so.
+fn lists<R: Abort + AllocGlobal>(
+    rt: &R,
+    api: &mut TestMode<DynamicObject>,
+    wanted: &str,
+) -> Result<(), Fail> {
+    let answer = api.list(rt.alloc(), &any_list(), Moment(0))?;
+    assert_eq!(rt; shown_list(&answer), wanted);
+    Ok(())
+}
+
+/// A watch call at a moment is answered so.
+fn watches<R: Abort + AllocGlobal>(
+    rt: &R,
+    api: &mut TestMode<DynamicObject>,
+    moment: u64,
+    wanted: &str,
+) -> Result<(), Fail> {
+    let answer = api.watch(rt.alloc(), &any_watch(), "1", Moment(moment))?;
+    assert_eq!(rt; shown_watch(&answer), wanted);
+    Ok(())
+}
+
+/// A poll of the open watch at a moment is answered so.
+fn polls<R: Abort + AllocGlobal>(
+    rt: &R,
+    api: &mut TestMode<DynamicObject>,
+    moment: u64,
+    wanted: &str,
+) -> Result<(), Fail> {
+    let answer = api.next(rt.alloc(), Moment(moment))?;
+    assert_eq!(rt; shown(&answer), wanted, "at {moment}");
+    Ok(())
+}
+
+/// An API that answers two pages, and a fault between them.
+fn listed(alloc: Global) -> Result<TestMode<DynamicObject>, NoMemory> {
     let mut lists = Vec::new(alloc);
     lists.push(page(alloc, "a", "1")?)?;
     lists.push(Err(fault(alloc, "unreachable")?))?;
     lists.push(page(alloc, "b", "2")?)?;
-    let mut api = TestMode::new(alloc, lists, Vec::new(alloc));
+    Ok(TestMode::new(alloc, lists, Vec::new(alloc)))
+}
+
+#[test]
+fn lists_are_answered_until_none_is_left(rt: HostRuntime) -> Result<(), Fail> {
+    let mut api = listed(rt.alloc())?;
     for wanted in ["a", "unreachable", "b", "empty", "empty"] {
-        let answer = api.list(alloc, &any_list(), Moment(0))?;
-        assert_eq!(rt; shown_list(&answer), wanted);
+        lists(&rt, &mut api, wanted)?;
     }
     Ok(())
 }
@@ -147,17 +186,20 @@ fn waiting(alloc: Global) -> Result<Sequence<DynamicObject>, NoMemory> {
     Ok(Sequence::new(steps))
 }
 
-#[test]
-fn silences_and_events_come_in_their_order(rt: HostRuntime) -> Result<(), Fail> {
-    let alloc = rt.alloc();
+/// An API that is watched once.
+fn watched(alloc: Global) -> Result<TestMode<DynamicObject>, NoMemory> {
     let mut watches = Vec::new(alloc);
     watches.push(waiting(alloc)?)?;
-    let mut api = TestMode::new(alloc, Vec::new(alloc), watches);
-    let before = api.next(alloc, Moment(0))?;
-    assert_eq!(rt; shown(&before), "end", "no watch is open");
-    let opened = api.watch(alloc, &any_watch(), "1", Moment(1))?;
-    assert_eq!(rt; shown_watch(&opened), "open");
-    let polls = [
+    Ok(TestMode::new(alloc, Vec::new(alloc), watches))
+}
+
+#[test]
+fn silences_and_events_come_in_their_order(rt: HostRuntime) -> Result<(), Fail> {
+    let mut api = watched(rt.alloc())?;
+    // No watch is open.
+    polls(&rt, &mut api, 0, "end")?;
+    watches(&rt, &mut api, 1, "open")?;
+    let wanted = [
         (2, "a"),
         (10, "not ready"),
         (14, "not ready"),
@@ -167,64 +209,71 @@ fn silences_and_events_come_in_their_order(rt: HostRuntime) -> Result<(), Fail> 
         (15, "end"),
         (16, "end"),
     ];
-    for (moment, wanted) in polls {
-        let answer = api.next(alloc, Moment(moment))?;
-        assert_eq!(rt; shown(&answer), wanted, "at {moment}");
+    for (moment, wanted) in wanted {
+        polls(&rt, &mut api, moment, wanted)?;
     }
     Ok(())
 }
 
-#[test]
-fn a_watch_takes_the_place_of_the_open_one(rt: HostRuntime) -> Result<(), Fail> {
-    let alloc = rt.alloc();
-    let mut watches = Vec::new(alloc);
-    watches.push(waiting(alloc)?)?;
+/// Two bookmarks.
+fn bookmarks(alloc: Global) -> Result<Sequence<DynamicObject>, NoMemory> {
     let mut steps = Vec::new(alloc);
     steps.push(one(alloc, bookmark(alloc, "8")?)?)?;
     steps.push(one(alloc, bookmark(alloc, "9")?)?)?;
-    watches.push(Sequence::new(steps))?;
+    Ok(Sequence::new(steps))
+}
+
+/// An API that is watched three times, the last time without an event.
+fn watched_thrice(alloc: Global) -> Result<TestMode<DynamicObject>, NoMemory> {
+    let mut watches = Vec::new(alloc);
+    watches.push(waiting(alloc)?)?;
+    watches.push(bookmarks(alloc)?)?;
     watches.push(Sequence::default(alloc))?;
-    let mut api = TestMode::new(alloc, Vec::new(alloc), watches);
-    let exhausted = "TestMode watch sequence exhausted";
+    Ok(TestMode::new(alloc, Vec::new(alloc), watches))
+}
+
+#[test]
+fn a_watch_takes_the_place_of_the_open_one(rt: HostRuntime) -> Result<(), Fail> {
+    let mut api = watched_thrice(rt.alloc())?;
     let calls = [
         ("open", "a"),
         ("open", "8"),
         ("open", "end"),
-        (exhausted, "end"),
+        ("TestMode watch sequence exhausted", "end"),
     ];
     for (wanted, event) in calls {
-        let answer = api.watch(alloc, &any_watch(), "1", Moment(0))?;
-        assert_eq!(rt; shown_watch(&answer), wanted);
-        let answer = api.next(alloc, Moment(0))?;
-        assert_eq!(rt; shown(&answer), event);
+        watches(&rt, &mut api, 0, wanted)?;
+        polls(&rt, &mut api, 0, event)?;
     }
     Ok(())
 }
 
 #[test]
 fn a_watch_that_fails_leaves_the_open_one(rt: HostRuntime) -> Result<(), Fail> {
-    let alloc = rt.alloc();
-    let mut watches = Vec::new(alloc);
-    watches.push(waiting(alloc)?)?;
-    let mut api = TestMode::new(alloc, Vec::new(alloc), watches);
-    for wanted in ["open", "TestMode watch sequence exhausted"] {
-        let answer = api.watch(alloc, &any_watch(), "1", Moment(0))?;
-        assert_eq!(rt; shown_watch(&answer), wanted);
-    }
-    let answer = api.next(alloc, Moment(0))?;
-    assert_eq!(rt; shown(&answer), "a");
-    Ok(())
+    let mut api = watched(rt.alloc())?;
+    watches(&rt, &mut api, 0, "open")?;
+    watches(&rt, &mut api, 0, "TestMode watch sequence exhausted")?;
+    polls(&rt, &mut api, 0, "a")
 }
 
-/// Which call it is, and its token or version.
-fn shown_call(call: &Recording) -> (&str, &str) {
+/// Which call it is.
+fn kind_of(call: &Recording) -> &str {
+    match call {
+        Recording::List(_) => "list",
+        Recording::Watch(_, _) => "watch",
+        Recording::Next => "next",
+    }
+}
+
+/// Its token or version.
+fn text_of(call: &Recording) -> &str {
     match call {
         Recording::List(params) => match &params.continue_token {
-            Some(token) => ("list", token.as_str()),
-            None => ("list", "first"),
+            Some(token) => token.as_str(),
+            None => "first",
         },
-        Recording::Watch(_, version) => ("watch", version.as_str()),
-        Recording::Next => ("next", ""),
+        Recording::Watch(_, version) => version.as_str(),
+        Recording::Next => "",
     }
 }
 
@@ -237,29 +286,56 @@ fn check_calls(
     let recordings = api.get_recordings();
     assert_eq!(rt; recordings.len(), wanted.len());
     for (call, wanted) in recordings.iter().zip(wanted) {
-        let (kind, text) = shown_call(call);
-        let (wanted_kind, wanted_text) = *wanted;
-        assert_eq!(rt; kind, wanted_kind);
-        assert_eq!(rt; text, wanted_text);
+        let (kind, text) = *wanted;
+        assert_eq!(rt; kind_of(call), kind);
+        assert_eq!(rt; text_of(call), text);
     }
     Ok(())
 }
 
+fn ask_list(
+    alloc: Global,
+    api: &mut TestMode<DynamicObject>,
+    params: &ListParams,
+) -> Result<(), NoMemory> {
+    let _page = api.list(alloc, params, Moment(0))?;
+    Ok(())
+}
+
+/// The parameters of a list's second page.
+fn second_page(alloc: Global) -> Result<ListParams, NoMemory> {
+    Ok(ListParams {
+        continue_token: Some(Text::new(alloc, "t")?),
+        ..any_list()
+    })
+}
+
 /// Two pages.
 fn ask_pages(alloc: Global, api: &mut TestMode<DynamicObject>) -> Result<(), NoMemory> {
-    let mut second = any_list();
-    second.continue_token = Some(Text::new(alloc, "t")?);
-    let _page = api.list(alloc, &any_list(), Moment(0))?;
-    let _page = api.list(alloc, &second, Moment(0))?;
+    ask_list(alloc, api, &any_list())?;
+    ask_list(alloc, api, &second_page(alloc)?)
+}
+
+fn ask_watch(
+    alloc: Global,
+    api: &mut TestMode<DynamicObject>,
+    version: &str,
+    moment: u64,
+) -> Result<(), NoMemory> {
+    let _opened = api.watch(alloc, &any_watch(), version, Moment(moment))?;
+    Ok(())
+}
+
+fn ask_next(alloc: Global, api: &mut TestMode<DynamicObject>) -> Result<(), NoMemory> {
+    let _event = api.next(alloc, Moment(1))?;
     Ok(())
 }
 
 /// A watch, a look at it, and another watch.
 fn ask_watches(alloc: Global, api: &mut TestMode<DynamicObject>) -> Result<(), NoMemory> {
-    let _opened = api.watch(alloc, &any_watch(), "9", Moment(0))?;
-    let _event = api.next(alloc, Moment(1))?;
-    let _opened = api.watch(alloc, &any_watch(), "", Moment(2))?;
-    Ok(())
+    ask_watch(alloc, api, "9", 0)?;
+    ask_next(alloc, api)?;
+    ask_watch(alloc, api, "", 2)
 }
 
 #[test]
@@ -297,22 +373,31 @@ fn check_page(
 }
 
 #[test]
-fn pages_are_made_part_by_part(rt: HostRuntime) -> Result<(), Fail> {
-    let alloc = rt.alloc();
-    let empty: Page<DynamicObject> = ResultPage::empty(alloc).into_page();
-    check_page(&rt, &empty, &[], None, None)?;
+fn an_empty_page_has_nothing(rt: HostRuntime) -> Result<(), Fail> {
+    let empty = ResultPage::empty(rt.alloc()).into_page();
+    check_page(&rt, &empty, &[], None, None)
+}
+
+/// A page of two objects with a token and a version.
+fn two_objects(alloc: Global) -> Result<Page<DynamicObject>, NoMemory> {
     let mut items = Vec::new(alloc);
     items.push(Arc::new(alloc, object(alloc, "a")?)?)?;
     items.push(Arc::new(alloc, object(alloc, "b")?)?)?;
-    let page = ResultPage::empty(alloc)
-        .continue_token(alloc, Some("t"))?
-        .resource_version(alloc, Some("9"))?
-        .items(items);
-    let page = page.into_page();
-    check_page(&rt, &page, &["a", "b"], Some("t"), Some("9"))?;
-    let last: Page<DynamicObject> = ResultPage::empty(alloc)
-        .continue_token(alloc, Some("t"))?
-        .continue_token(alloc, None)?
-        .into_page();
+    let page = ResultPage::empty(alloc).continue_token(alloc, Some("t"))?;
+    let page = page.resource_version(alloc, Some("9"))?;
+    Ok(page.items(items).into_page())
+}
+
+#[test]
+fn pages_are_made_part_by_part(rt: HostRuntime) -> Result<(), Fail> {
+    let page = two_objects(rt.alloc())?;
+    check_page(&rt, &page, &["a", "b"], Some("t"), Some("9"))
+}
+
+#[test]
+fn the_last_token_stays(rt: HostRuntime) -> Result<(), Fail> {
+    let alloc = rt.alloc();
+    let page = ResultPage::empty(alloc).continue_token(alloc, Some("t"))?;
+    let last = page.continue_token(alloc, None)?.into_page();
     check_page(&rt, &last, &[], None, None)
 }
