@@ -4,7 +4,6 @@ ghost use Rattle.std.specs.Prelude.{◌≡◌, ℕ, List, Option, map, IfOk};
 ghost use Rattle.kube_meta.specs.declared.poll.Polled.TheVariants.{Ready};
 ghost use Rattle.kube_meta.specs.Reading.{ObjectData as object_record};
 ghost use Rattle.kube_meta.specs.declared.dynamic.ApiResource.{ApiResource as resource_record};
-ghost use Rattle.kube_meta.specs.Reference.{api_version as api_version_of};
 ghost use Rattle.kube_model.specs.Raw.{RawAnswer};
 ghost use Rattle.kube_model.specs.History.{Turn as plain_turn};
 ghost use Rattle.kube_api.specs.Answers.{list_answer};
@@ -18,7 +17,7 @@ use crate::row::{Row, has_member, is_object, list_member, maybe_member, member, 
 use crate::script_object::ScriptObject;
 use kube_api::{ApiError, Page, Sequence, SequenceStep};
 use kube_control::{Shutdown, Turn};
-use kube_meta::{ApiResource, List, Moment, NoMemory, Text, read_object};
+use kube_meta::{ApiResource, List, Moment, NoMemory, Text, api_version, read_object};
 use serde_json::Value;
 use std::alloc::Global;
 
@@ -57,7 +56,7 @@ impl Row for ApiResource {
         let version: Text = member(alloc, value, "version")?;
         let kind = member(alloc, value, "kind")?;
         let plural = member(alloc, value, "plural")?;
-        let api_version = api_version(alloc, &group, &version)?;
+        let api_version = api_version(alloc, group.as_str(), version.as_str())?;
         Ok(ApiResource {
             group,
             version,
@@ -66,19 +65,6 @@ impl Row for ApiResource {
             plural,
         })
     }
-}
-
-/// A group and a version as an object's `apiVersion` has them (Kubernetes API concept "API groups").
-fn api_version(alloc: Global, group: &Text, version: &Text) -> Result<Text, NoMemory>
-    ensures { IfOk result (λ t. t ≡ api_version_of group.now version.now) }
-{
-    if group.is_empty() {
-        return version.copy(alloc);
-    }
-    let mut text = String::from_str(alloc, group.as_str())?;
-    text.push('/')?;
-    text.push_str(version.as_str())?;
-    Ok(Text::from(text))
 }
 
 impl Row for ScriptObject {
