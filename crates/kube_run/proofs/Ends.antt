@@ -1,7 +1,7 @@
 -- An input has one end, and what may be written of it before begins its text.
 use Rattle.std.proofs.Common.{◌≡◌, ◌<◌, ◌≤◌, ◌+◌, ◌⊎◌, inl, inr, ℕ, zero, suc, List, [], ◌∷◌, ◌++◌, Some, Result, Ok, Err, false, length, take, drop, slice_get, refl, sym, ap, subst, ◌∙◌, append-nil, append_assoc, length-append, arith}
 use Rattle.std.specs.List.{AllZip}
-use Rattle.kube_meta.specs.declared.dynamic.DynamicObject.{DynamicObject}
+use Rattle.kube_meta.specs.Reading.{ObjectData}
 use Rattle.kube_meta.specs.Reference.{ObjectType}
 use Rattle.kube_meta.specs.Resources.{resource_type}
 use Rattle.kube_model.specs.History.{Step, Turn, TurnRecord}
@@ -22,13 +22,13 @@ use Rattle.kube_run.specs.declared.status.Status.TheVariants as status
 use Rattle.kube_run.proofs.Played.{take-twice}
 
 abbrev Api : Type 0
-Api = api.Script DynamicObject
+Api = api.Script ObjectData
 
 abbrev Records : Type 0
-Records = List (TurnRecord DynamicObject)
+Records = List (TurnRecord ObjectData)
 
 -- a script answers one way
-pub one-way : IsOneWay (api.IsMove {V = DynamicObject})
+pub one-way : IsOneWay (api.IsMove {V = ObjectData})
 one-way a at r q b c f g call =
     let answer : r.answer ≡ q.answer = f.answer ∙ (ap (λ k. api.answered k at a) call ∙ sym g.answer) in (
       λ i. record { call = call i; answer = answer i },
@@ -37,16 +37,16 @@ one-way a at r q b c f g call =
 
 -- what the controller's laws say of scripts
 abbrev pub OneTrace : Type 0
-OneTrace = (t : ObjectType) (h : List (Step DynamicObject)) (ts us : List Turn) (rs qs : Records) (a b c : Api)
-    → IsOneWay (api.IsMove {V = DynamicObject}) → IsTrace (world_of t meta_of) h ts rs → IsTrace (world_of t meta_of) h (ts ++ us) qs
+OneTrace = (t : ObjectType) (h : List (Step ObjectData)) (ts us : List Turn) (rs qs : Records) (a b c : Api)
+    → IsOneWay (api.IsMove {V = ObjectData}) → IsTrace (world_of t meta_of) h ts rs → IsTrace (world_of t meta_of) h (ts ++ us) qs
     → AllZip (IsBuilt meta_of) (take (length rs) ts) rs
     → AreMadeBy api.IsMove tells (world_of t meta_of).version (dated_in rs) a b
     → AreMadeBy api.IsMove tells (world_of t meta_of).version (dated_in qs) a c
     → (rest : Records) × (qs ≡ rs ++ rest)
 
 abbrev pub Apart : Type 0
-Apart = (t : ObjectType) (h : List (Step DynamicObject)) (ts : List Turn) (rs qs : Records) (a c d : Api)
-    → IsOneWay (api.IsMove {V = DynamicObject}) → IsTrace (world_of t meta_of) h (take (length rs) ts) rs
+Apart = (t : ObjectType) (h : List (Step ObjectData)) (ts : List Turn) (rs qs : Records) (a c d : Api)
+    → IsOneWay (api.IsMove {V = ObjectData}) → IsTrace (world_of t meta_of) h (take (length rs) ts) rs
     → AllZip (IsBuilt meta_of) (take (length rs) ts) rs
     → IsNotBuiltAfter api.IsMove tells t meta_of h ts rs a d
     → IsTrace (world_of t meta_of) h ts qs

@@ -3,6 +3,8 @@ pub mod Loop
 pub mod Steps
 pub mod Utf8
 pub mod Shown
+pub mod Numbers
+pub mod Floats
 pub mod Takes
 pub mod Text
 pub mod Records

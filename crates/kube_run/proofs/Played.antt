@@ -5,7 +5,7 @@ use Rattle.std.specs.Arc.{arc_value}
 use Rattle.std.specs.declared.sync.Arc.{Arc}
 use Rattle.std.specs.declared.alloc.Global.{Global}
 use Rattle.std.proofs.lemmas.List.{map-id}
-use Rattle.kube_meta.specs.declared.dynamic.DynamicObject.{DynamicObject}
+use Rattle.kube_meta.specs.Reading.{ObjectData}
 use Rattle.kube_model.specs.History.{Step, Turn, TurnRecord}
 use Rattle.kube_model.specs.Traces.{IsTrace, has_ended, step, steps}
 use Rattle.kube_model.specs.World.{World}
@@ -27,15 +27,15 @@ use Rattle.kube_run.specs.TraceText.{line_of, lines_of, shown_finishes, text_of}
 use Rattle.kube_run.specs.TraceView.{Named, error_text, named_type, seen_finish, seen_record, seen_records}
 
 abbrev pub Held : Type 0
-Held = HeldRecord DynamicObject (List ℕ) Named
+Held = HeldRecord ObjectData (List ℕ) Named
 
 -- ---- the lines of what is held are those of the records
 
-same-finishes : (fs : List (Finished DynamicObject (List ℕ) Named)) → map seen_finish fs ≡ shown_finishes (map (λ f. error_text f.outcome) fs) (map (finished_of named_type) fs)
+same-finishes : (fs : List (Finished ObjectData (List ℕ) Named)) → map seen_finish fs ≡ shown_finishes (map (λ f. error_text f.outcome) fs) (map (finished_of named_type) fs)
 same-finishes [] = refl
 same-finishes (f ∷ fs) = ap (λ gs. seen_finish f ∷ gs) (same-finishes fs)
 
-same-store : (os : Option (List (Arc DynamicObject Global))) → option_map (map arc_value) os ≡ shown_objects os
+same-store : (os : Option (List (Arc ObjectData Global))) → option_map (map arc_value) os ≡ shown_objects os
 same-store None = refl
 same-store (Some os) = refl
 
@@ -51,7 +51,7 @@ same-line turn r = λ i. record {
   taken = filter_map (taken_of named_type) r.taken;
 }
 
-none-held : (fs : List (Finished DynamicObject (List ℕ) Named)) → map (finished_of named_type) fs ≡ [] → fs ≡ []
+none-held : (fs : List (Finished ObjectData (List ℕ) Named)) → map (finished_of named_type) fs ≡ [] → fs ≡ []
 none-held [] e = refl
 none-held (f ∷ fs) e = absurd (cc)
 
@@ -82,7 +82,7 @@ trace-front w h (t ∷ ts) (r ∷ rs) k = (k.0, k.1, trace-front w (h ++ step t 
 pub none-played : (s : Script) → IsPlayedFront s []
 none-played s = (first_api s, record { trace = refl; built = tt; answered = record { made = []; recorded = tt; moved = refl; told = refl } })
 
-pub whole-front : (s : Script) (rs : List (TurnRecord DynamicObject)) → IsPlayed s rs → IsPlayedFront s rs
+pub whole-front : (s : Script) (rs : List (TurnRecord ObjectData)) → IsPlayed s rs → IsPlayedFront s rs
 whole-front s rs p = (
   p.0,
   record {
@@ -92,13 +92,13 @@ whole-front s rs p = (
   },
 )
 
-pub front-is-front : (s : Script) (rs : List (TurnRecord DynamicObject)) → IsPlayedFront s rs → IsFront s (text_of rs)
+pub front-is-front : (s : Script) (rs : List (TurnRecord ObjectData)) → IsPlayedFront s rs → IsFront s (text_of rs)
 front-is-front s rs p = (rs, p, refl)
 
 -- ---- a run's promises
 
-module _ (s : Script) (w : World DynamicObject (Unit {0})) (first : api.Script DynamicObject) (same : w ≡ script_world s) (begins : first ≡ first_api s) where
-  pub played-to : (turns us : List Turn) (rs : List (TurnRecord DynamicObject)) (last : api.Script DynamicObject) → us ≡ turns → IsTrace w [] us rs
+module _ (s : Script) (w : World ObjectData (Unit {0})) (first : api.Script ObjectData) (same : w ≡ script_world s) (begins : first ≡ first_api s) where
+  pub played-to : (turns us : List Turn) (rs : List (TurnRecord ObjectData)) (last : api.Script ObjectData) → us ≡ turns → IsTrace w [] us rs
       → AllZip (IsBuilt meta_of) (take (length rs) turns) rs → AreMadeBy api.IsMove tells w.version (dated_in rs) first last → IsPlayedTo s turns rs last
   played-to turns us rs last e t b m = record {
     trace = subst (λ v. IsTrace v [] turns rs) same (subst (λ ts. IsTrace w [] ts rs) e t);
@@ -108,7 +108,7 @@ module _ (s : Script) (w : World DynamicObject (Unit {0})) (first : api.Script D
   }
 
   -- the turn after those with these records is not built
-  pub until : (ts us : List Turn) (rs : List (TurnRecord DynamicObject)) (new : api.Script DynamicObject) → ts ≡ s.turns → us ≡ take (length rs) s.turns → IsTrace w [] us rs
+  pub until : (ts us : List Turn) (rs : List (TurnRecord ObjectData)) (new : api.Script ObjectData) → ts ≡ s.turns → us ≡ take (length rs) s.turns → IsTrace w [] us rs
       → AllZip (IsBuilt meta_of) us rs → IsNotBuiltAfter api.IsMove tells (resource_type s.kind) meta_of [] ts rs first new → IsPlayedUntil s rs
   until ts us rs new f e t b nb = record {
     left = nb.middle;
@@ -133,7 +133,7 @@ both-err (Ok x) f p q k = tt
 both-err (Err e) f p q k = f e p q k
 
 -- what holds of a turn that is not built, by what holds of the records before an error
-pub at-not-built : {X : List Held → Type 0} {P Q S : ℕ → List Held → Type 0} (e : RunError DynamicObject (List ℕ) Named) → ((n : ℕ) (rs : List Held) → X rs → P n rs → Q n rs → S n rs)
+pub at-not-built : {X : List Held → Type 0} {P Q S : ℕ → List Held → Type 0} (e : RunError ObjectData (List ℕ) Named) → ((n : ℕ) (rs : List Held) → X rs → P n rs → Q n rs → S n rs)
     → X (records_before e) → IfNotBuiltTurn e P → IfNotBuiltTurn e Q → IfNotBuiltTurn e S
 at-not-built (NotBuilt n t) f x p q = f n t.records x p q
 at-not-built (NoMemory t) f x p q = tt

@@ -4,6 +4,7 @@ pub mod Held
 pub mod Limit
 pub mod Part
 pub mod Reading
+pub mod Stored
 pub mod Script
 pub mod Numbers
 pub mod Whole

@@ -2,6 +2,8 @@
 use Rattle.std.specs.Prelude.{◌≡◌, ℕ, suc, List, [], ◌∷◌, ◌++◌, map, Option, Some, None, Result, Ok, Err, nat_lt, if◌then◌else◌, ◌||◌, Bool, false, cond, string_bytes, bytes_eq, unwrap_or}
 use Rattle.serde_json.specs.Data.{Data, null, boolean, number, string, array, object, Items, no_items, item, Members, no_members, member}
 use Rattle.serde_json.specs.Find.{get, as_str, as_array, as_object, as_u64, as_bool}
+use Rattle.kube_meta.specs.declared.object_fault.ObjectFault.{ObjectFault}
+use Rattle.kube_meta.specs.declared.object_fault.ObjectFault.TheVariants as objects
 use Rattle.kube_run.specs.declared.fault.What.{What}
 use Rattle.kube_run.specs.declared.fault.What.TheVariants as what
 use Rattle.kube_run.specs.declared.fault.Step.{Step}
@@ -10,10 +12,11 @@ use Rattle.kube_run.specs.declared.fault.Fault.{Fault}
 use Rattle.kube_run.specs.declared.fault.ReadError.{ReadError}
 use Rattle.kube_run.specs.declared.fault.ReadError.TheVariants as errors
 
--- a step of a place: a member's name, or an item's index
+-- a step of a place: a member's name, an item's index, or a place within an object as a JSON Pointer
 pub data Part : Type 0 where
   key : List ℕ → Part
   index : ℕ → Part
+  pointer : List ℕ → Part
 
 -- what is wrong, and where: the innermost step first
 pub record Wrong : Type 0 where
@@ -23,6 +26,7 @@ pub record Wrong : Type 0 where
 abbrev pub part : Step → Part
 part (steps.Key s) = key (string_bytes s)
 part (steps.Index n) = index n
+part (steps.Pointer place) = pointer place
 
 abbrev pub seen_fault : Fault → Wrong
 seen_fault f = record { what = f.what; place = map part f.place.items }
@@ -59,6 +63,17 @@ abbrev pub IsWith : Part → Fault → ReadError → Type 0
 IsWith p f errors.NoMemory = Unit {0}
 IsWith p f (errors.Fault g) = seen_fault g ≡ record { what = f.what; place = map part f.place.items ++ p ∷ [] }
 
+-- a fault at a place within an object, unless memory ran out
+abbrev pub IsWithin : What → List ℕ → ReadError → Type 0
+IsWithin w place errors.NoMemory = Unit {0}
+IsWithin w place (errors.Fault g) = seen_fault g ≡ record { what = w; place = pointer place ∷ [] }
+
+-- a fault of an object
+abbrev pub IsOfObject : ObjectFault → ReadError → Type 0
+IsOfObject objects.NoMemory e = e ≡ errors.NoMemory
+IsOfObject (objects.Shape place) e = IsWithin what.Misshapen place e
+IsOfObject (objects.Fraction place) e = IsWithin what.Fraction place e
+
 -- an error, put under a step
 abbrev pub IsBeneath : Part → ReadError → ReadError → Type 0
 IsBeneath p errors.NoMemory new = new ≡ errors.NoMemory
@@ -90,6 +105,13 @@ at_most most n = if nat_lt most n then here what.TooLarge else Ok n
 -- a number of 32 bits
 unfoldable pub small_at : Data → Result ℕ Wrong
 small_at d = number_at d >>= at_most 4294967295
+
+-- what an object is read as; data never wants memory
+abbrev pub of_object : {A : Type 0} → Result A ObjectFault → Result A Wrong
+of_object (Ok o) = Ok o
+of_object (Err (objects.Shape place)) = Err (record { what = what.Misshapen; place = pointer place ∷ [] })
+of_object (Err (objects.Fraction place)) = Err (record { what = what.Fraction; place = pointer place ∷ [] })
+of_object (Err objects.NoMemory) = here what.Misshapen
 
 -- a member that must be there
 abbrev pub needed : {A : Type 0} → List ℕ → (Data → Result A Wrong) → Option Data → Result A Wrong

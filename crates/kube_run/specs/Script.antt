@@ -1,13 +1,13 @@
 -- The form of a script: its tables, over the reading of its text. Objects, lists and watches as in the Kubernetes API concepts.
-use Rattle.std.specs.Prelude.{ℕ, List, [], ◌∷◌, ◌++◌, Option, Some, None, Result, Ok, false, codes, map, unwrap_or}
+use Rattle.std.specs.Prelude.{ℕ, List, [], ◌∷◌, Option, Some, None, Result, Ok, false, codes, map, unwrap_or}
 use Rattle.std.specs.Arc.{arc_value}
 use Rattle.std.specs.declared.sync.Arc.{Arc}
 use Rattle.std.specs.declared.alloc.Global.{Global}
 use Rattle.serde_json.specs.Data.{Data}
-use Rattle.kube_meta.specs.declared.metadata.ObjectMeta.{ObjectMeta}
-use Rattle.kube_meta.specs.declared.dynamic.DynamicObject.{DynamicObject}
+use Rattle.kube_meta.specs.Reading.{ObjectData, object_data_at}
+use Rattle.kube_meta.specs.Reference.{api_version}
 use Rattle.kube_meta.specs.declared.dynamic.ApiResource.{ApiResource}
-use Rattle.kube_meta.specs.Resources.{resource_type, no_metadata, bare_object}
+use Rattle.kube_meta.specs.Resources.{resource_type}
 use Rattle.kube_meta.specs.declared.poll.Polled.TheVariants.{Ready}
 use Rattle.kube_model.specs.Raw.{RawAnswer, GivesPage}
 use Rattle.kube_model.specs.declared.turn.Shutdown.TheVariants as shutdowns
@@ -18,12 +18,7 @@ use Rattle.kube_control.specs.declared.turn.Turn as held_turn
 use Rattle.kube_control.specs.Records.{turn_of}
 use Rattle.kube_run.specs.declared.script.Script as held_script
 use Rattle.kube_run.specs.declared.script.Root as held_root
-use Rattle.kube_run.specs.Reading.{◌>>=◌, Wrong, members_among, object_at, field, maybe_field, list_field, list_at, there, text_at, number_at, small_at, flag_at}
-
--- a group and a version as an object's apiVersion has them
-abbrev pub api_version : List ℕ → List ℕ → List ℕ
-api_version [] version = version
-api_version (c ∷ cs) version = c ∷ cs ++ 47 ∷ version
+use Rattle.kube_run.specs.Reading.{◌>>=◌, Wrong, of_object, members_among, object_at, field, maybe_field, list_field, list_at, there, text_at, number_at, small_at, flag_at}
 
 -- the kind of the objects. It may have further members, which aren't read
 unfoldable pub kind_at : Data → Result ApiResource Wrong
@@ -35,24 +30,9 @@ kind_at d = do
   plural ← field (codes "plural") text_at d
   Ok (record { group = group; version = version; api_version = api_version group version; kind = kind; plural = plural })
 
-unfoldable pub meta_names : Data → Result (Unit {0}) Wrong
-meta_names d = members_among (codes "name" ∷ codes "namespace" ∷ codes "resourceVersion" ∷ []) d
-
--- an object's metadata
-unfoldable pub meta_at : Data → Result ObjectMeta Wrong
-meta_at d = do
-  _ ← meta_names d
-  name ← maybe_field (codes "name") text_at d
-  namespace ← maybe_field (codes "namespace") text_at d
-  version ← maybe_field (codes "resourceVersion") text_at d
-  Ok (record no_metadata { name = name; namespace = namespace; resource_version = version })
-
--- an object
-unfoldable pub item_at : Data → Result DynamicObject Wrong
-item_at d = do
-  _ ← members_among (codes "metadata" ∷ []) d
-  meta ← maybe_field (codes "metadata") meta_at d
-  Ok (bare_object (unwrap_or meta no_metadata))
+-- an object of the API, whatever its content
+unfoldable pub item_at : Data → Result ObjectData Wrong
+item_at d = of_object (object_data_at d)
 
 -- the version in a page's metadata
 unfoldable pub page_version_at : Data → Result (Option (List ℕ)) Wrong
@@ -65,7 +45,7 @@ joined None = None
 joined (Some o) = o
 
 -- a page of a list, which is what a list call is answered
-unfoldable pub page_at : Data → Result (RawAnswer DynamicObject) Wrong
+unfoldable pub page_at : Data → Result (RawAnswer ObjectData) Wrong
 page_at d = do
   _ ← members_among (codes "items" ∷ codes "metadata" ∷ []) d
   items ← list_field (codes "items") item_at d
@@ -78,17 +58,17 @@ wait_at d = do
   _ ← members_among (codes "wait" ∷ []) d
   field (codes "wait") number_at d
 
-abbrev pub pauses : List ℕ → List (Step DynamicObject)
+abbrev pub pauses : List ℕ → List (Step ObjectData)
 pauses waits = map Pauses waits
 
 -- a watch
-unfoldable pub watch_at : Data → Result (List (Step DynamicObject)) Wrong
+unfoldable pub watch_at : Data → Result (List (Step ObjectData)) Wrong
 watch_at d = list_at wait_at d >>= λ waits. Ok (pauses waits)
 
 -- what the API answers
 pub record Root : Type 0 where
-  pub lists : List (RawAnswer DynamicObject)
-  pub watches : List (List (Step DynamicObject))
+  pub lists : List (RawAnswer ObjectData)
+  pub watches : List (List (Step ObjectData))
 
 unfoldable pub root_at : Data → Result Root Wrong
 root_at d = do
@@ -126,7 +106,7 @@ script_at d = do
 abbrev pub seen_root : held_root.Root → Root
 seen_root r = record { lists = map (λ page. list_answer (Ready page)) r.lists.items; watches = r.watches.items }
 
-abbrev pub seen_turn : held_turn.Turn DynamicObject (List ℕ) (Arc ApiResource Global) → Turn
+abbrev pub seen_turn : held_turn.Turn ObjectData (List ℕ) (Arc ApiResource Global) → Turn
 seen_turn t = turn_of (λ d. resource_type (arc_value d)) t
 
 abbrev pub seen_script : held_script.Script → Script

@@ -3,7 +3,7 @@ use Rattle.std.specs.Prelude.{◌≡◌, ℕ, List, ◌++◌, Option, Some, None
 use Rattle.json.specs.Token.{Token}
 use Rattle.json.specs.Tree.{json_tokens, items_tokens, members_tokens}
 use Rattle.json.specs.Written.{Written}
-use Rattle.serde_json.specs.Data.{Data, null, array, Members, member}
+use Rattle.serde_json.specs.Data.{Data, null, array, Items, Members, member}
 use Rattle.serde_json.specs.View.{items_of}
 use Rattle.serde_json.specs.Written.{outline, items_outline, members_outline}
 
@@ -14,6 +14,10 @@ tokens_of d = json_tokens (outline d)
 -- those of items, with the closing bracket
 unfoldable pub item_tokens : List Data → List Token
 item_tokens ds = items_tokens (items_outline (items_of ds))
+
+-- the same, of items as data has them
+unfoldable pub items_left : Items → List Token
+items_left ds = items_tokens (items_outline ds)
 
 -- those of members, with the closing brace
 unfoldable pub member_tokens : Members → List Token

@@ -3,8 +3,8 @@ use Rattle.std.specs.Prelude.{ℕ, ◌+◌, Bool, List, [], ◌∷◌, ◌++◌,
 use Rattle.serde_json.specs.Data.{Data, boolean, number, unsigned, string, object, Members, no_members, member}
 use Rattle.serde_json.specs.Written.{compact_text}
 use Rattle.kube_meta.specs.Reference.{Reference, shown}
-use Rattle.kube_meta.specs.declared.metadata.ObjectMeta.{ObjectMeta}
-use Rattle.kube_meta.specs.declared.dynamic.DynamicObject.{DynamicObject}
+use Rattle.kube_meta.specs.Reading.{ObjectData}
+use Rattle.kube_meta.specs.Writing.{object_data}
 use Rattle.kube_model.specs.ErrorTexts.{fault_text}
 use Rattle.kube_model.specs.Reason.{Reason, reason_text}
 use Rattle.kube_model.specs.History.{Exchange, Finished, Message, Taken, TurnRecord}
@@ -19,19 +19,7 @@ use Rattle.kube_model.specs.declared.turn.Stop.TheVariants as stops
 use Rattle.json.specs.Token.{Token}
 use Rattle.kube_run.specs.Shown.{tokens_of, or_null, array_of, member_if}
 
--- ---- objects, references, reasons
-
--- the texts of an object's metadata that are there
-unfoldable pub meta_members : ObjectMeta → Members → Members
-meta_members m rest =
-    member_if (codes "name") (option_map string m.name) (member_if (codes "namespace") (option_map string m.namespace)
-    (member_if (codes "resourceVersion") (option_map string m.resource_version) (member_if (codes "uid") (option_map string m.uid) rest)))
-
-unfoldable pub meta_data : ObjectMeta → Data
-meta_data m = object (meta_members m no_members)
-
-unfoldable pub object_data : DynamicObject → Data
-object_data o = object (member (codes "metadata") (meta_data o.metadata) no_members)
+-- ---- references, reasons
 
 abbrev pub reference_data : Reference → Data
 reference_data r = string (shown r)
@@ -106,14 +94,14 @@ version_members (answers.Deleted version) rest = member (codes "version") (text_
 version_members (answers.Bookmark version ending) rest = member (codes "version") (string version) rest
 version_members _ rest = rest
 
-unfoldable pub exchange_members : Exchange DynamicObject → Members → Members
+unfoldable pub exchange_members : Exchange ObjectData → Members → Members
 exchange_members x rest =
     member (codes "answer") (string (answer_word x.answer)) (member (codes "call") (string (call_word x.call))
     (code_members x.answer (error_members x.error (from_members x.call
     (member (codes "items") (array_of object_data x.items) (member (codes "requests") (array_of request_data x.requests)
     (member (codes "source") (number (unsigned x.source)) (text_members x.answer (version_members x.answer rest)))))))))
 
-unfoldable pub exchange_data : Exchange DynamicObject → Data
+unfoldable pub exchange_data : Exchange ObjectData → Data
 exchange_data x = object (exchange_members x no_members)
 
 -- ---- finishes, stops, takes
@@ -141,16 +129,16 @@ stop_word stops.Paused = codes "paused"
 abbrev pub stop_data : Stop → Data
 stop_data s = string (stop_word s)
 
-unfoldable pub taken_members : Taken DynamicObject → Members → Members
+unfoldable pub taken_members : Taken ObjectData → Members → Members
 taken_members t rest =
     member (codes "found") (boolean (is_some t.object)) (member_if (codes "object") (option_map object_data t.object)
     (member (codes "reason") (reason_data t.message.reason) (member (codes "ref") (reference_data t.message.reference) rest)))
 
-unfoldable pub taken_data : Taken DynamicObject → Data
+unfoldable pub taken_data : Taken ObjectData → Data
 taken_data t = object (taken_members t no_members)
 
 -- nothing where nothing was taken
-abbrev pub taken_tokens : Option (Taken DynamicObject) → List Token
+abbrev pub taken_tokens : Option (Taken ObjectData) → List Token
 taken_tokens None = []
 taken_tokens (Some t) = tokens_of (taken_data t)
 
@@ -160,12 +148,12 @@ taken_tokens (Some t) = tokens_of (taken_data t)
 pub record Line : Type 0 where
   pub turn : ℕ
   pub at : ℕ
-  pub asks : List (Exchange DynamicObject)
+  pub asks : List (Exchange ObjectData)
   pub ended : Bool
   pub finished : List ShownFinish
   pub stops : List Stop
-  pub store : Option (List DynamicObject)
-  pub taken : List (Taken DynamicObject)
+  pub store : Option (List ObjectData)
+  pub taken : List (Taken ObjectData)
 
 unfoldable pub line_members : Line → Members → Members
 line_members l rest =
@@ -195,7 +183,7 @@ shown_finishes [] (f ∷ fs) = record { error = None; reference = f.finish.refer
 shown_finishes (fault ∷ faults) (f ∷ fs) = record { error = fault; reference = f.finish.reference; requeue = f.action } ∷ shown_finishes faults fs
 
 -- the line of a turn's record. A history keeps no texts of faults: those of the record's finishes are told beside it
-abbrev pub line_of : ℕ → List (Option (List ℕ)) → TurnRecord DynamicObject → Line
+abbrev pub line_of : ℕ → List (Option (List ℕ)) → TurnRecord ObjectData → Line
 line_of turn faults r = record {
   turn = turn;
   at = r.at;
@@ -208,10 +196,10 @@ line_of turn faults r = record {
 }
 
 -- the lines of records that have no finishes, numbered from here on
-abbrev pub lines_of : ℕ → List (TurnRecord DynamicObject) → List Line
+abbrev pub lines_of : ℕ → List (TurnRecord ObjectData) → List Line
 lines_of turn [] = []
 lines_of turn (r ∷ rs) = line_of turn [] r ∷ lines_of (turn + 1) rs
 
 -- their text, from turn 0 on
-abbrev pub text_of : List (TurnRecord DynamicObject) → List ℕ
+abbrev pub text_of : List (TurnRecord ObjectData) → List ℕ
 text_of records = lines_text (lines_of 0 records)

@@ -8,7 +8,7 @@ use Rattle.kube_meta.specs.Keys.{reference_of}
 use Rattle.kube_meta.specs.Reference.{ObjectType, Reference}
 use Rattle.kube_meta.specs.Resources.{resource_type}
 use Rattle.kube_meta.specs.declared.dynamic.ApiResource.{ApiResource}
-use Rattle.kube_meta.specs.declared.dynamic.DynamicObject.{DynamicObject}
+use Rattle.kube_meta.specs.Reading.{ObjectData}
 use Rattle.kube_meta.specs.declared.object_ref.ObjectRef.{ObjectRef}
 use Rattle.kube_control.specs.declared.record.Finished.{Finished}
 use Rattle.kube_control.specs.declared.record.TurnRecord.{TurnRecord}
@@ -22,17 +22,17 @@ Named = Arc ApiResource Global
 abbrev pub named_type : Named → ObjectType
 named_type t = resource_type (arc_value t)
 
-abbrev pub seen_reference : ObjectRef DynamicObject Named → Reference
+abbrev pub seen_reference : ObjectRef ObjectData Named → Reference
 seen_reference r = reference_of named_type r
 
 abbrev pub error_text : {A : Type 0} → Result A (List ℕ) → Option (List ℕ)
 error_text (Ok a) = None
 error_text (Err text) = Some text
 
-abbrev pub seen_finish : Finished DynamicObject (List ℕ) Named → ShownFinish
+abbrev pub seen_finish : Finished ObjectData (List ℕ) Named → ShownFinish
 seen_finish f = record { error = error_text f.outcome; reference = seen_reference f.reference; requeue = f.action }
 
-abbrev pub seen_record : ℕ → TurnRecord DynamicObject (List ℕ) Named → Line
+abbrev pub seen_record : ℕ → TurnRecord ObjectData (List ℕ) Named → Line
 seen_record turn r = record {
   turn = turn;
   at = r.at.0;
@@ -45,6 +45,6 @@ seen_record turn r = record {
 }
 
 -- the records numbered from here on
-abbrev pub seen_records : ℕ → List (TurnRecord DynamicObject (List ℕ) Named) → List Line
+abbrev pub seen_records : ℕ → List (TurnRecord ObjectData (List ℕ) Named) → List Line
 seen_records turn [] = []
 seen_records turn (r ∷ rs) = seen_record turn r ∷ seen_records (turn + 1) rs

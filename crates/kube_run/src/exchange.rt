@@ -4,22 +4,22 @@ ghost use Rattle.std.specs.Prelude.{◌≡◌, ◌++◌, OnOk};
 ghost use Rattle.serde_json.specs.Data.{string as string_data};
 ghost use Rattle.kube_model.specs.ErrorTexts.{fault_text as fault_text_of};
 ghost use Rattle.kube_model.specs.History.{Exchange as exchange_record, Message as message_record};
-ghost use Rattle.kube_meta.specs.declared.dynamic.DynamicObject.{DynamicObject as object_record};
+ghost use Rattle.kube_meta.specs.Reading.{ObjectData as object_record};
 ghost use Rattle.kube_run.specs.Shown.{ShowsMembers};
 ghost use Rattle.kube_run.specs.TraceText.{request_data, answer_word as answer_word_of, call_word as call_word_of, error_word as error_word_of, code_members, error_members, from_members, text_members, version_members, exchange_members, exchange_data};
 ghost use Rattle.kube_run.specs.TraceView.{named_type};
 ghost use Rattle.kube_control.specs.Views.{exchange_of, message_of};
 
+use crate::script_object::ScriptObject;
 use crate::show::{Show, member, text_member};
 use json::Writer;
 use kube_api::ApiError;
 use kube_control::{Answer, Call, ReconcileRequest, SourceExchange};
-use kube_meta::DynamicObject;
 use kube_model::error::Error;
 use std::alloc::{AllocError, Global};
 
 /// The reference alone.
-impl Show for ReconcileRequest<DynamicObject> {
+impl Show for ReconcileRequest<ScriptObject> {
     ghost Seen = { message_record };
 
     ghost seen = { message_of named_type };
@@ -31,7 +31,7 @@ impl Show for ReconcileRequest<DynamicObject> {
     }
 }
 
-impl Show for SourceExchange<DynamicObject> {
+impl Show for SourceExchange<ScriptObject> {
     ghost Seen = { exchange_record object_record };
 
     ghost seen = { exchange_of named_type };
@@ -52,7 +52,7 @@ impl Show for SourceExchange<DynamicObject> {
 fn show_members(
     alloc: Global,
     out: &mut Writer,
-    exchange: &SourceExchange<DynamicObject>,
+    exchange: &SourceExchange<ScriptObject>,
 ) -> Result<(), AllocError>
     ensures before { OnOk result (out.new.before ≡ out.old.before) }
     ensures members { ShowsMembers result out.old out.new (exchange_members (exchange_of named_type exchange.now)) }

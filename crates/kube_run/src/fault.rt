@@ -2,9 +2,9 @@
 
 ghost use Rattle.std.specs.Prelude.{◌≡◌};
 ghost use Rattle.kube_run.specs.declared.fault.ReadError.TheVariants.{NoMemory as OutOfMemory};
-ghost use Rattle.kube_run.specs.Reading.{part, key as key_part, index as index_part, IsBeneath, IsWith, IsHere};
+ghost use Rattle.kube_run.specs.Reading.{part, key as key_part, index as index_part, IsBeneath, IsOfObject, IsWith, IsWithin, IsHere};
 
-use kube_meta::NoMemory;
+use kube_meta::{NoMemory, ObjectFault, Text};
 use std::alloc::{AllocError, AllocFailed, Global};
 
 /// What is wrong with a value.
@@ -22,6 +22,10 @@ pub enum What {
     NoFlag,
     /// It is a number past what may stand there.
     TooLarge,
+    /// It is no object of the API: a value in it has another form than is wanted there.
+    Misshapen,
+    /// It is no object of the API: a number in it has a fraction, or more than 64 bits.
+    Fraction,
 }
 
 /// A step of a place (the reference tokens of RFC 6901).
@@ -29,6 +33,8 @@ pub enum What {
 pub enum Step {
     Key(String),
     Index(usize),
+    /// A place within an object, as a JSON Pointer.
+    Pointer(Text),
 }
 
 /// The first fault of a value, and where it stands, the innermost step first.
@@ -54,6 +60,27 @@ impl ReadError {
             what,
             place: Vec::new(alloc),
         })
+    }
+
+    /// A fault of an object.
+    pub fn of_object(alloc: Global, fault: ObjectFault) -> ReadError
+        ensures { IsOfObject fault result }
+    {
+        match fault {
+            ObjectFault::NoMemory => ReadError::NoMemory,
+            ObjectFault::Shape(place) => ReadError::within(alloc, What::Misshapen, place),
+            ObjectFault::Fraction(place) => ReadError::within(alloc, What::Fraction, place),
+        }
+    }
+
+    fn within(alloc: Global, what: What, place: Text) -> ReadError
+        ensures { IsWithin what place result }
+    {
+        let mut steps = Vec::new(alloc);
+        match steps.push(Step::Pointer(place)) {
+            Ok(()) => ReadError::Fault(Fault { what, place: steps }),
+            Err(_) => ReadError::NoMemory,
+        }
     }
 
     /// The same, seen from the object whose member the value is.

@@ -14,6 +14,7 @@ pub mod program;
 pub mod record;
 pub mod row;
 pub mod script;
+pub mod script_object;
 pub mod show;
 pub mod sink;
 pub mod source;
@@ -23,6 +24,7 @@ pub mod taken;
 #[cfg(test)]
 mod tests;
 pub mod trace;
+pub mod value;
 
 use crate::program::run_program;
 use crate::status::Status;

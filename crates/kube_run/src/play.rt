@@ -8,17 +8,18 @@ ghost use Rattle.kube_run.specs.Script.{seen_script};
 ghost use Rattle.kube_run.specs.TraceView.{named_type};
 
 use crate::script::Script;
+use crate::script_object::ScriptObject;
 use kube_api::TestMode;
 use kube_control::{Controller, Recorder, RunError, Trace};
-use kube_meta::{Action, DynamicObject, List, Text};
+use kube_meta::{Action, List, Text};
 use std::alloc::Global;
 use std::sync::Arc;
 
 /// The trace of a script's turns.
-pub type ScriptTrace = Trace<DynamicObject, Text>;
+pub type ScriptTrace = Trace<ScriptObject, Text>;
 
 /// Why the turns of a script end early.
-pub type ScriptError = RunError<DynamicObject, Text>;
+pub type ScriptError = RunError<ScriptObject, Text>;
 
 /// Makes the controller that a script tells of, and takes its turns.
 ///
@@ -41,7 +42,7 @@ pub fn play(alloc: Global, script: Script) -> Result<ScriptTrace, ScriptError>
     let api = TestMode::new(alloc, root.lists, root.watches);
     let mut controller = Controller::new_with(alloc, api, kind);
     let mut recorder = Recorder::new(alloc);
-    let policy = |_object: Arc<DynamicObject>, _error: &Text, _context: Arc<
+    let policy = |_object: Arc<ScriptObject>, _error: &Text, _context: Arc<
         (),
     >| Action::await_change();
     controller.run(alloc, &mut recorder, &policy, context, turns)

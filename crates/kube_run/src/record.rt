@@ -10,17 +10,18 @@ ghost use Rattle.kube_run.specs.TraceView.{error_text, named_type, seen_finish, 
 ghost use Rattle.kube_control.specs.Views.{taken_of};
 ghost use Rattle.kube_run.specs.Lines.{not_built_data, not_built_line as not_built_text};
 
+use crate::script_object::ScriptObject;
 use crate::show::{Show, member, member_if, text_member};
 use crate::taken::show_takes;
 use json::Writer;
 use kube_control::{Finished, Stop, Taken, TurnRecord};
-use kube_meta::{Action, DynamicObject, List, Text};
+use kube_meta::{Action, List, Text};
 use std::alloc::{AllocError, Global};
 
 /// The record of a turn. A reconcile's fault is a text.
-pub type ScriptRecord = TurnRecord<DynamicObject, Text>;
+pub type ScriptRecord = TurnRecord<ScriptObject, Text>;
 
-impl Show for Finished<DynamicObject, Text> {
+impl Show for Finished<ScriptObject, Text> {
     ghost Seen = { ShownFinish };
 
     ghost seen = { seen_finish };
@@ -40,7 +41,7 @@ impl Show for Finished<DynamicObject, Text> {
 fn show_finish(
     alloc: Global,
     out: &mut Writer,
-    finished: &Finished<DynamicObject, Text>,
+    finished: &Finished<ScriptObject, Text>,
 ) -> Result<(), AllocError>
     ensures before { OnOk result (out.new.before ≡ out.old.before) }
     ensures members { ShowsMembers result out.old out.new (finish_members (seen_finish finished.now)) }
@@ -140,7 +141,7 @@ fn show_members(
 fn takes_member(
     alloc: Global,
     out: &mut Writer,
-    taken: &List<Taken<DynamicObject>>,
+    taken: &List<Taken<ScriptObject>>,
 ) -> Result<(), AllocError>
     ensures before { OnOk result (out.new.before ≡ out.old.before) }
     ensures members { ShowsMembers result out.old out.new (data_member (codes "taken") (array_of taken_data (filter_map (taken_of named_type) taken.now))) }

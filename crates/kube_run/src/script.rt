@@ -2,8 +2,7 @@
 
 ghost use Rattle.std.specs.Prelude.{◌≡◌, ℕ, List, Option, map, IfOk};
 ghost use Rattle.kube_meta.specs.declared.poll.Polled.TheVariants.{Ready};
-ghost use Rattle.kube_meta.specs.declared.metadata.ObjectMeta.{ObjectMeta as meta_record};
-ghost use Rattle.kube_meta.specs.declared.dynamic.DynamicObject.{DynamicObject as object_record};
+ghost use Rattle.kube_meta.specs.Reading.{ObjectData as object_record};
 ghost use Rattle.kube_meta.specs.declared.dynamic.ApiResource.{ApiResource as resource_record};
 ghost use Rattle.kube_model.specs.Raw.{RawAnswer};
 ghost use Rattle.kube_model.specs.History.{Turn as plain_turn};
@@ -11,21 +10,22 @@ ghost use Rattle.kube_api.specs.Answers.{list_answer};
 ghost use Rattle.kube_api.specs.TestScript.{Step};
 ghost use Rattle.serde_json.specs.View.{view};
 ghost use Rattle.kube_run.specs.Reading.{Gives};
-ghost use Rattle.kube_run.specs.Script.{api_version as api_version_of, kind_at, meta_names, meta_at, item_at, page_version_at, page_at, pauses, wait_at, watch_at, Root as root_record, root_at, seen_root, seen_turn, turn_at, Script as script_record, seen_script, script_at};
+ghost use Rattle.kube_run.specs.Script.{kind_at, item_at, page_version_at, page_at, pauses, wait_at, watch_at, Root as root_record, root_at, seen_root, seen_turn, turn_at, Script as script_record, seen_script, script_at};
 
 use crate::fault::ReadError;
 use crate::row::{Row, has_member, is_object, list_member, maybe_member, member, only};
+use crate::script_object::ScriptObject;
 use kube_api::{ApiError, Page, Sequence, SequenceStep};
 use kube_control::{Shutdown, Turn};
-use kube_meta::{ApiResource, DynamicObject, List, Moment, NoMemory, ObjectMeta, Text};
+use kube_meta::{ApiResource, List, Moment, NoMemory, Text, api_version, read_object};
 use serde_json::Value;
 use std::alloc::Global;
 
 /// The turns of a script. A reconcile's fault is a text.
-pub type ScriptTurn = Turn<DynamicObject, Text>;
+pub type ScriptTurn = Turn<ScriptObject, Text>;
 
 /// What a list call is answered.
-pub type Listed = Result<Page<DynamicObject>, ApiError>;
+pub type Listed = Result<Page<ScriptObject>, ApiError>;
 
 /// A script: what the objects are, what the API answers, and the turns.
 #[derive(Drop)]
@@ -39,7 +39,7 @@ pub struct Script {
 #[derive(Drop)]
 pub struct Root {
     pub lists: Vec<Listed>,
-    pub watches: Vec<Sequence<DynamicObject>>,
+    pub watches: Vec<Sequence<ScriptObject>>,
 }
 
 impl Row for ApiResource {
@@ -56,7 +56,7 @@ impl Row for ApiResource {
         let version: Text = member(alloc, value, "version")?;
         let kind = member(alloc, value, "kind")?;
         let plural = member(alloc, value, "plural")?;
-        let api_version = api_version(alloc, &group, &version)?;
+        let api_version = api_version(alloc, group.as_str(), version.as_str())?;
         Ok(ApiResource {
             group,
             version,
@@ -67,49 +67,7 @@ impl Row for ApiResource {
     }
 }
 
-/// A group and a version as an object's `apiVersion` has them (Kubernetes API concept "API groups").
-fn api_version(alloc: Global, group: &Text, version: &Text) -> Result<Text, NoMemory>
-    ensures { IfOk result (λ t. t ≡ api_version_of group.now version.now) }
-{
-    if group.is_empty() {
-        return version.copy(alloc);
-    }
-    let mut text = String::from_str(alloc, group.as_str())?;
-    text.push('/')?;
-    text.push_str(version.as_str())?;
-    Ok(Text::from(text))
-}
-
-impl Row for ObjectMeta {
-    ghost Seen = { meta_record };
-
-    ghost seen = { λ m. m };
-
-    ghost reads = { meta_at };
-
-    #[tactic(auto, unfolding(crate::specs::Script::meta_at))]
-    fn read(alloc: Global, value: &Value) -> Result<ObjectMeta, ReadError> {
-        only_meta(alloc, value)?;
-        let name = maybe_member(alloc, value, "name")?;
-        let namespace = maybe_member(alloc, value, "namespace")?;
-        let resource_version = maybe_member(alloc, value, "resourceVersion")?;
-        Ok(ObjectMeta {
-            name,
-            namespace,
-            resource_version,
-            ..ObjectMeta::empty()
-        })
-    }
-}
-
-#[tactic(auto, unfolding(crate::specs::Script::meta_names))]
-fn only_meta(alloc: Global, value: &Value) -> Result<(), ReadError>
-    ensures { Gives (λ x. x) result (meta_names (view value.now)) }
-{
-    only(alloc, value, &["name", "namespace", "resourceVersion"])
-}
-
-impl Row for DynamicObject {
+impl Row for ScriptObject {
     ghost Seen = { object_record };
 
     ghost seen = { λ o. o };
@@ -117,13 +75,11 @@ impl Row for DynamicObject {
     ghost reads = { item_at };
 
     #[tactic(auto, unfolding(crate::specs::Script::item_at))]
-    fn read(alloc: Global, value: &Value) -> Result<DynamicObject, ReadError> {
-        only(alloc, value, &["metadata"])?;
-        let metadata = match maybe_member(alloc, value, "metadata")? {
-            Some(metadata) => metadata,
-            None => ObjectMeta::empty(),
-        };
-        Ok(DynamicObject::bare(metadata))
+    fn read(alloc: Global, value: &Value) -> Result<ScriptObject, ReadError> {
+        match read_object(alloc, value.clone()?) {
+            Ok(object) => Ok(ScriptObject::new(object)),
+            Err(fault) => Err(ReadError::of_object(alloc, fault)),
+        }
     }
 }
 
@@ -189,7 +145,7 @@ impl Row for Wait {
     }
 }
 
-impl Row for Sequence<DynamicObject> {
+impl Row for Sequence<ScriptObject> {
     ghost Seen = { List (Step object_record) };
 
     ghost seen = { λ s. s };
@@ -197,14 +153,14 @@ impl Row for Sequence<DynamicObject> {
     ghost reads = { watch_at };
 
     #[tactic(auto, unfolding(crate::specs::Script::watch_at))]
-    fn read(alloc: Global, value: &Value) -> Result<Sequence<DynamicObject>, ReadError> {
+    fn read(alloc: Global, value: &Value) -> Result<Sequence<ScriptObject>, ReadError> {
         let waits: Vec<Wait> = Row::read(alloc, value)?;
         Ok(sequence(alloc, waits.as_slice())?)
     }
 }
 
 /// A watch that waits so often, and is then over.
-fn sequence(alloc: Global, waits: &[Wait]) -> Result<Sequence<DynamicObject>, NoMemory>
+fn sequence(alloc: Global, waits: &[Wait]) -> Result<Sequence<ScriptObject>, NoMemory>
     ensures { IfOk result (λ s. s ≡ pauses (map (λ w. w.0) waits.now)) }
 {
     let mut steps = Vec::new(alloc);

@@ -3,16 +3,18 @@
 ghost use Rattle.std.specs.Prelude.{◌≡◌, ◌++◌, OnOk, codes, option_map};
 ghost use Rattle.std.specs.List.{filter_map};
 ghost use Rattle.std.specs.Arc.{arc_value};
+ghost use Rattle.kube_meta.specs.Writing.{object_data};
 ghost use Rattle.kube_model.specs.ReasonView.{reason_of};
 ghost use Rattle.kube_run.specs.Shown.{ShowsMembers, tokens_of, item_tokens, array_of, member_if as data_member_if};
-ghost use Rattle.kube_run.specs.TraceText.{object_data, taken_members, taken_data, taken_tokens};
+ghost use Rattle.kube_run.specs.TraceText.{taken_members, taken_data, taken_tokens};
 ghost use Rattle.kube_run.specs.TraceView.{named_type, seen_reference};
 ghost use Rattle.kube_control.specs.Views.{taken_of};
 
+use crate::script_object::ScriptObject;
 use crate::show::{Show, member};
 use json::Writer;
 use kube_control::{ReconcileReason, Taken};
-use kube_meta::{DynamicObject, ObjectRef};
+use kube_meta::ObjectRef;
 use std::alloc::{AllocError, Global};
 use std::sync::Arc;
 
@@ -21,7 +23,7 @@ use std::sync::Arc;
 pub fn show_takes(
     alloc: Global,
     out: &mut Writer,
-    takes: &[Taken<DynamicObject>],
+    takes: &[Taken<ScriptObject>],
 ) -> Result<(), AllocError>
     ensures before { OnOk result (out.new.before ≡ out.old.before) }
     ensures tokens { OnOk result (out.new.tokens ≡ out.old.tokens ++ tokens_of (array_of taken_data (filter_map (taken_of named_type) takes.now))) }
@@ -37,7 +39,7 @@ pub fn show_takes(
 fn show_taken(
     alloc: Global,
     out: &mut Writer,
-    taken: &Taken<DynamicObject>,
+    taken: &Taken<ScriptObject>,
 ) -> Result<(), AllocError>
     ensures before { OnOk result (out.new.before ≡ out.old.before) }
     ensures tokens { OnOk result (out.new.tokens ≡ out.old.tokens ++ taken_tokens (taken_of named_type taken.now)) }
@@ -60,9 +62,9 @@ fn show_taken(
 fn show_message(
     alloc: Global,
     out: &mut Writer,
-    reference: &ObjectRef<DynamicObject>,
+    reference: &ObjectRef<ScriptObject>,
     reason: &ReconcileReason,
-    object: Option<&Arc<DynamicObject>>,
+    object: Option<&Arc<ScriptObject>>,
 ) -> Result<(), AllocError>
     ensures before { OnOk result (out.new.before ≡ out.old.before) }
     ensures tokens { OnOk result (out.new.tokens ≡ out.old.tokens ++ tokens_of (taken_data (record {
@@ -80,9 +82,9 @@ fn show_message(
 fn show_members(
     alloc: Global,
     out: &mut Writer,
-    reference: &ObjectRef<DynamicObject>,
+    reference: &ObjectRef<ScriptObject>,
     reason: &ReconcileReason,
-    object: Option<&Arc<DynamicObject>>,
+    object: Option<&Arc<ScriptObject>>,
 ) -> Result<(), AllocError>
     ensures before { OnOk result (out.new.before ≡ out.old.before) }
     ensures members { ShowsMembers result out.old out.new (taken_members (record {
@@ -100,7 +102,7 @@ fn show_members(
 fn show_object(
     alloc: Global,
     out: &mut Writer,
-    object: Option<&Arc<DynamicObject>>,
+    object: Option<&Arc<ScriptObject>>,
 ) -> Result<(), AllocError>
     ensures before { OnOk result (out.new.before ≡ out.old.before) }
     ensures members { ShowsMembers result out.old out.new

@@ -1,9 +1,12 @@
 //! Worked scripts, and what no clause says.
 
+mod objects;
+
 use crate::input::{Unread, read_all};
 use crate::output::write_all;
 use crate::program::run_program;
 use crate::record::{ScriptRecord, record_line};
+use crate::script_object::ScriptObject;
 use crate::sink::{NeverFailsSink, VecSink};
 use crate::source::{NeverFailsSource, VecSource};
 use crate::status::Status;
@@ -19,7 +22,7 @@ use std::alloc::{AllocError, Global};
 use std::sync::Arc;
 use std::test::Fail;
 
-type Asks = List<SourceExchange<DynamicObject>>;
+type Asks = List<SourceExchange<ScriptObject>>;
 
 /// A page, a watch that waits, and a turn.
 const SCRIPT: &str =
@@ -293,7 +296,7 @@ fn tells_each_line_that_fails(rt: HostRuntime) -> Result<(), Fail> {
 }
 
 /// An object of this metadata's texts.
-fn object(alloc: Global) -> Result<Arc<DynamicObject>, NoMemory> {
+fn object(alloc: Global) -> Result<Arc<ScriptObject>, NoMemory> {
     let metadata = ObjectMeta {
         name: Some(Text::new(alloc, "a")?),
         namespace: Some(Text::new(alloc, "n")?),
@@ -301,11 +304,11 @@ fn object(alloc: Global) -> Result<Arc<DynamicObject>, NoMemory> {
         resource_version: Some(Text::new(alloc, "1")?),
         ..ObjectMeta::empty()
     };
-    Ok(Arc::new(alloc, DynamicObject::bare(metadata))?)
+    Ok(Arc::new(alloc, ScriptObject::new(DynamicObject::bare(metadata)))?)
 }
 
 /// Its reference.
-fn reference(alloc: Global) -> Result<ObjectRef<DynamicObject>, NoMemory> {
+fn reference(alloc: Global) -> Result<ObjectRef<ScriptObject>, NoMemory> {
     let kind = ApiResource {
         group: Text::new(alloc, "")?,
         version: Text::new(alloc, "v1")?,
@@ -386,7 +389,7 @@ fn add_page(alloc: Global, asks: &mut Asks) -> Result<(), NoMemory> {
     let mut items = List::new(alloc);
     items.push(object(alloc)?)?;
     let metadata = ObjectMeta::empty();
-    items.push(Arc::new(alloc, DynamicObject::bare(metadata))?)?;
+    items.push(Arc::new(alloc, ScriptObject::new(DynamicObject::bare(metadata)))?)?;
     let mut requests = List::new(alloc);
     requests.push(ReconcileRequest {
         obj_ref: reference(alloc)?,
@@ -460,7 +463,7 @@ fn add_silences(alloc: Global, asks: &mut Asks) -> Result<(), NoMemory> {
 }
 
 /// One finish with an action of its own, and one with a fault.
-fn finishes(alloc: Global) -> Result<List<Finished<DynamicObject, Text>>, NoMemory> {
+fn finishes(alloc: Global) -> Result<List<Finished<ScriptObject, Text>>, NoMemory> {
     let mut finished = List::new(alloc);
     finished.push(Finished {
         reference: reference(alloc)?,
@@ -476,7 +479,7 @@ fn finishes(alloc: Global) -> Result<List<Finished<DynamicObject, Text>>, NoMemo
 }
 
 /// A take that was found, and two that were not.
-fn takes(alloc: Global) -> Result<List<Taken<DynamicObject>>, NoMemory> {
+fn takes(alloc: Global) -> Result<List<Taken<ScriptObject>>, NoMemory> {
     let mut taken = List::new(alloc);
     taken.push(Taken::Started {
         reference: reference(alloc)?,
@@ -487,7 +490,7 @@ fn takes(alloc: Global) -> Result<List<Taken<DynamicObject>>, NoMemory> {
     taken.push(Taken::NotFound {
         reference: reference(alloc)?,
         reason: ReconcileReason::RelatedObjectUpdated {
-            obj_ref: Box::new(alloc, reference(alloc)?)?,
+            obj_ref: Box::new(alloc, reference(alloc)?.erase(alloc)?)?,
         },
     })?;
     taken.push(Taken::NotFound {
@@ -519,7 +522,7 @@ fn stops(alloc: Global) -> Result<List<Stop>, NoMemory> {
     Ok(stops)
 }
 
-fn store(alloc: Global) -> Result<List<Arc<DynamicObject>>, NoMemory> {
+fn store(alloc: Global) -> Result<List<Arc<ScriptObject>>, NoMemory> {
     let mut store = List::new(alloc);
     store.push(object(alloc)?)?;
     Ok(store)

@@ -1,7 +1,7 @@
 use Rattle.std.proofs.Common.{◌≡◌, ℕ, List, [], length, take, refl, sym, ap, subst, ◌∙◌}
 use Rattle.std.specs.List.{AllZip}
 use Rattle.std.proofs.lemmas.List.{length-map, take-map}
-use Rattle.kube_meta.specs.declared.dynamic.DynamicObject.{DynamicObject}
+use Rattle.kube_meta.specs.Reading.{ObjectData}
 use Rattle.kube_meta.specs.Resources.{resource_type}
 use Rattle.kube_model.specs.Traces.{IsTrace}
 use Rattle.kube_api.specs.TestScript as api
@@ -20,7 +20,7 @@ use Rattle.kube_run.proofs.Played.{Held, at-not-built, both-err, both-ok, none-p
 use Rattle.kube_run.proofs.play.play.Goals as goal
 
 -- no turn was taken yet
-none-before : (s : Script) (e : RunError DynamicObject (List ℕ) Named) → e ≡ NoMemory (record { records = [] }) → IsPlayedFront s (records_of named_type (records_before e))
+none-before : (s : Script) (e : RunError ObjectData (List ℕ) Named) → e ≡ NoMemory (record { records = [] }) → IsPlayedFront s (records_of named_type (records_before e))
 none-before s e same =
     subst (λ r. IsPlayedFront s (records_of named_type (records_before r))) (sym same)
     (none-played s)
@@ -32,7 +32,7 @@ pub returns-then-len-clause-before : goal.returns-then-len-clause-before
 returns-then-len-clause-before c = none-before (seen_script c.args.script) c.no_memory-then-len.result c.no_memory-then-len.ensures
 
 -- the turns of as many records
-as-many : (held : List Held) (items : List (HeldTurn DynamicObject (List ℕ) Named)) → turns_of named_type (take (length held) items) ≡ take (length (records_of named_type held)) (turns_of named_type items)
+as-many : (held : List Held) (items : List (HeldTurn ObjectData (List ℕ) Named)) → turns_of named_type (take (length held) items) ≡ take (length (records_of named_type held)) (turns_of named_type items)
 as-many held items = sym (take-map (turn_of named_type) (length held) items) ∙ ap (λ n. take n (turns_of named_type items)) (sym (length-map held (record_of named_type)))
 
 pub returns-clause-played : goal.returns-clause-played

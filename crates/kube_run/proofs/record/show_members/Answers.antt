@@ -1,7 +1,8 @@
 use Rattle.std.proofs.Common.{◌∙◌, codes, option_map}
 use Rattle.serde_json.specs.Data.{member, boolean, number, unsigned}
 use Rattle.kube_run.specs.Shown.{array_of, member_if}
-use Rattle.kube_run.specs.TraceText.{object_data, finish_data, stop_data, taken_data, line_members}
+use Rattle.kube_meta.specs.Writing.{object_data}
+use Rattle.kube_run.specs.TraceText.{finish_data, stop_data, taken_data, line_members}
 use Rattle.kube_run.specs.TraceView.{seen_record}
 use Rattle.kube_run.proofs.record.show_members.Goals as goal
 

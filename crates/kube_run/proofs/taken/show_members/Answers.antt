@@ -3,7 +3,8 @@ use Rattle.std.specs.Arc.{arc_value}
 use Rattle.serde_json.specs.Data.{member}
 use Rattle.kube_model.specs.ReasonView.{reason_of}
 use Rattle.kube_run.specs.Shown.{member_if}
-use Rattle.kube_run.specs.TraceText.{object_data, reference_data, reason_data, taken_members}
+use Rattle.kube_meta.specs.Writing.{object_data}
+use Rattle.kube_run.specs.TraceText.{reference_data, reason_data, taken_members}
 use Rattle.kube_run.specs.TraceView.{seen_reference}
 use Rattle.kube_run.proofs.taken.show_members.Goals as goal
 

@@ -2,7 +2,7 @@ use Rattle.serde_json.specs.Data.{no_members}
 use Rattle.kube_run.specs.TraceText.{finish_data, finish_members}
 use Rattle.kube_run.specs.TraceView.{seen_finish}
 use Rattle.kube_run.proofs.Shown.{object_shown}
-use Rattle.kube_run.proofs.record.FinishedDynamicObjectTextShow.show.Goals as goal
+use Rattle.kube_run.proofs.record.FinishedScriptObjectTextShow.show.Goals as goal
 
 pub returns-clause-tokens : goal.returns-clause-tokens
 unfolding finish_data
