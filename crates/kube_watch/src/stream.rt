@@ -15,6 +15,7 @@ pub enum StreamFault {
 
 impl From<NoMemory> for StreamFault {
     ghost use Rattle.std.specs.Prelude.{◌≡◌};
+    ghost use Rattle.kube_watch.specs.declared.stream.StreamFault.{StreamFault};
 
     ghost from_gives = { λ e f. f ≡ StreamFault.NoMemory };
 
