@@ -1,0 +1,7 @@
+-- lemmas that the proofs cite
+pub mod Reading
+pub mod Putting
+pub mod Lagging
+pub mod Staying
+pub mod Relisting
+pub mod Seeing

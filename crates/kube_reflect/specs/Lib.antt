@@ -1,0 +1,9 @@
+-- the definitions that the contracts cite
+pub mod Views
+pub mod Reads
+pub mod Cached
+pub mod Relists
+pub mod Subscribers
+pub mod Writers
+pub mod Lags
+pub mod Subscriptions

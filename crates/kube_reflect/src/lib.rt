@@ -1,0 +1,15 @@
+//! The stored objects of a watcher, the one that writes them, and those that are told of them (kube-runtime's
+//! `reflector`).
+#![tactic(auto)]
+
+pub mod cache;
+pub mod dispatcher;
+pub mod laws;
+mod ring;
+pub mod store;
+mod stored;
+
+pub use cache::Cache;
+pub use dispatcher::ReflectHandle;
+pub use kube_meta::{Lookup, ObjectRef};
+pub use store::{OfferError, WriteError, Writer};
