@@ -5,3 +5,5 @@ pub mod Lagging
 pub mod Staying
 pub mod Relisting
 pub mod Seeing
+pub mod Offering
+pub mod Polling

@@ -7,3 +7,7 @@ pub mod Subscribers
 pub mod Writers
 pub mod Lags
 pub mod Subscriptions
+pub mod Reflects
+pub mod HeldEvents
+pub mod Reflectors
+pub mod Lending

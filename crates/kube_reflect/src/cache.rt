@@ -13,6 +13,7 @@ ghost use Rattle.kube_reflect.specs.Cached.{put_under, drop_under};
 use crate::stored::{Stored, put, remove};
 use kube_meta::{NoMemory, ObjectRef, Resource, Selector, TextMap};
 use std::alloc::Global;
+use std::collections::VecDeque;
 use std::marker::Model;
 use std::sync::Arc;
 
@@ -113,12 +114,15 @@ fn share_all<K: Resource>(alloc: Global, items: &[Stored<K>]) -> Result<Vec<Arc<
 }
 
 /// All references.
-fn copy_keys<K: Resource>(alloc: Global, items: &[Stored<K>]) -> Result<Vec<ObjectRef<K>>, NoMemory>
+fn copy_keys<K: Resource>(
+    alloc: Global,
+    items: &[Stored<K>],
+) -> Result<VecDeque<ObjectRef<K>>, NoMemory>
     ensures { IfOk result (λ v. map (reference_of K.type_of) v.items ≡ map (λ s. reference_of K.type_of s.reference) items.now) }
 {
-    let mut keys = Vec::new(alloc);
+    let mut keys = VecDeque::new(alloc);
     for stored in items {
-        keys.push(stored.reference.copy(alloc)?)?;
+        keys.push_back(stored.reference.copy(alloc)?)?;
     }
     Ok(keys)
 }
@@ -196,7 +200,7 @@ impl<K: Resource> Cache<K> {
     }
 
     // The references, in order.
-    pub(crate) fn keys(&self, alloc: Global) -> Result<Vec<ObjectRef<K>>, NoMemory>
+    pub(crate) fn queue_keys(&self, alloc: Global) -> Result<VecDeque<ObjectRef<K>>, NoMemory>
         ensures { IfOk result (λ v. map (reference_of K.type_of) v.items ≡ map (λ p. p.0) self.now) }
     {
         copy_keys(alloc, &self.items)

@@ -4,7 +4,10 @@
 
 pub mod cache;
 pub mod dispatcher;
+mod held;
 pub mod laws;
+pub mod reflecting;
+pub mod reflector;
 mod ring;
 pub mod store;
 mod stored;
@@ -12,4 +15,5 @@ mod stored;
 pub use cache::Cache;
 pub use dispatcher::ReflectHandle;
 pub use kube_meta::{Lookup, ObjectRef};
+pub use reflecting::Reflector;
 pub use store::{OfferError, WriteError, Writer};

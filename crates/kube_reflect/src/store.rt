@@ -1,6 +1,6 @@
 //! The one that writes a cache (kube-runtime's `reflector::store`).
 
-ghost use Rattle.std.specs.Prelude.{◌≡◌, ◌≤◌, ◌↔◌, [], true, false, Some, None, IfOk, IfSome, IsNone, OnOk, OnErr, IsErrOf, is_some};
+ghost use Rattle.std.specs.Prelude.{◌≡◌, ◌≤◌, [], ◌∷◌, map, true, false, Some, None, IfOk, IfSome, IsNone, OnOk, OnErr, IsErrOf, is_some};
 ghost use Rattle.std.specs.Arc.{arc_value};
 ghost use Rattle.kube_meta.specs.Keys.{reference_of, key_of, is_named};
 ghost use Rattle.kube_watch.specs.Events.{event_map};
@@ -15,6 +15,7 @@ use crate::ring::Ring;
 use kube_meta::{Next, NoMemory, ObjectRef, RefError, Resource, TypeInfo};
 use kube_watch::Event;
 use std::alloc::Global;
+use std::collections::VecDeque;
 use std::marker::Model;
 use std::mem::replace;
 use std::sync::Arc;
@@ -221,6 +222,43 @@ impl<K: Resource> Writer<K> {
         match &mut self.ring {
             Some(ring) => ring.offer(reference),
             None => Ok(()),
+        }
+    }
+
+    // The same where no live subscriber lags behind.
+    pub(crate) fn offer_now(
+        &mut self,
+        _alloc: Global,
+        reference: ObjectRef<K>,
+    ) -> Result<(), NoMemory>
+        requires { is_lagged self.old ≡ false }
+        ensures offered { OnOk result (self.new ≡ with_offer self.old (reference_of K.type_of reference)) }
+        ensures err { OnErr result (self.new ≡ self.old) }
+    {
+        match self.offer_once(reference) {
+            Ok(()) => Ok(()),
+            Err(OfferError::NoMemory) => Err(NoMemory),
+            Err(OfferError::Full) => unreachable!(),
+        }
+    }
+
+    // The reference of a named object, alone.
+    pub(crate) fn queue_key(
+        &self,
+        alloc: Global,
+        object: &K,
+    ) -> Result<VecDeque<ObjectRef<K>>, NoMemory>
+        requires { is_named (K.meta_of object.now) ≡ true }
+        ensures { IfOk result (λ v. map (reference_of K.type_of) v.items ≡ key_of self.now.kind (K.meta_of object.now) ∷ []) }
+    {
+        match self.key(alloc, object) {
+            Ok(reference) => {
+                let mut queue = VecDeque::new(alloc);
+                queue.push_back(reference)?;
+                Ok(queue)
+            }
+            Err(WriteError::NoMemory) => Err(NoMemory),
+            Err(WriteError::Unnamed) => unreachable!(),
         }
     }
 

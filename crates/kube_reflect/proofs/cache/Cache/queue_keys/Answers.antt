@@ -3,7 +3,7 @@ use Rattle.std.proofs.lemmas.Result.{IfOk-weaker}
 use Rattle.kube_meta.specs.Keys.{reference_of}
 use Rattle.kube_reflect.specs.Views.{stored_of}
 use Rattle.kube_reflect.proofs.Reading.{references-seen}
-use Rattle.kube_reflect.proofs.cache.Cache.keys.Goals as goal
+use Rattle.kube_reflect.proofs.cache.Cache.queue_keys.Goals as goal
 
 pub returns : goal.returns
 returns g c =
