@@ -1,5 +1,4 @@
 -- What a reflector is after its writer was lent.
-use Rattle.std.specs.Borrow.{RattleType, Lends, MutBor, Fml}
 use Rattle.kube_reflect.specs.declared.reflecting.Reflector.{Reflector}
 use Rattle.kube_reflect.specs.Writers.{Writing}
 

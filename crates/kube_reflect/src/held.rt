@@ -8,6 +8,7 @@ ghost use Rattle.kube_watch.specs.Events.{event_map};
 ghost use Rattle.kube_reflect.specs.Cached.{has_name};
 ghost use Rattle.kube_reflect.specs.Reflects.{all_offered, offered_in, event_offers, IsOffered, IsTaken};
 ghost use Rattle.kube_reflect.specs.HeldEvents.{held_of};
+ghost use Rattle.kube_reflect.specs.Writers.{AllStay};
 
 use crate::store::{OfferError, WriteError, Writer};
 use kube_meta::{Next, NoMemory, ObjectRef, Resource};
@@ -52,6 +53,7 @@ fn offer_all<K: Resource>(
 ) -> Result<(), NoMemory>
     ensures writer { OnOk result (writer.new ≡ (offered_in writer.old (map (reference_of K.type_of) references.old.items)).0) }
     ensures left { OnOk result (map (reference_of K.type_of) references.new.items ≡ (offered_in writer.old (map (reference_of K.type_of) references.old.items)).1) }
+    ensures live { AllStay writer.old writer.new }
     ensures some { OnErr result ((count : ℕ) × (writer.new ≡ all_offered writer.old (take count (map (reference_of K.type_of) references.old.items)))) }
 {
     for _offered in 0..references.len() {
@@ -73,7 +75,8 @@ pub fn give<K: Resource>(
     alloc: Global,
     held: Held<K>,
 ) -> Answer<K>
-    ensures { IsOffered writer.old held.event (map (reference_of K.type_of) held.references.items) result writer.new (option_map (held_of K.type_of) slot.new) }
+    ensures live { AllStay writer.old writer.new }
+    ensures offered { IsOffered writer.old held.event (map (reference_of K.type_of) held.references.items) result writer.new (option_map (held_of K.type_of) slot.new) }
 {
     let Held {
         event,
@@ -98,7 +101,8 @@ pub fn take<K: Resource>(
     event: Event<Arc<K>>,
 ) -> Answer<K>
     requires { slot.old ≡ None }
-    ensures { IsTaken arc_value K.meta_of writer.old event result writer.new (option_map (held_of K.type_of) slot.new) }
+    ensures live { AllStay writer.old writer.new }
+    ensures taken { IsTaken arc_value K.meta_of writer.old event result writer.new (option_map (held_of K.type_of) slot.new) }
 {
     match writer.apply_watcher_event(alloc, &event) {
         Ok(()) => {}

@@ -2,9 +2,9 @@
 
 ghost use Rattle.std.specs.Prelude.{◌≡◌, ◌≤◌, None};
 ghost use Rattle.std.specs.Arc.{arc_value};
-ghost use Rattle.std.specs.Borrow.{Lends, sem};
 ghost use Rattle.kube_reflect.specs.Reflects.{Asked, Answered, fault_in, gives_something};
 ghost use Rattle.kube_reflect.specs.HeldEvents.{held_of};
+ghost use Rattle.kube_reflect.specs.Writers.{AllStay};
 ghost use Rattle.std.specs.Option.{option_map};
 
 use crate::held::{Answer, Held, give, take};
@@ -65,7 +65,8 @@ fn reflect<K: Resource>(
     answer: Answer<K>,
 ) -> Answer<K>
     requires { slot.old ≡ None }
-    ensures { Answered arc_value K.meta_of writer.old answer result writer.new (option_map (held_of K.type_of) slot.new) }
+    ensures live { AllStay writer.old writer.new }
+    ensures answered { Answered arc_value K.meta_of writer.old answer result writer.new (option_map (held_of K.type_of) slot.new) }
 {
     match answer {
         Ok(Next::Item(Ok(event))) => take(writer, slot, alloc, event),
@@ -88,10 +89,15 @@ fn fault_of<K: Resource>(answer: &Answer<K>) -> Option<StreamFault>
 }
 
 impl<K: Resource, St: Drop> Reflector<K, St> {
+    ghost use Rattle.std.specs.Borrow.{Lends, sem};
     ghost use Rattle.kube_reflect.specs.Lending.{with_writer};
+    ghost use Rattle.kube_reflect.specs.contracts.reflecting.Reflector.{the_row as reflector_row};
+    ghost use Rattle.kube_reflect.specs.contracts.store.Writer.{the_row as writer_row};
 
     /// The writer, to which all events that were given were applied, and the one that waits where there is one.
     pub fn writer(&mut self) -> &mut Writer<K>
+        ensures* lends { sem 𝓛 (Lends (reflector_row K.row St.row K.DynamicType.row K.Resource K.DynamicType.PartialEq (record { hash_input = K.DynamicType.hash_input }))
+            (writer_row K.row K.DynamicType.row K.Resource K.DynamicType.PartialEq (record { hash_input = K.DynamicType.hash_input })) self.entry result (with_writer self.old)) }
         ensures value { result.now ≡ self.old.writer }
     {
         &mut self.writer
@@ -116,6 +122,7 @@ impl<K: Resource, St: EventStream<Item = Event<Arc<K>>>> EventStream for Reflect
     ghost use Rattle.std.specs.Arc.{arc_value};
     ghost use Rattle.kube_reflect.specs.Reflects.{Reflected};
     ghost use Rattle.kube_reflect.specs.Reflectors.{reflecting};
+    ghost use Rattle.kube_reflect.specs.Writers.{AllStay};
 
     type Item = Event<Arc<K>>;
 
@@ -123,7 +130,8 @@ impl<K: Resource, St: EventStream<Item = Event<Arc<K>>>> EventStream for Reflect
 
     ghost can_poll = { λ r. St.can_poll r.stream };
 
-    ghost polls = { λ r now fuel answer s. Reflected arc_value K.meta_of St.polls r.fault (reflecting K.type_of r) now fuel answer (reflecting K.type_of s) };
+    ghost polls = { λ r now fuel answer s. Reflected arc_value K.meta_of St.polls r.fault (reflecting K.type_of r) now fuel answer (reflecting K.type_of s)
+        × AllStay r.writer s.writer };
 
     fn poll_next(&mut self, alloc: Global, now: Moment, fuel: u32) -> Answer<K> {
         if let Some(fault) = self.fault {

@@ -153,6 +153,7 @@ impl<K: Resource> Writer<K> {
         ensures named { OnOk result (has_name K.meta_of (event_map arc_value event.now) ≡ true) }
         ensures unnamed { IsErrOf result WriteError.Unnamed → has_name K.meta_of (event_map arc_value event.now) ≡ false }
         ensures err { OnErr result (self.new ≡ self.old) }
+        ensures live { AllStay self.old self.new }
     {
         match event {
             Event::Apply(object) => {
@@ -228,14 +229,15 @@ impl<K: Resource> Writer<K> {
     // The same where no live subscriber lags behind.
     pub(crate) fn offer_now(
         &mut self,
-        _alloc: Global,
+        alloc: Global,
         reference: ObjectRef<K>,
     ) -> Result<(), NoMemory>
         requires { is_lagged self.old ≡ false }
         ensures offered { OnOk result (self.new ≡ with_offer self.old (reference_of K.type_of reference)) }
         ensures err { OnErr result (self.new ≡ self.old) }
+        ensures live { AllStay self.old self.new }
     {
-        match self.offer_once(reference) {
+        match self.offer(alloc, reference) {
             Ok(()) => Ok(()),
             Err(OfferError::NoMemory) => Err(NoMemory),
             Err(OfferError::Full) => unreachable!(),

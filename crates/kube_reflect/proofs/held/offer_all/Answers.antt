@@ -24,6 +24,7 @@ loop-offered-preserved g c =
     let h : c.loop-offered._offered < length (map (reference_of g.K.Resource.type_of) c.args.references.now.items) = omega (arith, n) in
     let low = sym c.is_lagged.ensures ∙ c.if-is_lagged.false in
     record {
+      live = λ number h. c.offer_now.ensures.live number (c.loop-offered.invariant.live number h);
       left = c.pop_front.ensures.rest ∙ (ap (drop 1) c.loop-offered.invariant.left ∙ drop-drop 1 i all);
       offered = offered-more w c.offer_now.new.self c.args.writer.now (map ref all) i r h
           (read-left ref all c.loop-offered.references.items i c.in-Some.reference c.loop-offered.invariant.left c.in-Some.ensures.lookup)
