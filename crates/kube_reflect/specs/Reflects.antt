@@ -34,6 +34,10 @@ gives_something (Ok Spent) = false
 gives_something (Ok End) = true
 gives_something (Err fault) = true
 
+-- what a poll of a stream says: what it says of itself, and that the answer is told where it tells its answers
+abbrev pub Said : {S I : Type 0} → (S → ℕ → ℕ → Answer I → S → Type 0) → (S → Option (List (Answer I))) → S → ℕ → ℕ → Answer I → S → Type 0
+Said polls told s now fuel answer s' = polls s now fuel answer s' × (told s' ≡ told_after (told s) answer)
+
 module _ {S I : Type 0} (polls : S → ℕ → ℕ → Answer I → S → Type 0) where
   -- polls of a stream at one moment, one after another, each with fuel 1
   abbrev pub Polls : ℕ → S → List (Answer I) → S → Type 0

@@ -2,7 +2,7 @@
 
 ghost use Rattle.std.specs.Prelude.{◌≡◌, ◌≤◌, None};
 ghost use Rattle.std.specs.Arc.{arc_value};
-ghost use Rattle.kube_reflect.specs.Reflects.{Asked, Answered, fault_in, gives_something};
+ghost use Rattle.kube_reflect.specs.Reflects.{Asked, Answered, fault_in, gives_something, Said};
 ghost use Rattle.kube_reflect.specs.HeldEvents.{held_of};
 ghost use Rattle.kube_reflect.specs.Writers.{AllStay};
 ghost use Rattle.std.specs.Option.{option_map};
@@ -46,7 +46,7 @@ fn ask<St: EventStream>(
     requires may { St.can_poll stream.old }
     requires fuel { 1 ≤ fuel }
     ensures may { St.can_poll stream.new }
-    ensures asked { Asked St.polls now.0 fuel stream.old result stream.new }
+    ensures asked { Asked (Said St.polls St.told) now.0 fuel stream.old result stream.new }
 {
     for _idle in 0..fuel - 1 {
         let answer = stream.poll_next(alloc, now, 1);
@@ -120,7 +120,7 @@ impl<K: Resource, St: Drop> Reflector<K, St> {
 impl<K: Resource, St: EventStream<Item = Event<Arc<K>>>> EventStream for Reflector<K, St> {
     ghost use Rattle.std.specs.Prelude.{None};
     ghost use Rattle.std.specs.Arc.{arc_value};
-    ghost use Rattle.kube_reflect.specs.Reflects.{Reflected};
+    ghost use Rattle.kube_reflect.specs.Reflects.{Reflected, Said};
     ghost use Rattle.kube_reflect.specs.Reflectors.{reflecting};
     ghost use Rattle.kube_reflect.specs.Writers.{AllStay};
 
@@ -130,7 +130,7 @@ impl<K: Resource, St: EventStream<Item = Event<Arc<K>>>> EventStream for Reflect
 
     ghost can_poll = { λ r. St.can_poll r.stream };
 
-    ghost polls = { λ r now fuel answer s. Reflected arc_value K.meta_of St.polls r.fault (reflecting K.type_of r) now fuel answer (reflecting K.type_of s)
+    ghost polls = { λ r now fuel answer s. Reflected arc_value K.meta_of (Said St.polls St.told) r.fault (reflecting K.type_of r) now fuel answer (reflecting K.type_of s)
         × AllStay r.writer s.writer };
 
     fn poll_next(&mut self, alloc: Global, now: Moment, fuel: u32) -> Answer<K> {
