@@ -1,5 +1,5 @@
 -- A writer and the handles of its subscribers. (Crate: `reflector::store::Writer`, `ReflectHandle`.)
-use Rattle.std.specs.Prelude.{◌≡◌, ℕ, Bool, true, false, List, [], length, Option, Some, None, is_some}
+use Rattle.std.specs.Prelude.{◌≡◌, ◌≢◌, ℕ, Bool, true, false, List, [], length, Option, Some, None, is_some}
 use Rattle.std.specs.Option.{option_map}
 use Rattle.kube_meta.specs.Reference.{ObjectType, Reference}
 use Rattle.kube_meta.specs.declared.poll.Next.{Next}
@@ -37,6 +37,10 @@ module _ {O : Type 0} where
   -- each subscriber that was live is live
   abbrev pub AllStay : Writing O → Writing O → Type 0
   AllStay w w' = (number : ℕ) → is_live w number ≡ true → is_live w' number ≡ true
+
+  -- each other one that was live is live
+  abbrev pub OthersStay : ℕ → Writing O → Writing O → Type 0
+  OthersStay gone w w' = (number : ℕ) → number ≢ gone → is_live w number ≡ true → is_live w' number ≡ true
 
   -- whether a live subscriber has not taken as many offers as it may leave
   abbrev pub is_lagged : Writing O → Bool

@@ -3,7 +3,7 @@
 ghost use Rattle.std.specs.Prelude.{◌≡◌, [], true, false, Some, IfOk, OnOk, OnErr, IsErr};
 ghost use Rattle.std.specs.Arc.{arc_value};
 ghost use Rattle.kube_reflect.specs.Subscribers.{next_map};
-ghost use Rattle.kube_reflect.specs.Writers.{fresh, is_live, AllStay, next_number, with_subscriber, without_subscriber, references_for, answer_for, after_answer};
+ghost use Rattle.kube_reflect.specs.Writers.{fresh, is_live, AllStay, OthersStay, next_number, with_subscriber, without_subscriber, references_for, answer_for, after_answer};
 
 use crate::store::Writer;
 use kube_meta::{Next, NoMemory, Resource};
@@ -92,7 +92,8 @@ impl<K: Resource> ReflectHandle<K> {
     /// Ends the subscription: what is offered waits for it no more.
     pub fn leave(self, writer: &mut Writer<K>)
         requires { is_live writer.old self.number ≡ true }
-        ensures { writer.new ≡ without_subscriber writer.old self.number }
+        ensures gone { writer.new ≡ without_subscriber writer.old self.number }
+        ensures live { OthersStay self.number writer.old writer.new }
     {
         writer.end_subscriber(self.number);
     }

@@ -17,3 +17,6 @@ pub use dispatcher::ReflectHandle;
 pub use kube_meta::{Lookup, ObjectRef};
 pub use reflecting::Reflector;
 pub use store::{OfferError, WriteError, Writer};
+
+#[cfg(test)]
+mod tests;
