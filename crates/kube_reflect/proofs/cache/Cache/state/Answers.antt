@@ -1,0 +1,14 @@
+use Rattle.std.proofs.Common.{◌≡◌, ap, ◌∙◌, map}
+use Rattle.std.proofs.lemmas.Result.{IfOk-weaker}
+use Rattle.std.specs.Arc.{arc_value}
+use Rattle.kube_reflect.specs.Reads.{objects}
+use Rattle.kube_reflect.specs.Views.{stored_of}
+use Rattle.kube_reflect.proofs.Reading.{objects-seen}
+use Rattle.kube_reflect.proofs.cache.Cache.state.Goals as goal
+
+pub returns : goal.returns
+returns g c =
+    let seen = stored_of g.K.Resource.type_of in
+    IfOk-weaker c.share_all.result _ _
+    (λ v e. e ∙ (ap (map (λ s. arc_value s.object)) c.deref.ensures.value ∙ (objects-seen seen c.self.inside.items.items ∙ ap objects c.self.view_is)))
+    c.share_all.ensures

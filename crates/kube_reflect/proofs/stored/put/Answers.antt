@@ -1,0 +1,12 @@
+use Rattle.std.proofs.Common.{◌<◌, ◌∙◌, sym, ap, arith, length, map, set}
+use Rattle.kube_reflect.specs.Views.{stored_of}
+use Rattle.kube_reflect.proofs.Putting.{put_hit}
+use Rattle.kube_reflect.proofs.stored.put.Goals as goal
+
+pub returns-then-eq-clause-ok : goal.returns-then-eq-clause-ok
+returns-then-eq-clause-ok g c =
+    let k = c.loop-i.invariant.kept in
+    let h : c.loop-i.i < length c.args.items.now.items = omega arith in
+    let seen = stored_of g.K.Resource.type_of in
+    ap (map seen) (c.write.ensures ∙ ap (λ xs. set xs c.loop-i.i c.args.item) k)
+    ∙ put_hit seen c.args.items.now.items c.args.item c.index.result.now c.loop-i.i h (rw k at c.index.ensures) (sym c.eq.ensures ∙ c.if-eq.true) c.loop-i.invariant.passed

@@ -1,0 +1,14 @@
+use Rattle.std.proofs.Common.{◌≡◌, ◌++◌, drop, map, take}
+use Rattle.kube_reflect.specs.Cached.{put_under}
+use Rattle.kube_reflect.specs.Views.{stored_of}
+use Rattle.kube_reflect.proofs.stored.put.Given as goal
+
+-- nothing was written, what was passed over stays, and the rest decides
+abbrev pub invariant-loop-i : goal.invariant-loop-i
+invariant-loop-i g l =
+    let seen = stored_of g.K.Resource.type_of in
+    record {
+      kept : l.items.items ≡ l.fn.items.items;
+      passed : put_under (map seen l.fn.items.items) (seen l.item)
+          ≡ map seen (take l.i l.fn.items.items) ++ put_under (map seen (drop l.i l.fn.items.items)) (seen l.item);
+    }

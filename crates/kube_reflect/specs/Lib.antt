@@ -1,0 +1,13 @@
+-- the definitions that the contracts cite
+pub mod Views
+pub mod Reads
+pub mod Cached
+pub mod Relists
+pub mod Subscribers
+pub mod Writers
+pub mod Lags
+pub mod Subscriptions
+pub mod Reflects
+pub mod HeldEvents
+pub mod Reflectors
+pub mod Lending

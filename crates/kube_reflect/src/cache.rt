@@ -1,0 +1,270 @@
+//! The stored objects (kube-runtime's `Store`, where it is read by the one that writes it).
+
+ghost use Rattle.std.specs.Prelude.{◌≡◌, ◌↔◌, [], IfOk, OnOk, OnErr, IsTrue, length, map, option_copied};
+ghost use Rattle.std.specs.List.{filter, find};
+ghost use Rattle.std.specs.Option.{option_map};
+ghost use Rattle.std.specs.Arc.{arc_value};
+ghost use Rattle.std.specs.Fn.{FnReturnsAt};
+ghost use Rattle.kube_meta.specs.Keys.{reference_of};
+ghost use Rattle.kube_meta.specs.Reference.{same_reference, without_namespace};
+ghost use Rattle.kube_reflect.specs.Reads.{object_at, objects, IsFirst, IsFiltered, is_selected};
+ghost use Rattle.kube_reflect.specs.Cached.{put_under, drop_under};
+
+use crate::stored::{Stored, put, remove};
+use kube_meta::{NoMemory, ObjectRef, Resource, Selector, TextMap};
+use std::alloc::Global;
+use std::collections::VecDeque;
+use std::marker::Model;
+use std::sync::Arc;
+
+/// The stored objects, each under its reference, in the order in which their references came.
+///
+/// Contracts see it as the list of pairs of a reference and an object.
+#[derive(Drop)]
+pub struct Cache<K: Resource> {
+    items: Vec<Stored<K>>,
+}
+
+impl<K: Resource> Model for Cache<K> {
+    ghost use Rattle.std.specs.Prelude.{List};
+    ghost use Rattle.kube_meta.specs.Reference.{Reference};
+    ghost use Rattle.kube_reflect.specs.Views.{all_stored};
+
+    ghost Value = { List (Reference × K) };
+
+    ghost view = { λ c. all_stored K.type_of c.items.items };
+}
+
+/// Whether an object passes.
+fn lets_pass<K, P: Fn(&K) -> bool>(p: &P, object: &K) -> bool
+    requires { P.IsAlwaysCallable p.now }
+    ensures { FnReturnsAt P.Fn p.now object.now result }
+{
+    p(object)
+}
+
+/// Whether the first is the second without its namespace.
+fn is_without_namespace<K: Resource>(a: &ObjectRef<K>, b: &ObjectRef<K>) -> bool
+    ensures { result ≡ same_reference (reference_of K.type_of a.now) (without_namespace (reference_of K.type_of b.now)) }
+{
+    a.name == b.name
+        && a.namespace == None
+        && K::group(&a.dyntype) == K::group(&b.dyntype)
+        && K::version(&a.dyntype) == K::version(&b.dyntype)
+        && K::kind(&a.dyntype) == K::kind(&b.dyntype)
+        && K::plural(&a.dyntype) == K::plural(&b.dyntype)
+}
+
+/// The object under a reference.
+fn find_equal<'a, K: Resource>(
+    items: &'a [Stored<K>],
+    reference: &ObjectRef<K>,
+) -> Option<&'a Arc<K>>
+    ensures { option_map arc_value (option_copied result)
+        ≡ option_map (λ s. arc_value s.object) (find (λ s. same_reference (reference_of K.type_of s.reference) (reference_of K.type_of reference.now)) items.now) }
+{
+    match items.iter().find(|s| s.reference == *reference) {
+        Some(s) => Some(&s.object),
+        None => None,
+    }
+}
+
+/// The object under a reference without its namespace.
+fn find_without_namespace<'a, K: Resource>(
+    items: &'a [Stored<K>],
+    reference: &ObjectRef<K>,
+) -> Option<&'a Arc<K>>
+    ensures { option_map arc_value (option_copied result)
+        ≡ option_map (λ s. arc_value s.object) (find (λ s. same_reference (reference_of K.type_of s.reference) (without_namespace (reference_of K.type_of reference.now))) items.now) }
+{
+    match items
+        .iter()
+        .find(|s| is_without_namespace(&s.reference, reference))
+    {
+        Some(s) => Some(&s.object),
+        None => None,
+    }
+}
+
+/// The first object that passes.
+fn find_passing<'a, K: Resource, P: Fn(&K) -> bool>(
+    items: &'a [Stored<K>],
+    p: &P,
+) -> Option<&'a Arc<K>>
+    requires { P.IsAlwaysCallable p.now }
+    ensures { IsFirst (FnReturnsAt P.Fn p.now) (map (λ s. arc_value s.object) items.now) (option_map arc_value (option_copied result)) }
+{
+    for stored in items {
+        if lets_pass(p, &*stored.object) {
+            return Some(&stored.object);
+        }
+    }
+    None
+}
+
+/// All objects.
+fn share_all<K: Resource>(alloc: Global, items: &[Stored<K>]) -> Result<Vec<Arc<K>>, NoMemory>
+    ensures { IfOk result (λ v. map arc_value v.items ≡ map (λ s. arc_value s.object) items.now) }
+{
+    let mut objects = Vec::new(alloc);
+    for stored in items {
+        objects.push(Arc::try_clone(&stored.object)?)?;
+    }
+    Ok(objects)
+}
+
+/// All references.
+fn copy_keys<K: Resource>(
+    alloc: Global,
+    items: &[Stored<K>],
+) -> Result<VecDeque<ObjectRef<K>>, NoMemory>
+    ensures { IfOk result (λ v. map (reference_of K.type_of) v.items ≡ map (λ s. reference_of K.type_of s.reference) items.now) }
+{
+    let mut keys = VecDeque::new(alloc);
+    for stored in items {
+        keys.push_back(stored.reference.copy(alloc)?)?;
+    }
+    Ok(keys)
+}
+
+/// The objects that pass.
+fn share_passing<K: Resource, P: Fn(&K) -> bool>(
+    alloc: Global,
+    items: &[Stored<K>],
+    p: &P,
+) -> Result<Vec<Arc<K>>, NoMemory>
+    requires { P.IsAlwaysCallable p.now }
+    ensures { IfOk result (λ v. IsFiltered (FnReturnsAt P.Fn p.now) (map (λ s. arc_value s.object) items.now) (map arc_value v.items)) }
+{
+    let mut objects = Vec::new(alloc);
+    for stored in items {
+        if lets_pass(p, &*stored.object) {
+            objects.push(Arc::try_clone(&stored.object)?)?;
+        }
+    }
+    Ok(objects)
+}
+
+/// Whether a selector holds of an object; `none` is the map without labels.
+fn is_selected<K: Resource>(selector: &Selector, object: &K, none: &TextMap) -> bool
+    requires { none.now ≡ [] }
+    ensures { result ≡ is_selected selector.now (K.meta_of object.now) }
+{
+    match &object.meta().labels {
+        Some(labels) => selector.matches(labels),
+        None => selector.matches(none),
+    }
+}
+
+/// The objects of which a selector holds.
+fn share_selected<K: Resource>(
+    alloc: Global,
+    items: &[Stored<K>],
+    selector: &Selector,
+) -> Result<Vec<Arc<K>>, NoMemory>
+    ensures { IfOk result (λ v. map arc_value v.items ≡ filter (λ o. is_selected selector.now (K.meta_of o)) (map (λ s. arc_value s.object) items.now)) }
+{
+    let none = TextMap::new(alloc);
+    let mut objects = Vec::new(alloc);
+    for stored in items {
+        if is_selected(selector, &*stored.object, &none) {
+            objects.push(Arc::try_clone(&stored.object)?)?;
+        }
+    }
+    Ok(objects)
+}
+
+impl<K: Resource> Cache<K> {
+    // Nothing.
+    pub(crate) fn new(alloc: Global) -> Cache<K>
+        ensures { result ≡ [] }
+    {
+        Cache {
+            items: Vec::new(alloc),
+        }
+    }
+
+    // Puts an object in the place of the one under an equal reference, or last.
+    pub(crate) fn put(&mut self, reference: ObjectRef<K>, object: Arc<K>) -> Result<(), NoMemory>
+        ensures ok { OnOk result (self.new ≡ put_under self.old (reference_of K.type_of reference, arc_value object)) }
+        ensures err { OnErr result (self.new ≡ self.old) }
+    {
+        put(&mut self.items, Stored { reference, object })
+    }
+
+    // Drops the object under an equal reference.
+    pub(crate) fn remove(&mut self, reference: &ObjectRef<K>)
+        ensures { (object : K) → self.new ≡ drop_under self.old (reference_of K.type_of reference.now, object) }
+    {
+        remove(&mut self.items, reference);
+    }
+
+    // The references, in order.
+    pub(crate) fn queue_keys(&self, alloc: Global) -> Result<VecDeque<ObjectRef<K>>, NoMemory>
+        ensures { IfOk result (λ v. map (reference_of K.type_of) v.items ≡ map (λ p. p.0) self.now) }
+    {
+        copy_keys(alloc, &self.items)
+    }
+
+    /// The object under a reference, or else under it without its namespace, as cluster-scoped objects are stored.
+    pub fn get(&self, key: &ObjectRef<K>) -> Option<&Arc<K>>
+        ensures { option_map arc_value (option_copied result) ≡ object_at self.now (reference_of K.type_of key.now) }
+    {
+        match find_equal(&self.items, key) {
+            Some(object) => Some(object),
+            None => find_without_namespace(&self.items, key),
+        }
+    }
+
+    /// The first object that passes.
+    pub fn find<P: Fn(&K) -> bool>(&self, p: P) -> Option<&Arc<K>>
+        requires { P.IsAlwaysCallable p }
+        ensures { IsFirst (FnReturnsAt P.Fn p) (objects self.now) (option_map arc_value (option_copied result)) }
+    {
+        find_passing(&self.items, &p)
+    }
+
+    /// All objects, in order.
+    pub fn state(&self, alloc: Global) -> Result<Vec<Arc<K>>, NoMemory>
+        ensures { IfOk result (λ v. map arc_value v.items ≡ objects self.now) }
+    {
+        share_all(alloc, &self.items)
+    }
+
+    /// The objects that pass, in order.
+    pub fn state_filter<P: Fn(&K) -> bool>(
+        &self,
+        alloc: Global,
+        p: P,
+    ) -> Result<Vec<Arc<K>>, NoMemory>
+        requires { P.IsAlwaysCallable p }
+        ensures { IfOk result (λ v. IsFiltered (FnReturnsAt P.Fn p) (objects self.now) (map arc_value v.items)) }
+    {
+        share_passing(alloc, &self.items, &p)
+    }
+
+    /// The objects whose labels a selector selects, in order. An object without labels has none of them.
+    pub fn state_filter_selector(
+        &self,
+        alloc: Global,
+        selector: &Selector,
+    ) -> Result<Vec<Arc<K>>, NoMemory>
+        ensures { IfOk result (λ v. map arc_value v.items ≡ filter (λ o. is_selected selector.now (K.meta_of o)) (objects self.now)) }
+    {
+        share_selected(alloc, &self.items, selector)
+    }
+
+    /// How many objects are stored.
+    pub fn len(&self) -> usize
+        ensures { result ≡ length self.now }
+    {
+        self.items.len()
+    }
+
+    /// Whether none is stored.
+    pub fn is_empty(&self) -> bool
+        ensures { IsTrue result ↔ (self.now ≡ []) }
+    {
+        self.items.is_empty()
+    }
+}

@@ -1,0 +1,24 @@
+//! Reflectors of streams (kube-runtime's `reflector::reflector`).
+
+ghost use Rattle.std.specs.Prelude.{◌≡◌, None};
+
+use crate::reflecting::Reflector;
+use crate::store::Writer;
+use kube_meta::Resource;
+use kube_watch::{Event, EventStream};
+use std::sync::Arc;
+
+/// A stream that applies the events of another one to a writer.
+pub fn reflector<K: Resource, St: EventStream<Item = Event<Arc<K>>>>(
+    writer: Writer<K>,
+    stream: St,
+) -> Reflector<K, St>
+    ensures { result ≡ record { writer = writer; stream = stream; held = None; fault = None } }
+{
+    Reflector {
+        writer,
+        stream,
+        held: None,
+        fault: None,
+    }
+}

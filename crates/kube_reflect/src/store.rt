@@ -1,0 +1,325 @@
+//! The one that writes a cache (kube-runtime's `reflector::store`).
+
+ghost use Rattle.std.specs.Prelude.{◌≡◌, ◌≤◌, [], ◌∷◌, map, true, false, Some, None, IfOk, IfSome, IsNone, OnOk, OnErr, IsErrOf, is_some};
+ghost use Rattle.std.specs.Arc.{arc_value};
+ghost use Rattle.kube_meta.specs.Keys.{reference_of, key_of, is_named};
+ghost use Rattle.kube_watch.specs.Events.{event_map};
+ghost use Rattle.kube_reflect.specs.Cached.{applied, has_name};
+ghost use Rattle.kube_reflect.specs.Subscribers.{new_ring, next_map};
+ghost use Rattle.kube_reflect.specs.Writers.{new_writer, fresh, is_live, AllStay, is_lagged, next_number, with_offer, with_subscriber, without_subscriber, with_close, references_for, answer_for, after_answer};
+
+use crate::cache::Cache;
+use crate::dispatcher::ReflectHandle;
+pub use crate::ring::OfferError;
+use crate::ring::Ring;
+use kube_meta::{Next, NoMemory, ObjectRef, RefError, Resource, TypeInfo};
+use kube_watch::Event;
+use std::alloc::Global;
+use std::collections::VecDeque;
+use std::marker::Model;
+use std::mem::replace;
+use std::sync::Arc;
+use thiserror::Error;
+
+/// Why an event was not applied.
+#[derive(Clone, Copy, Debug, PartialEq, Eq, Error)]
+pub enum WriteError {
+    /// The object of the event has no name.
+    #[error("object has no name")]
+    Unnamed,
+    /// Memory could not be had.
+    #[error("out of memory")]
+    NoMemory,
+}
+
+impl From<NoMemory> for WriteError {
+    ghost use Rattle.std.specs.Prelude.{◌≡◌};
+    ghost use Rattle.kube_reflect.specs.declared.store.WriteError.TheVariants.{NoMemory};
+
+    ghost from_gives = { λ _ e. e ≡ NoMemory };
+
+    fn from(_error: NoMemory) -> WriteError {
+        WriteError::NoMemory
+    }
+}
+
+/// Applies the events of a watcher to a cache, and offers references to subscribers where it is shared.
+///
+/// Contracts see it as the type of its objects, what its events made (the cache, the list under way and whether a list
+/// was complete), how many reader places it has left, and its ring of offers.
+#[derive(Drop)]
+pub struct Writer<K: Resource> {
+    dyntype: K::DynamicType,
+    cache: Cache<K>,
+    buffer: Cache<K>,
+    is_ready: bool,
+    readers: u32,
+    ring: Option<Ring<K>>,
+}
+
+impl<K: Resource> Model for Writer<K> {
+    ghost use Rattle.kube_reflect.specs.Writers.{Writing};
+
+    ghost Value = { Writing K };
+
+    ghost view = { λ w. record { kind = K.type_of w.dyntype; kept = record { cache = w.cache; buffer = w.buffer; is_ready = w.is_ready }; readers = w.readers; ring = w.ring } };
+}
+
+/// The same object.
+fn share<K: Drop>(object: &Arc<K>) -> Result<Arc<K>, NoMemory>
+    ensures { IfOk result (λ a. arc_value a ≡ arc_value object.now) }
+{
+    Ok(Arc::try_clone(object)?)
+}
+
+impl<K: Resource> Writer<K> {
+    /// A writer of an empty cache, which takes no subscribers. `readers` is how many store handles it can give.
+    pub fn new(alloc: Global, t: K::DynamicType, readers: u32) -> Result<Writer<K>, NoMemory>
+        requires { 1 ≤ readers }
+        ensures { IfOk result (λ w. w ≡ new_writer (K.type_of t) readers None) }
+    {
+        Ok(Writer {
+            dyntype: t,
+            cache: Cache::new(alloc),
+            buffer: Cache::new(alloc),
+            is_ready: false,
+            readers,
+            ring: None,
+        })
+    }
+
+    /// A writer of an empty cache, which takes subscribers: `buf_size` is how many offered references each of them may
+    /// leave before no more are offered.
+    pub fn new_shared(
+        alloc: Global,
+        buf_size: u32,
+        t: K::DynamicType,
+        readers: u32,
+    ) -> Result<Writer<K>, NoMemory>
+        requires room { 1 ≤ buf_size }
+        requires readers { 1 ≤ readers }
+        ensures { IfOk result (λ w. w ≡ new_writer (K.type_of t) readers (Some (new_ring buf_size))) }
+    {
+        Ok(Writer {
+            dyntype: t,
+            cache: Cache::new(alloc),
+            buffer: Cache::new(alloc),
+            is_ready: false,
+            readers,
+            ring: Some(Ring::new(alloc, buf_size)),
+        })
+    }
+
+    /// What is stored.
+    pub fn cache(&self) -> &Cache<K>
+        ensures { result.now ≡ self.now.kept.cache }
+    {
+        &self.cache
+    }
+
+    /// Whether a list was complete: after the first `InitDone`.
+    pub fn is_ready(&self) -> bool
+        ensures { result ≡ self.now.kept.is_ready }
+    {
+        self.is_ready
+    }
+
+    // The reference of an object.
+    fn key(&self, alloc: Global, object: &K) -> Result<ObjectRef<K>, WriteError>
+        ensures named { IfOk result (λ r. is_named (K.meta_of object.now) ≡ true) }
+        ensures reference { IfOk result (λ r. reference_of K.type_of r ≡ key_of self.now.kind (K.meta_of object.now)) }
+        ensures unnamed { IsErrOf result WriteError.Unnamed → is_named (K.meta_of object.now) ≡ false }
+    {
+        let dyntype = self.dyntype.share(alloc)?;
+        match ObjectRef::from_obj_with(alloc, object, dyntype) {
+            Ok(reference) => Ok(reference),
+            Err(RefError::Unnamed) => Err(WriteError::Unnamed),
+            Err(RefError::NoMemory) => Err(WriteError::NoMemory),
+        }
+    }
+
+    /// Applies one event.
+    ///
+    /// `Apply` puts its object into the cache in the place of the one under an equal reference, or last; `Delete` removes
+    /// it; `Init` begins a list; `InitApply` puts its object into that list; `InitDone` puts the list in place of the
+    /// cache, also where no `Init` came. `Unnamed` where the object of the event has no name. After that, and after want
+    /// of memory, the writer is as before.
+    pub fn apply_watcher_event(
+        &mut self,
+        alloc: Global,
+        event: &Event<Arc<K>>,
+    ) -> Result<(), WriteError>
+        ensures applied { OnOk result (self.new ≡ record self.old { kept = applied (λ o. key_of self.old.kind (K.meta_of o)) self.old.kept (event_map arc_value event.now) }) }
+        ensures named { OnOk result (has_name K.meta_of (event_map arc_value event.now) ≡ true) }
+        ensures unnamed { IsErrOf result WriteError.Unnamed → has_name K.meta_of (event_map arc_value event.now) ≡ false }
+        ensures err { OnErr result (self.new ≡ self.old) }
+        ensures live { AllStay self.old self.new }
+    {
+        match event {
+            Event::Apply(object) => {
+                let key = self.key(alloc, &**object)?;
+                let object = share(object)?;
+                self.cache.put(key, object)?;
+            }
+            Event::Delete(object) => {
+                let key = self.key(alloc, &**object)?;
+                self.cache.remove(&key);
+            }
+            Event::Init => self.buffer = Cache::new(alloc),
+            Event::InitApply(object) => {
+                let key = self.key(alloc, &**object)?;
+                let object = share(object)?;
+                self.buffer.put(key, object)?;
+            }
+            Event::InitDone => {
+                self.cache = replace(&mut self.buffer, Cache::new(alloc));
+                self.is_ready = true;
+            }
+        }
+        Ok(())
+    }
+
+    /// Adds a subscriber, which takes what is offered from now on. None where the writer is not shared.
+    pub fn subscribe(&mut self, _alloc: Global) -> Result<Option<ReflectHandle<K>>, NoMemory>
+        ensures none { IfOk result (λ o. is_some o ≡ is_some self.old.ring) }
+        ensures handle { IfOk result (λ o. IfSome o (λ h. h ≡ fresh (next_number self.old))) }
+        ensures writer { OnOk result (self.new ≡ with_subscriber self.old []) }
+        ensures own { IfOk result (λ o. IfSome o (λ h. is_live self.new h.number ≡ true)) }
+        ensures err { OnErr result (self.new ≡ self.old) }
+        ensures live { AllStay self.old self.new }
+    {
+        match &mut self.ring {
+            Some(ring) => {
+                let number = ring.subscribe()?;
+                Ok(Some(ReflectHandle::new(number)))
+            }
+            None => Ok(None),
+        }
+    }
+
+    /// Offers a reference to each live subscriber. `Full` where one of them has not taken as many offered references as
+    /// it may leave; the writer is then as before, also after want of memory. The reference is dropped where there is no
+    /// live subscriber.
+    pub fn offer(&mut self, _alloc: Global, reference: ObjectRef<K>) -> Result<(), OfferError>
+        ensures offered { OnOk result (self.new ≡ with_offer self.old (reference_of K.type_of reference)) }
+        ensures room { OnOk result (is_lagged self.old ≡ false) }
+        ensures full { IsErrOf result OfferError.Full → is_lagged self.old ≡ true }
+        ensures err { OnErr result (self.new ≡ self.old) }
+        ensures live { AllStay self.old self.new }
+    {
+        match self.offer_once(reference) {
+            Ok(()) => Ok(()),
+            Err(error) => Err(error),
+        }
+    }
+
+    // The same, without a word on those that stay.
+    fn offer_once(&mut self, reference: ObjectRef<K>) -> Result<(), OfferError>
+        ensures offered { OnOk result (self.new ≡ with_offer self.old (reference_of K.type_of reference)) }
+        ensures room { OnOk result (is_lagged self.old ≡ false) }
+        ensures full { IsErrOf result OfferError.Full → is_lagged self.old ≡ true }
+        ensures err { OnErr result (self.new ≡ self.old) }
+    {
+        match &mut self.ring {
+            Some(ring) => ring.offer(reference),
+            None => Ok(()),
+        }
+    }
+
+    // The same where no live subscriber lags behind.
+    pub(crate) fn offer_now(
+        &mut self,
+        alloc: Global,
+        reference: ObjectRef<K>,
+    ) -> Result<(), NoMemory>
+        requires { is_lagged self.old ≡ false }
+        ensures offered { OnOk result (self.new ≡ with_offer self.old (reference_of K.type_of reference)) }
+        ensures err { OnErr result (self.new ≡ self.old) }
+        ensures live { AllStay self.old self.new }
+    {
+        match self.offer(alloc, reference) {
+            Ok(()) => Ok(()),
+            Err(OfferError::NoMemory) => Err(NoMemory),
+            Err(OfferError::Full) => unreachable!(),
+        }
+    }
+
+    // The reference of a named object, alone.
+    pub(crate) fn queue_key(
+        &self,
+        alloc: Global,
+        object: &K,
+    ) -> Result<VecDeque<ObjectRef<K>>, NoMemory>
+        requires { is_named (K.meta_of object.now) ≡ true }
+        ensures { IfOk result (λ v. map (reference_of K.type_of) v.items ≡ key_of self.now.kind (K.meta_of object.now) ∷ []) }
+    {
+        match self.key(alloc, object) {
+            Ok(reference) => {
+                let mut queue = VecDeque::new(alloc);
+                queue.push_back(reference)?;
+                Ok(queue)
+            }
+            Err(WriteError::NoMemory) => Err(NoMemory),
+            Err(WriteError::Unnamed) => unreachable!(),
+        }
+    }
+
+    // Whether a live subscriber has not taken as many offered references as it may leave.
+    pub(crate) fn is_lagged(&self) -> bool
+        ensures { result ≡ is_lagged self.now }
+    {
+        match &self.ring {
+            Some(ring) => ring.is_full(),
+            None => false,
+        }
+    }
+
+    /// No more offers follow: each subscriber ends once it has taken all.
+    pub fn close_subscribers(&mut self)
+        ensures closed { self.new ≡ with_close self.old }
+        ensures live { AllStay self.old self.new }
+    {
+        if let Some(ring) = &mut self.ring {
+            ring.close();
+        }
+    }
+
+    // The next object of a subscriber.
+    pub(crate) fn take_next(&mut self, number: usize) -> Result<Next<Arc<K>>, NoMemory>
+        requires { is_live self.old number ≡ true }
+        ensures answer { IfOk result (λ a. next_map arc_value a ≡ answer_for self.old number) }
+        ensures taken { OnOk result (self.new ≡ after_answer self.old number) }
+        ensures err { OnErr result (self.new ≡ self.old) }
+        ensures live { AllStay self.old self.new }
+    {
+        match &mut self.ring {
+            Some(ring) => ring.take_next(&self.cache, number),
+            None => unreachable!(),
+        }
+    }
+
+    // One more subscriber, for which the same references wait.
+    pub(crate) fn copy_subscriber(&mut self, number: usize) -> Result<usize, NoMemory>
+        requires { is_live self.old number ≡ true }
+        ensures number { IfOk result (λ n. n ≡ next_number self.old) }
+        ensures writer { OnOk result (self.new ≡ with_subscriber self.old (references_for self.old number)) }
+        ensures own { IfOk result (λ n. is_live self.new n ≡ true) }
+        ensures err { OnErr result (self.new ≡ self.old) }
+        ensures live { AllStay self.old self.new }
+    {
+        match &mut self.ring {
+            Some(ring) => ring.copy(number),
+            None => unreachable!(),
+        }
+    }
+
+    // Ends a subscription.
+    pub(crate) fn end_subscriber(&mut self, number: usize)
+        requires { is_live self.old number ≡ true }
+        ensures { self.new ≡ without_subscriber self.old number }
+    {
+        if let Some(ring) = &mut self.ring {
+            ring.leave(number);
+        }
+    }
+}

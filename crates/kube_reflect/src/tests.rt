@@ -1,0 +1,7 @@
+//! Each public call, and the rows that were worked out by hand.
+
+mod errors;
+mod events;
+mod objects;
+mod reflect;
+mod share;
