@@ -1,0 +1,3 @@
+//! Delays, and each call once.
+
+mod backoffs;
