@@ -3,6 +3,4 @@
 mod cases;
 mod config;
 mod event;
-mod params;
-mod polls;
 mod script;

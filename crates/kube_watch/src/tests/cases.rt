@@ -1,8 +1,6 @@
 //! Each row of the watcher's table, as a script and what is made of it.
 
-use super::script::{Case, Given, Listing, api, check};
-use crate::error_indicates_graceful_watch_seq_exhaustion;
-use kube_meta::Moment;
+use super::script::{Case, Given, Listing, check};
 use std::test::Fail;
 
 // pages, and watches that can't be opened
@@ -439,19 +437,4 @@ fn no_watch_to_start_by(rt: HostRuntime) -> Result<(), Fail> {
             ],
         },
     )
-}
-
-#[test]
-fn a_script_that_is_used_up_is_no_failure(rt: HostRuntime) -> Result<(), Fail> {
-    let alloc = rt.alloc();
-    let api = api(alloc, &[Listing::Page(&[], "", "9"), Listing::Fault], &[])?;
-    let mut watcher = crate::watcher::watcher(alloc, api, crate::Config::default());
-    let page = watcher.poll_unit(alloc, Moment(0))?;
-    assert!(rt; page.error.is_none());
-    let failed = watcher.poll_unit(alloc, Moment(0))?;
-    match &failed.error {
-        Some(error) => assert!(rt; error_indicates_graceful_watch_seq_exhaustion(error)),
-        None => assert!(rt; false),
-    }
-    Ok(())
 }
