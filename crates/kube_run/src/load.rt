@@ -3,7 +3,7 @@
 ghost use Rattle.kube_run.specs.Whole.{loaded, Answers};
 
 use crate::fault::{Fault, ReadError};
-use crate::row::Row;
+use crate::owned::OwnedRow;
 use crate::script::Script;
 use serde_json::Value;
 use std::alloc::Global;
@@ -32,7 +32,7 @@ pub fn load(alloc: Global, bytes: &[u8]) -> Result<Script, LoadError>
         Err(error) if error.is_memory() => return Err(LoadError::NoMemory),
         Err(_) => return Err(LoadError::Syntax),
     };
-    match Script::read(alloc, &value) {
+    match Script::read(alloc, value) {
         Ok(script) => Ok(script),
         Err(ReadError::NoMemory) => Err(LoadError::NoMemory),
         Err(ReadError::Fault(fault)) => Err(LoadError::Shape(fault)),

@@ -9,6 +9,7 @@ pub mod laws;
 pub mod load;
 pub mod object;
 pub mod output;
+pub mod owned;
 pub mod play;
 pub mod program;
 pub mod record;

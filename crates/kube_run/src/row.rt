@@ -1,7 +1,6 @@
 //! Readers over a value, of whatever is read.
 
 ghost use Rattle.std.specs.Prelude.{◌≡◌, ℕ, List, Result, Option, Bool, Some, None, string_bytes, map, option_map, ◌∷◌, []};
-ghost use Rattle.std.specs.Arc.{arc_value};
 ghost use Rattle.serde_json.specs.Data.{Data};
 ghost use Rattle.serde_json.specs.View.{view, items_view, members_view};
 ghost use Rattle.kube_run.specs.Reading.{Wrong, Gives, text_at, number_at, small_at, flag_at, field, maybe_field, optional, there as there_at, object_at, items_at, list_at, list_field, members_among, only_among, is_among as among};
@@ -10,7 +9,6 @@ use crate::fault::{ReadError, What};
 use kube_meta::Text;
 use serde_json::{Map, Value};
 use std::alloc::Global;
-use std::sync::Arc;
 
 /// What a value can be read as.
 pub trait Row: Drop {
@@ -85,19 +83,6 @@ impl Row for bool {
             Some(flag) => Ok(flag),
             None => Err(ReadError::here(alloc, What::NoFlag)),
         }
-    }
-}
-
-impl<R: Row> Row for Arc<R> {
-    ghost Seen = { R.Seen };
-
-    ghost seen = { λ a. R.seen (arc_value a) };
-
-    ghost reads = { R.reads };
-
-    fn read(alloc: Global, value: &Value) -> Result<Arc<R>, ReadError> {
-        let row = R::read(alloc, value)?;
-        Ok(Arc::new(alloc, row)?)
     }
 }
 

@@ -13,6 +13,7 @@ ghost use Rattle.kube_run.specs.Reading.{Gives};
 ghost use Rattle.kube_run.specs.Script.{kind_at, item_at, page_version_at, page_at, pauses, wait_at, watch_at, Root as root_record, root_at, seen_root, seen_turn, turn_at, Script as script_record, seen_script, script_at};
 
 use crate::fault::ReadError;
+use crate::owned::{OwnedRow, owned_list, owned_member};
 use crate::row::{Row, has_member, is_object, list_member, maybe_member, member, only};
 use crate::script_object::ScriptObject;
 use kube_api::{ApiError, Page, Sequence, SequenceStep};
@@ -67,7 +68,7 @@ impl Row for ApiResource {
     }
 }
 
-impl Row for ScriptObject {
+impl OwnedRow for ScriptObject {
     ghost Seen = { object_record };
 
     ghost seen = { λ o. o };
@@ -75,8 +76,8 @@ impl Row for ScriptObject {
     ghost reads = { item_at };
 
     #[tactic(auto, unfolding(crate::specs::Script::item_at))]
-    fn read(alloc: Global, value: &Value) -> Result<ScriptObject, ReadError> {
-        match read_object(alloc, value.clone()?) {
+    fn read(alloc: Global, value: Value) -> Result<ScriptObject, ReadError> {
+        match read_object(alloc, value) {
             Ok(object) => Ok(ScriptObject::new(object)),
             Err(fault) => Err(ReadError::of_object(alloc, fault)),
         }
@@ -104,7 +105,7 @@ impl Row for PageMeta {
     }
 }
 
-impl Row for Listed {
+impl OwnedRow for Listed {
     ghost Seen = { RawAnswer object_record };
 
     ghost seen = { λ page. list_answer (Ready page) };
@@ -112,10 +113,13 @@ impl Row for Listed {
     ghost reads = { page_at };
 
     #[tactic(auto, unfolding(crate::specs::Script::page_at))]
-    fn read(alloc: Global, value: &Value) -> Result<Listed, ReadError> {
-        only(alloc, value, &["items", "metadata"])?;
-        let items = list_member(alloc, value, "items")?;
-        let version = match maybe_member(alloc, value, "metadata")? {
+    fn read(alloc: Global, value: Value) -> Result<Listed, ReadError> {
+        only(alloc, &value, &["items", "metadata"])?;
+
+        // The items are moved out after it, but a fault of theirs comes first.
+        let metadata = maybe_member(alloc, &value, "metadata");
+        let items = owned_list(alloc, value, "items")?;
+        let version = match metadata? {
             Some(PageMeta { version }) => version,
             None => None,
         };
@@ -170,7 +174,7 @@ fn sequence(alloc: Global, waits: &[Wait]) -> Result<Sequence<ScriptObject>, NoM
     Ok(Sequence::new(steps))
 }
 
-impl Row for Root {
+impl OwnedRow for Root {
     ghost Seen = { root_record };
 
     ghost seen = { seen_root };
@@ -178,12 +182,15 @@ impl Row for Root {
     ghost reads = { root_at };
 
     #[tactic(auto, unfolding(crate::specs::Script::root_at))]
-    fn read(alloc: Global, value: &Value) -> Result<Root, ReadError> {
-        only(alloc, value, &["lists", "watches"])?;
-        has_member(alloc, value, "lists")?;
-        has_member(alloc, value, "watches")?;
-        let lists = list_member(alloc, value, "lists")?;
-        let watches = list_member(alloc, value, "watches")?;
+    fn read(alloc: Global, value: Value) -> Result<Root, ReadError> {
+        only(alloc, &value, &["lists", "watches"])?;
+        has_member(alloc, &value, "lists")?;
+        has_member(alloc, &value, "watches")?;
+
+        // The lists are moved out after them, but a fault of theirs comes first.
+        let watches = list_member(alloc, &value, "watches");
+        let lists = owned_list(alloc, value, "lists")?;
+        let watches = watches?;
         Ok(Root { lists, watches })
     }
 }
@@ -213,7 +220,7 @@ impl Row for ScriptTurn {
     }
 }
 
-impl Row for Script {
+impl OwnedRow for Script {
     ghost Seen = { script_record };
 
     ghost seen = { seen_script };
@@ -221,11 +228,14 @@ impl Row for Script {
     ghost reads = { script_at };
 
     #[tactic(auto, unfolding(crate::specs::Script::script_at))]
-    fn read(alloc: Global, value: &Value) -> Result<Script, ReadError> {
-        only(alloc, value, &["kind", "root", "turns"])?;
-        let kind = member(alloc, value, "kind")?;
-        let root = member(alloc, value, "root")?;
-        let turns = list_member(alloc, value, "turns")?;
+    fn read(alloc: Global, value: Value) -> Result<Script, ReadError> {
+        only(alloc, &value, &["kind", "root", "turns"])?;
+        let kind = member(alloc, &value, "kind")?;
+
+        // The root is moved out after them, but its fault comes first.
+        let turns = list_member(alloc, &value, "turns");
+        let root = owned_member(alloc, value, "root")?;
+        let turns = turns?;
         Ok(Script { kind, root, turns })
     }
 }
