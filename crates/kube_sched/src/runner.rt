@@ -237,10 +237,11 @@ impl<
     /// The first result of the futures that run; where none is ready it starts messages.
     ///
     /// A result comes before all else. Then readiness is polled, until it has come: its error is given once, and then
-    /// `End`, unless `delay_tasks_until` gives another readiness. Then the scheduler takes requests until none is ready, and the first waiting message is started of which
-    /// no equal one runs; so on until none is left, no more may run, the requests have ended or `fuel` requests were
-    /// taken. Before readiness requests are taken, and none is started. It answers `End` once the requests have ended
-    /// and nothing runs; `Spent` where it took `fuel` requests; else `NotReady`.
+    /// `End`, unless `delay_tasks_until` gives another readiness. Then the scheduler takes requests until none is
+    /// ready, and the first waiting message is started of which no equal one runs; so on until none is left, no more
+    /// may run, the requests have ended or `fuel` requests were taken. Before readiness requests are taken, and none is
+    /// started. It answers `End` once the requests have ended and nothing runs; `Spent` where it took `fuel` requests;
+    /// else `NotReady`.
     pub fn poll_next(
         &mut self,
         alloc: Global,
