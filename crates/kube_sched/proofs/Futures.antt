@@ -1,11 +1,13 @@
 -- Futures by key, one place after another.
-use Rattle.std.proofs.Common.{◌≡◌, ◌≢◌, ◌≤◌, ℕ, zero, suc, ◌+◌, Bool, true, false, if◌then◌else◌, cond, List, [], ◌∷◌, ◌++◌, length, Option, Some, refl, sym, ap, subst, ◌∙◌, append_assoc, append-nil, remove, slice_get, arith}
+use Rattle.std.proofs.Common.{◌≡◌, ◌≢◌, ◌≤◌, ◌↔◌, ℕ, zero, suc, ◌+◌, Bool, true, false, if◌then◌else◌, cond, List, [], ◌∷◌, ◌++◌, length, Option, Some, None, refl, sym, ap, subst, ◌∙◌, append_assoc, append-nil, remove, slice_get, arith}
 use Rattle.std.specs.List.{AllByRecursion}
 use Rattle.std.proofs.lemmas.List.{length-append}
 use Rattle.std.specs.Map.{remove_entry, keys_of}
 use Rattle.indexmap.specs.IndexMap.{set_value_at, insert_entry}
 use Rattle.futures.specs.declared.task.Poll.{Poll}
-use Rattle.kube_sched.specs.Futures.{CanPollAll, TellsPending, AllPending, FirstReady, PlaceReady, PlacePending}
+use Rattle.kube_meta.specs.declared.poll.Polled.{Polled}
+use Rattle.kube_meta.specs.declared.poll.Polled.TheVariants.{Ready, NotReady}
+use Rattle.kube_sched.specs.Futures.{CanPollAll, TellsPending, AllPending, FirstReady, MapPolled, PlaceReady, PlacePending}
 
 -- Lists in two parts.
 
@@ -107,9 +109,9 @@ module _ {K F X : Type 0} (told : F → Option (List (Poll X))) (gives : F → X
         there = (let e = length-append p.polled ((q.key, q.left) ∷ []) in let t = p.there in omega arith);
       }
 
-  pub polling-ready : (can : F → Type 0) (old now after : List (K × F)) (place : ℕ) (x : X) → Polling old now place → PlaceReady told gives can place now after x
+  pub polling-ready : (old now after : List (K × F)) (place : ℕ) (x : X) → Polling old now place → PlaceReady told gives place now after x
       → FirstReady told gives old (remove after place) x
-  polling-ready can old now after place x p q =
+  polling-ready old now after place x p q =
       let same : p.polled ++ p.behind ≡ q.before ++ (q.key, q.future) ∷ q.behind = sym p.is ∙ q.was in
       let len : length p.polled ≡ length q.before = p.there ∙ sym q.there in
       let first = first_parts p.polled q.before p.behind ((q.key, q.future) ∷ q.behind) len same in
@@ -131,7 +133,7 @@ module _ {K F X : Type 0} (told : F → Option (List (Poll X))) (gives : F → X
       subst (CanPollAll can) (sym q.is)
       (all-replaced (λ (e : K × F). can e.1) q.before (q.key, q.future) (q.key, q.left) q.behind q.again (subst (CanPollAll can) q.was h))
 
-  pub can-ready : (can : F → Type 0) (now after : List (K × F)) (place : ℕ) (x : X) → PlaceReady told gives can place now after x → CanPollAll can now → CanPollAll can (remove after place)
+  pub can-ready : (can : F → Type 0) (now after : List (K × F)) (place : ℕ) (x : X) → PlaceReady told gives place now after x → CanPollAll can now → CanPollAll can (remove after place)
   can-ready can now after place x q h =
       let gone : remove after place ≡ q.before ++ q.behind =
       subst (λ n. remove after n ≡ q.before ++ q.behind) q.there (ap (λ xs. remove xs (length q.before)) q.is ∙ remove-there q.before (q.key, q.left) q.behind) in
@@ -181,8 +183,27 @@ module _ {K F X : Type 0} (told : F → Option (List (Poll X))) (gives : F → X
       let e = length-pending f.before f.polled f.pending in
       omega arith
 
+  first-shorter : (old new : List (K × F)) (x : X) → FirstReady told gives old new x → length new + 1 ≡ length old
+  first-shorter old new x f =
+      let a = ap length f.was in
+      let b = ap length f.is in
+      let c = length-append f.before (f.entry ∷ f.behind) in
+      let d = length-append f.polled f.behind in
+      let e = length-pending f.before f.polled f.pending in
+      omega arith
+
   pub first-some : (old new : List (K × F)) (x : X) → FirstReady told gives old new x → old ≢ []
   first-some old new x f e = not-nothing f.before f.entry f.behind (sym f.was ∙ e)
+
+  -- not ready is what each told, and nothing else
+  pub map-not-ready : (old new : List (K × F)) (answer : Polled (Option X)) → MapPolled told gives old new answer
+      → (answer ≡ NotReady) ↔ ((old ≢ []) × AllPending told gives old new)
+  map-not-ready old new (Ready (Some x)) f = (
+    λ e. absurd (cc),
+    λ p. absurd (let a = first-shorter old new x f in let b = length-pending old new p.1 in omega arith),
+  )
+  map-not-ready old new (Ready None) f = (λ e. absurd (cc), λ p. absurd (p.0 f.0))
+  map-not-ready old new NotReady f = (λ e. f, λ p. refl)
 
 -- A list with a value put, or without one.
 

@@ -1,21 +1,24 @@
 -- What runs, and what is started.
-use Rattle.std.proofs.Common.{◌≡◌, ℕ, ◌+◌, ◌-◌, ◌≤◌, ◌==◌, nat_lt, Bool, true, false, not, ◌&&◌, ◌||◌, cond, if◌then◌else◌, List, [], ◌∷◌, ◌++◌, length, Option, Some, None, is_some, refl, sym, ap, subst, ◌∙◌, ◌⊎◌, inl, inr, append_assoc, append-nil, arith, Result, Ok, Err}
-use Rattle.std.specs.Map.{lookup, remove_entry}
+use Rattle.std.proofs.Common.{◌≡◌, ◌↔◌, ℕ, ◌+◌, ◌-◌, ◌≤◌, ◌==◌, nat_lt, Bool, true, false, not, ◌&&◌, ◌||◌, cond, if◌then◌else◌, List, [], ◌∷◌, ◌++◌, length, Option, Some, None, is_some, refl, sym, ap, subst, ◌∙◌, ◌⊎◌, inl, inr, append_assoc, append-nil, arith, Result, Ok, Err}
+use Rattle.std.specs.List.{IsDistinct}
+use Rattle.std.specs.Map.{lookup, remove_entry, keys_of}
+use Rattle.std.specs.Cmp.{IsEquivalence}
+use Rattle.std.proofs.lemmas.Map.{lookup-remove_entry}
 use Rattle.std.proofs.lemmas.List.{length-append}
 use Rattle.std.proofs.lemmas.Bool.Decides.{nat_tests}
 use Rattle.indexmap.specs.IndexMap.{insert_entry}
 use Rattle.kube_meta.specs.declared.moment.Moment.{Moment}
 use Rattle.kube_meta.specs.declared.poll.Next.{Next}
-use Rattle.kube_meta.specs.declared.poll.Next.TheVariants.{Item}
+use Rattle.kube_meta.specs.declared.poll.Next.TheVariants.{Item, NotReady, Spent, End}
 use Rattle.kube_sched.specs.declared.asks.Ending.{Ending}
-use Rattle.kube_sched.specs.declared.asks.Ending.TheVariants.{Waits}
-use Rattle.kube_sched.specs.Polls.{Stream, Answer, requests_in, CountedPoll}
-use Rattle.kube_sched.specs.Runs.{Runs, has_room, IsWithin, runs, MayStart, ending_by, Starts, Started, StartsAll, ReadinessPolled, RunnerPolled, Gave, Failed, Went, answer_after}
+use Rattle.kube_sched.specs.declared.asks.Ending.TheVariants.{Filled, Waits, Ends}
+use Rattle.kube_sched.specs.Polls.{Stream, Answer, requests_in, is_end, CountedPoll}
+use Rattle.kube_sched.specs.Runs.{Runs, has_room, IsWithin, runs, MayStart, ending_by, Starts, Started, StartsAll, ReadinessPolled, RunnerPolled, Course, Over, Gave, Failed, Went, Follows, answer_after, answer_of, IsAtEnd}
 use Rattle.kube_sched.specs.declared.runner.Error.{Error}
 use Rattle.kube_sched.specs.declared.runner.Error.TheVariants.{Readiness}
 use Rattle.kube_sched.specs.Futures.{AllPending, FirstReady}
 use Rattle.futures.specs.declared.task.Poll.{Poll}
-use Rattle.kube_sched.proofs.Futures.{length-pending, length-first}
+use Rattle.kube_sched.proofs.Futures.{length-pending, length-first, first-some}
 
 module _ {M F : Type 0} (same : M → M → Bool) where
   -- a message of which no equal one runs goes last
@@ -46,6 +49,12 @@ length-removed test (e ∷ es) = go (test e.0) (length-removed test es)
 pub within-removed : {M F : Type 0} (limit : ℕ) (test : M → Bool) (es : List (M × F)) → IsWithin limit es → IsWithin limit (remove_entry test es)
 within-removed limit test es (inl z) = inl z
 within-removed limit test es (inr w) = inr (let l = length-removed test es in omega arith)
+
+-- a message that was taken out runs no more
+pub runs-removed : {M F : Type 0} (same : M → M → Bool) → IsEquivalence same → (m : M) (es : List (M × F)) → IsDistinct same (keys_of es)
+    → runs same m (remove_entry (same m) es) ≡ false
+runs-removed same laws m es d =
+    ap is_some (lookup-remove_entry laws (same m) (laws.congr m) m es d ∙ ap (λ b. cond b None (lookup (same m) es)) (laws.refl m))
 
 -- a message that may be started: some may, and no equal one runs
 pub may-room : (a b : Bool) → true ≡ (a && not b) → a ≡ true
@@ -261,37 +270,133 @@ module _ {M F X : Type 0} (told : F → Option (List (Poll X))) (gives : F → X
 
 -- What a poll does and answers, by its course.
 module _ {M R F C G X E : Type 0} (same : M → M → Bool) (told : R → Option (List (Answer M))) (told_future : F → Option (List (Poll X))) (gives : F → X → Type 0)
-    (told_ready : G → Option (List (Poll (Result Unit E)))) (made : C → M → F → C → Type 0) (now : Moment) (fuel : ℕ) where
+    (told_ready : G → Option (List (Poll (Result Unit E)))) (gives_ready : G → Result Unit E → Type 0) (made : C → M → F → C → Type 0) (now : Moment) (fuel : ℕ) where
   pub ran-gave : (r1 r r' : Runs M R F C G) (x : X) → r1 ≡ r → r1.is_stopped ≡ false → FirstReady told_future gives r1.running r'.running x
-      → r' ≡ record r1 { running = r'.running } → RunnerPolled same told told_future gives told_ready made now fuel r r' (Item (Ok x))
+      → r' ≡ record r1 { running = r'.running } → RunnerPolled same told told_future gives told_ready gives_ready made now fuel r r' (Item (Ok x))
   ran-gave r1 r r' x e stopped first rest =
-      subst (λ k. RunnerPolled same told told_future gives told_ready made now fuel k r' (Item (Ok x))) e
+      subst (λ k. RunnerPolled same told told_future gives told_ready gives_ready made now fuel k r' (Item (Ok x))) e
       (record { course = Gave x; follows = (stopped, first, rest); answers = refl })
 
   pub ran-failed : (r1 r r' : Runs M R F C G) (error : E) → r1 ≡ r → r1.is_stopped ≡ false → AllPending told_future gives r1.running r'.running
-      → ReadinessPolled told_ready r1.readiness r'.readiness (Some error)
+      → ReadinessPolled told_ready gives_ready r1.readiness r'.readiness (Some error)
       → r' ≡ record r1 { running = r'.running; readiness = r'.readiness; is_stopped = true }
-      → RunnerPolled same told told_future gives told_ready made now fuel r r' (Item (Err (Readiness error)))
+      → RunnerPolled same told told_future gives told_ready gives_ready made now fuel r r' (Item (Err (Readiness error)))
   ran-failed r1 r r' error e stopped pending failed rest =
-      subst (λ k. RunnerPolled same told told_future gives told_ready made now fuel k r' (Item (Err (Readiness error)))) e
+      subst (λ k. RunnerPolled same told told_future gives told_ready gives_ready made now fuel k r' (Item (Err (Readiness error)))) e
       (record { course = Failed error; follows = (stopped, pending, failed, rest); answers = refl })
 
   pub ran-went : (r1 r r' : Runs M R F C G) (polled : List (M × F)) (readiness : Option G) (ending : Ending) (answer : Next (Result X (Error E))) → r1 ≡ r → r1.is_stopped ≡ false
-      → AllPending told_future gives r1.running polled → ReadinessPolled told_ready r1.readiness readiness None
+      → AllPending told_future gives r1.running polled → ReadinessPolled told_ready gives_ready r1.readiness readiness None
       → StartsAll same told made now fuel (record r1 { running = polled; readiness = readiness }) r' ending → answer ≡ answer_after ending r'.running
-      → RunnerPolled same told told_future gives told_ready made now fuel r r' answer
+      → RunnerPolled same told told_future gives told_ready gives_ready made now fuel r r' answer
   ran-went r1 r r' polled readiness ending answer e stopped pending waits all is =
       let ready : r'.readiness ≡ readiness = ap (λ (x : Runs M R F C G). x.readiness) all.rest in
-      subst (λ k. RunnerPolled same told told_future gives told_ready made now fuel k r' answer) e
+      subst (λ k. RunnerPolled same told told_future gives told_ready gives_ready made now fuel k r' answer) e
       (record {
         course = Went all.started ending;
         follows = (
           stopped,
           polled,
           pending,
-          subst (λ o. ReadinessPolled told_ready r1.readiness o None) (sym ready) waits,
+          subst (λ o. ReadinessPolled told_ready gives_ready r1.readiness o None) (sym ready) waits,
           subst (λ o. Starts same told made now (not (is_some o)) r1.limit fuel r1.scheduler r1.makes polled all.started r'.scheduler r'.makes ending) (sym ready) all.starts,
           all.rest ∙ ap (λ o. record r1 { scheduler = r'.scheduler; makes = r'.makes; running = polled ++ all.started; readiness = o }) (sym ready),
         );
         answers = is;
       })
+
+-- When a poll answers that there is nothing more.
+
+none-left : {A : Type 0} (xs ys : List A) → xs ++ ys ≡ [] → xs ≡ []
+none-left [] ys e = refl
+none-left (x ∷ xs) ys e = absurd (cc)
+
+none-right : {A : Type 0} (xs ys : List A) → xs ++ ys ≡ [] → ys ≡ []
+none-right [] ys e = e
+none-right (x ∷ xs) ys e = absurd (cc)
+
+end-after : {M F A : Type 0} (ending : Ending) (running : List (M × F)) (answer : Next A) → answer ≡ answer_after ending running → answer ≡ End
+    → (ending ≡ Ends) × (running ≡ [])
+end-after Filled running answer is e = absurd (cc)
+end-after Waits running answer is e = absurd (cc)
+end-after Ends [] answer is e = (refl, refl)
+end-after Ends (x ∷ running) answer is e = absurd (cc)
+
+ends-alone : {M : Type 0} (answer : Next M) → ending_by answer ≡ Some Ends → answer ≡ End
+ends-alone (Item m) e = absurd (cc)
+ends-alone NotReady e = absurd (cc)
+ends-alone Spent e = absurd (cc)
+ends-alone End e = refl
+
+is-ends : (ending : Ending) → is_end ending ≡ true → ending ≡ Ends
+is-ends Filled e = absurd (cc)
+is-ends Waits e = absurd (cc)
+is-ends Ends e = refl
+
+module _ {M F X : Type 0} (told : F → Option (List (Poll X))) (gives : F → X → Type 0) where
+  none-pending : (old new : List (M × F)) → AllPending told gives old new → new ≡ [] → old ≡ []
+  none-pending [] new h e = refl
+  none-pending (x ∷ old) [] h e = absurd h
+  none-pending (x ∷ old) (y ∷ new) h e = absurd (cc)
+
+module _ {M R F C : Type 0} (same : M → M → Bool) (told : R → Option (List (Answer M))) (made : C → M → F → C → Type 0) (now : Moment) (is_ready : Bool) (limit fuel : ℕ) where
+  -- where none is started, the requests have ended exactly where the asks ended so
+  over-none : (s : Stream M R) (c : C) (running started : List (M × F)) (s' : Stream M R) (c' : C) → started ≡ []
+      → Starts same told made now is_ready limit fuel s c running started s' c' Ends → s'.is_over ≡ true
+  over-none s c running [] s' c' e h = h.2.over ∙ ap is_end ((h.2.end).0 (ends-alone h.1 h.3))
+  over-none s c running (x ∷ started) s' c' e h = absurd (cc)
+
+  none-over : (s : Stream M R) (c : C) (running started : List (M × F)) (s' : Stream M R) (c' : C) (ending : Ending) → started ≡ []
+      → Starts same told made now is_ready limit fuel s c running started s' c' ending → s'.is_over ≡ true → ending ≡ Ends
+  none-over s c running [] s' c' ending e h over =
+      let end : h.1 ≡ End = (h.2.end).1 (is-ends h.2.ending (sym h.2.over ∙ over)) in
+      let is : Some ending ≡ Some Ends = sym h.3 ∙ ap ending_by end in
+      cc
+  none-over s c running (x ∷ started) s' c' ending e h over = absurd (cc)
+
+module _ {M R F C G X E : Type 0} (same : M → M → Bool) (told : R → Option (List (Answer M))) (told_future : F → Option (List (Poll X))) (gives : F → X → Type 0)
+    (told_ready : G → Option (List (Poll (Result Unit E)))) (gives_ready : G → Result Unit E → Type 0) (made : C → M → F → C → Type 0) (now : Moment) (fuel : ℕ) where
+  apart : (b : Bool) → b ≡ false → b ≡ true → ⊥
+  apart b h k = cc
+
+  end-by : (r r' : Runs M R F C G) (answer : Next (Result X (Error E))) (course : Course M F X E) → Follows same told told_future gives told_ready gives_ready made now fuel course r r'
+      → answer ≡ answer_of course r'.running → (answer ≡ End) ↔ IsAtEnd r r'
+  end-by r r' answer Over h is = (λ e. inl h.0, λ e. is)
+  end-by r r' answer (Gave x) h is = (λ e. absurd (cc), go)
+    where
+      go : IsAtEnd r r' → answer ≡ End
+      go (inl s) = absurd (apart r.is_stopped h.0 s)
+      go (inr q) = absurd (first-some told_future gives r.running r'.running x h.1 q.2)
+  end-by r r' answer (Failed error) h is = (λ e. absurd (cc), go)
+    where
+      go : IsAtEnd r r' → answer ≡ End
+      go (inl s) = absurd (apart r.is_stopped h.0 s)
+      go (inr q) = absurd (apart r'.is_stopped q.0 (ap (λ (k : Runs M R F C G). k.is_stopped) h.3))
+  end-by r r' answer (Went started ending) h is = (to, go)
+    where
+      run : r'.running ≡ h.1 ++ started
+      run = ap (λ (k : Runs M R F C G). k.running) h.5
+
+      to : answer ≡ End → IsAtEnd r r'
+      to e =
+          let after = end-after ending r'.running answer is e in
+          let none = sym run ∙ after.1 in
+          let starts = subst (λ d. Starts same told made now (not (is_some r'.readiness)) r.limit fuel r.scheduler r.makes h.1 started r'.scheduler r'.makes d) after.0 h.4 in
+          inr (
+            ap (λ (k : Runs M R F C G). k.is_stopped) h.5 ∙ h.0,
+            over-none same told made now (not (is_some r'.readiness)) r.limit fuel r.scheduler r.makes h.1 started r'.scheduler r'.makes (none-right h.1 started none) starts,
+            none-pending told_future gives r.running h.1 h.2 (none-left h.1 started none),
+            after.1,
+          )
+
+      go : IsAtEnd r r' → answer ≡ End
+      go (inl s) = absurd (apart r.is_stopped h.0 s)
+      go (inr q) =
+          let none = sym run ∙ q.3 in
+          let ends = none-over same told made now (not (is_some r'.readiness)) r.limit fuel r.scheduler r.makes h.1 started r'.scheduler r'.makes ending (none-right h.1 started none) h.4 q.1 in
+          is ∙ ap (λ d. answer_after d r'.running) ends ∙ ap (answer_after Ends) q.3
+
+  -- it does exactly at the end
+  pub ended : (r r' : Runs M R F C G) (answer : Next (Result X (Error E))) → RunnerPolled same told told_future gives told_ready gives_ready made now fuel r r' answer
+      → (answer ≡ End) ↔ IsAtEnd r r'
+  ended r r' answer p = end-by r r' answer p.course p.follows p.answers

@@ -53,7 +53,7 @@ module _ {F X : Type 0} (told : F → Option (List (Poll X))) (gives : F → X �
   MapPolled old new NotReady = (old ≢ []) × AllPending old new
 
   -- the future at a place was polled, and is ready
-  pub record PlaceReady {K : Type 0} (can : F → Type 0) (place : ℕ) (old new : List (K × F)) (x : X) : Type 0 where
+  pub record PlaceReady {K : Type 0} (place : ℕ) (old new : List (K × F)) (x : X) : Type 0 where
     pub before : List (K × F)
     pub key : K
     pub future : F
@@ -79,5 +79,5 @@ module _ {F X : Type 0} (told : F → Option (List (Poll X))) (gives : F → X �
     pub again : can left
 
   abbrev pub PlacePolled : {K : Type 0} → (F → Type 0) → ℕ → List (K × F) → List (K × F) → Option X → Type 0
-  PlacePolled can place old new (Some x) = PlaceReady can place old new x
+  PlacePolled can place old new (Some x) = PlaceReady place old new x
   PlacePolled can place old new None = PlacePending can place old new

@@ -4,17 +4,15 @@ use Rattle.std.specs.Map.{lookup}
 use Rattle.std.specs.Fn.{CalledAt, Mut}
 use Rattle.std.specs.Borrow.{Bor}
 use Rattle.futures.specs.declared.task.Poll.{Poll}
-use Rattle.futures.specs.declared.task.Poll.TheVariants.{Ready as ReadyNow, Pending}
 use Rattle.kube_meta.specs.declared.moment.Moment.{Moment}
 use Rattle.kube_meta.specs.declared.poll.Next.{Next}
 use Rattle.kube_meta.specs.declared.poll.Next.TheVariants.{Item, NotReady, Spent, End}
-use Rattle.kube_model.specs.Raw.{grown}
 use Rattle.kube_sched.specs.declared.asks.Ending.{Ending}
 use Rattle.kube_sched.specs.declared.asks.Ending.TheVariants.{Filled, Waits, Ends}
 use Rattle.kube_sched.specs.declared.runner.Error.{Error}
 use Rattle.kube_sched.specs.declared.runner.Error.TheVariants.{Readiness}
 use Rattle.kube_sched.specs.Polls.{Stream, Answer, requests_in, Polled}
-use Rattle.kube_sched.specs.Futures.{AllPending, FirstReady}
+use Rattle.kube_sched.specs.Futures.{TellsPending, TellsReady, AllPending, FirstReady}
 
 -- a runner: its messages, what makes a future of one, the futures that run, in the order in which they were started,
 -- the future whose readiness is waited for, if it hasn't come, how many may run (0: any number), whether readiness
@@ -52,14 +50,14 @@ ending_by Spent = Some Filled
 ending_by End = Some Ends
 
 -- what a poll of the readiness does, which isn't polled once it has come, and the error where it failed
-abbrev pub ReadinessPolled : {G E : Type 0} → (G → Option (List (Poll (Result Unit E)))) → Option G → Option G → Option E → Type 0
-ReadinessPolled told None None None = Unit {0}
-ReadinessPolled told (Some g) (Some g') None = told g' ≡ grown (told g) Pending
-ReadinessPolled {G} told (Some g) None None = (left : G) × (told left ≡ grown (told g) (ReadyNow (Ok tt)))
-ReadinessPolled {G} told (Some g) None (Some e) = (left : G) × (told left ≡ grown (told g) (ReadyNow (Err e)))
-ReadinessPolled told None (Some g') failed = ⊥
-ReadinessPolled told None None (Some e) = ⊥
-ReadinessPolled told (Some g) (Some g') (Some e) = ⊥
+abbrev pub ReadinessPolled : {G E : Type 0} → (G → Option (List (Poll (Result Unit E)))) → (G → Result Unit E → Type 0) → Option G → Option G → Option E → Type 0
+ReadinessPolled told gives None None None = Unit {0}
+ReadinessPolled told gives (Some g) (Some g') None = TellsPending told gives g g'
+ReadinessPolled told gives (Some g) None None = TellsReady told gives g (Ok tt)
+ReadinessPolled told gives (Some g) None (Some e) = TellsReady told gives g (Err e)
+ReadinessPolled told gives None (Some g') failed = ⊥
+ReadinessPolled told gives None None (Some e) = ⊥
+ReadinessPolled told gives (Some g) (Some g') (Some e) = ⊥
 
 module _ {M R F C : Type 0} (same : M → M → Bool) (told : R → Option (List (Answer M))) (made : C → M → F → C → Type 0) (now : Moment) (is_ready : Bool) (limit : ℕ) where
   -- the messages that a call starts, with their futures: each is the first of a poll of the scheduler, which takes
@@ -116,18 +114,18 @@ answer_of (Failed e) running = Item (Err (Readiness e))
 answer_of (Went started ending) running = answer_after ending running
 
 module _ {M R F C G X E : Type 0} (same : M → M → Bool) (told : R → Option (List (Answer M))) (told_future : F → Option (List (Poll X))) (gives : F → X → Type 0)
-    (told_ready : G → Option (List (Poll (Result Unit E)))) (made : C → M → F → C → Type 0) (now : Moment) (fuel : ℕ) where
+    (told_ready : G → Option (List (Poll (Result Unit E)))) (gives_ready : G → Result Unit E → Type 0) (made : C → M → F → C → Type 0) (now : Moment) (fuel : ℕ) where
   -- what a poll of this course does: a result comes first, then a failed readiness, then what is started
   abbrev pub Follows : Course M F X E → Runs M R F C G → Runs M R F C G → Type 0
   Follows Over r r' = (r.is_stopped ≡ true) × (r' ≡ r)
   Follows (Gave x) r r' =
       (r.is_stopped ≡ false) × FirstReady told_future gives r.running r'.running x × (r' ≡ record r { running = r'.running })
   Follows (Failed e) r r' =
-      (r.is_stopped ≡ false) × AllPending told_future gives r.running r'.running × ReadinessPolled told_ready r.readiness r'.readiness (Some e)
+      (r.is_stopped ≡ false) × AllPending told_future gives r.running r'.running × ReadinessPolled told_ready gives_ready r.readiness r'.readiness (Some e)
       × (r' ≡ record r { running = r'.running; readiness = r'.readiness; is_stopped = true })
   Follows (Went started ending) r r' =
       (r.is_stopped ≡ false)
-      × (polled : List (M × F)) × AllPending told_future gives r.running polled × ReadinessPolled told_ready r.readiness r'.readiness None
+      × (polled : List (M × F)) × AllPending told_future gives r.running polled × ReadinessPolled told_ready gives_ready r.readiness r'.readiness None
       × Starts same told made now (not (is_some r'.readiness)) r.limit fuel r.scheduler r.makes polled started r'.scheduler r'.makes ending
       × (r' ≡ record r { scheduler = r'.scheduler; makes = r'.makes; running = polled ++ started; readiness = r'.readiness })
 
@@ -136,3 +134,10 @@ module _ {M R F C G X E : Type 0} (same : M → M → Bool) (told : R → Option
     pub course : Course M F X E
     pub follows : Follows course r r'
     pub answers : answer ≡ answer_of course r'.running
+
+-- a runner is at its end: its readiness failed before; or its requests have ended, and nothing ran before this poll or
+-- runs after it
+abbrev pub IsAtEnd : {M R F C G : Type 0} → Runs M R F C G → Runs M R F C G → Type 0
+IsAtEnd r r' =
+    (r.is_stopped ≡ true)
+    ⊎ ((r'.is_stopped ≡ false) × (r'.scheduler.is_over ≡ true) × (r.running ≡ []) × (r'.running ≡ []))

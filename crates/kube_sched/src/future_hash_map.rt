@@ -1,11 +1,10 @@
 //! Futures by key (kube-runtime's `FutureHashMap`).
 
-ghost use Rattle.std.specs.Prelude.{◌≡◌, ◌≢◌, ◌<◌, ◌↔◌, [], Some, None, length, is_some, IfOk, OnErr, IsSome};
-ghost use Rattle.std.specs.List.{AllByRecursion, IsDistinct};
-ghost use Rattle.std.specs.Map.{keys_of, values_of, lookup, remove_entry};
+ghost use Rattle.std.specs.Prelude.{◌≡◌, ◌≢◌, ◌<◌, ◌↔◌, [], length, is_some, IfOk, OnErr};
+ghost use Rattle.std.specs.List.{IsDistinct};
+ghost use Rattle.std.specs.Map.{keys_of, lookup, remove_entry};
 ghost use Rattle.indexmap.specs.IndexMap.{insert_entry, index_map_len};
-ghost use Rattle.futures.specs.Task.{Keeps};
-ghost use Rattle.kube_sched.specs.Futures.{PlacePolled, FirstPolled, MapPolled, CanPollAll};
+ghost use Rattle.kube_sched.specs.Futures.{PlacePolled, FirstPolled, MapPolled, AllPending, CanPollAll};
 
 use crate::told_future::ToldFuture;
 use futures::task::{Context, Poll};
@@ -118,6 +117,7 @@ impl<K: Eq + Hash + Drop, F: ToldFuture> FutureHashMap<K, F> {
     pub fn poll_next(&mut self, cx: &mut Context<'_>) -> Polled<Option<F::Output>>
         ensures polled { MapPolled F.told F.gives self.old self.new result }
         ensures empty { (result ≡ Polled.Ready None) ↔ (self.old ≡ []) }
+        ensures not_ready { (result ≡ Polled.NotReady) ↔ ((self.old ≢ []) × AllPending F.told F.gives self.old self.new) }
     {
         let count = self.len();
         match self.poll_first(cx) {

@@ -1,6 +1,6 @@
 //! Messages with their times, as lists that are scanned.
 
-ghost use Rattle.std.specs.Prelude.{◌≡◌, ◌+◌, ◌<◌, ◌≤◌, ◌++◌, not, map, vec_len, vec_capacity, nat_lt, take, drop, length, IfSome};
+ghost use Rattle.std.specs.Prelude.{◌≡◌, ◌+◌, ◌<◌, ◌≤◌, ◌++◌, not, vec_len, vec_capacity, nat_lt, take, drop, length, IfSome};
 ghost use Rattle.std.specs.List.{list_any, filter, prefix_len};
 ghost use Rattle.std.specs.Fn.{FnReturnsAt};
 ghost use Rattle.kube_model.specs.Queue.{sorted_by, insert_by};

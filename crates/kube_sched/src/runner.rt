@@ -1,13 +1,13 @@
 //! Runs messages of a scheduler, of which no two equal ones at once (kube-runtime's `Runner`).
 
-ghost use Rattle.std.specs.Prelude.{◌≡◌, ◌≤◌, ◌<◌, ◌+◌, ◌++◌, ◌∷◌, ◌&&◌, [], not, true, false, length, is_some, Bool, IfOk, OnErr, OnOk, IsErr, Some, None};
+ghost use Rattle.std.specs.Prelude.{◌≡◌, ◌↔◌, ◌<◌, ◌+◌, ◌&&◌, [], not, true, false, is_some, IfOk, OnErr, OnOk, IsErr, Some, None};
 ghost use Rattle.std.specs.Option.{ForSome};
 ghost use Rattle.std.specs.List.{IsDistinct};
-ghost use Rattle.std.specs.Map.{keys_of, lookup, remove_entry};
+ghost use Rattle.std.specs.Map.{keys_of, remove_entry};
 ghost use Rattle.std.specs.Fn.{CalledAt};
 ghost use Rattle.kube_sched.specs.Schedule.{held_len};
 ghost use Rattle.kube_sched.specs.Polls.{CountedPoll};
-ghost use Rattle.kube_sched.specs.Runs.{ReadinessPolled, RunnerPolled, MayStart, IsWithin, MakesFutures, Started, StartsAll, answer_after, has_room as has_room_for, runs};
+ghost use Rattle.kube_sched.specs.Runs.{ReadinessPolled, RunnerPolled, IsAtEnd, MayStart, IsWithin, MakesFutures, Started, StartsAll, answer_after, has_room as has_room_for, runs};
 
 use crate::asks::Ending;
 use crate::future_hash_map::FutureHashMap;
@@ -97,7 +97,7 @@ fn poll_readiness<E, Ready: ToldFuture + Future<Output = Result<(), E>>>(
     cx: &mut Context<'_>,
 ) -> Option<E>
     requires { ForSome readiness.old Ready.can_poll }
-    ensures polled { ReadinessPolled Ready.told readiness.old readiness.new result }
+    ensures polled { ReadinessPolled Ready.told Ready.gives readiness.old readiness.new result }
     ensures again { ForSome readiness.new Ready.can_poll }
 {
     let Some(ready) = readiness else {
@@ -124,6 +124,9 @@ impl<
     Ready: ToldFuture,
 > Runner<T, R, F, MkF, Ready> {
     /// The same, which starts no message before `ready` is ready. It takes requests in the meantime.
+    ///
+    /// An earlier readiness is forgotten, whether it had come, was waited for or had failed: a runner that answered its
+    /// error, and then `End`, goes on with what it holds. What runs goes on running.
     pub fn delay_tasks_until<Ready2: ToldFuture>(
         self,
         ready: Ready2,
@@ -137,7 +140,7 @@ impl<
             slots: self.slots,
             readiness: Some(ready),
             max: self.max,
-            is_stopped: false,
+            is_stopped: false, // also where the earlier readiness failed
             is_spent: self.is_spent,
         }
     }
@@ -146,6 +149,7 @@ impl<
     pub fn finish(&mut self, message: &T) -> bool
         ensures ran { result ≡ runs T.eq message.now self.old.running }
         ensures gone { self.new ≡ record self.old { running = remove_entry (T.eq message.now) self.old.running } }
+        ensures over { runs T.eq message.now self.new.running ≡ false }
     {
         self.slots.remove(message).is_some()
     }
@@ -233,10 +237,11 @@ impl<
     /// The first result of the futures that run; where none is ready it starts messages.
     ///
     /// A result comes before all else. Then readiness is polled, until it has come: its error is given once, and then
-    /// `End`. Then the scheduler takes requests until none is ready, and the first waiting message is started of which
-    /// no equal one runs; so on until none is left, no more may run, the requests have ended or `fuel` requests were
-    /// taken. Before readiness requests are taken, and none is started. It answers `End` once the requests have ended
-    /// and nothing runs; `Spent` where it took `fuel` requests; else `NotReady`.
+    /// `End`, unless `delay_tasks_until` gives another readiness. Then the scheduler takes requests until none is
+    /// ready, and the first waiting message is started of which no equal one runs; so on until none is left, no more
+    /// may run, the requests have ended or `fuel` requests were taken. Before readiness requests are taken, and none is
+    /// started. It answers `End` once the requests have ended and nothing runs; `Spent` where it took `fuel` requests;
+    /// else `NotReady`.
     pub fn poll_next(
         &mut self,
         alloc: Global,
@@ -246,7 +251,8 @@ impl<
     ) -> Result<Next<Result<F::Output, Error<E>>>, NoMemory>
         requires call { MkF.IsAlwaysCallable self.old.makes }
         requires futures { MakesFutures MkF.FnMut F.can_poll }
-        ensures polled { IfOk result (λ a. RunnerPolled T.eq R.told F.told F.gives Ready.told (CalledAt MkF.FnMut) now fuel self.old self.new a) }
+        ensures polled { IfOk result (λ a. RunnerPolled T.eq R.told F.told F.gives Ready.told Ready.gives (CalledAt MkF.FnMut) now fuel self.old self.new a) }
+        ensures ended { IfOk result (λ a. (a ≡ Next.End) ↔ IsAtEnd self.old self.new) }
         ensures once { IsDistinct T.eq (keys_of self.new.running) }
         ensures few { IsWithin self.new.limit self.new.running }
         ensures fresh { OnOk result (self.new.is_spent ≡ false) }

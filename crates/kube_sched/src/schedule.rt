@@ -1,11 +1,10 @@
 //! The scheduler (kube-runtime's `Scheduler`, without its stream of requests).
 
-ghost use Rattle.std.specs.Prelude.{◌≡◌, ◌+◌, ◌≤◌, true, List, [], map, length, IfSome, IfNone, OnOk, OnErr, min};
+ghost use Rattle.std.specs.Prelude.{◌≡◌, ◌+◌, ◌≤◌, true, List, [], length, IfSome, IfNone, OnOk, OnErr, min};
 ghost use Rattle.std.specs.Fn.{FnReturnsAt};
 ghost use Rattle.kube_model.specs.Queue.{QueueEvent, entry, waiting, plus, longest_wait};
 ghost use Rattle.kube_model.specs.WaitingOnce.{is_frozen};
 ghost use Rattle.kube_sched.specs.Entries.{entries};
-ghost use Rattle.kube_sched.specs.Held.{is_of, is_due, set_in};
 
 use crate::held::{Held, first_passing, has_message, set_anew, settle_due};
 use crate::request::ScheduleRequest;
@@ -37,7 +36,7 @@ pub struct Scheduler<T> {
 }
 
 impl<T> Model for Scheduler<T> {
-    ghost use Rattle.std.specs.Prelude.{ℕ, ◌+◌, ◌≤◌, vec_len, vec_capacity};
+    ghost use Rattle.std.specs.Prelude.{◌+◌, ◌≤◌, vec_len, vec_capacity};
     ghost use Rattle.kube_sched.specs.Schedule.{Schedule};
 
     ghost Value = { Schedule T };

@@ -1,6 +1,6 @@
 //! The scheduler over a stream of requests (kube-runtime's `Scheduler`, `HoldUnless` and `Hold`).
 
-ghost use Rattle.std.specs.Prelude.{◌≡◌, ◌+◌, ◌≤◌, ◌<◌, List, [], Bool, true, false, IfOk, OnErr, IsErr};
+ghost use Rattle.std.specs.Prelude.{◌≡◌, ◌+◌, ◌≤◌, ◌<◌, List, true, false, IfOk, OnErr, IsErr};
 ghost use Rattle.std.specs.Fn.{FnReturnsAt};
 ghost use Rattle.kube_model.specs.Queue.{QueueEvent, entry};
 ghost use Rattle.kube_model.specs.WaitingOnce.{is_frozen};

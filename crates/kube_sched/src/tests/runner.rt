@@ -4,10 +4,10 @@ use super::{SECOND, asks, request};
 use crate::plain::Message;
 use crate::runner::Error;
 use crate::{Requests, Runner, ScheduleRequest, Untold, scheduler};
-use futures::Future;
 use futures::channel::oneshot;
 use futures::task::{Context, Poll};
 use futures::test::MockTask;
+use futures::{Future, future};
 use kube_meta::{Moment, Next, NoMemory};
 use std::alloc::Global;
 use std::collections::VecDeque;
@@ -196,6 +196,34 @@ fn a_failed_readiness_is_told_and_then_the_end(rt: HostRuntime) -> Result<(), Fa
     .delay_tasks_until(Untold { future: receive });
     drop(send);
     for wanted in [READINESS, END, END] {
+        let answer = task.enter(|cx| runner.poll_next(alloc, cx, Moment(0), 9))?;
+        assert_eq!(rt; shown(&answer), wanted);
+    }
+    Ok(())
+}
+
+#[test]
+fn a_new_readiness_goes_on_after_a_failed_one(rt: HostRuntime) -> Result<(), Fail> {
+    let alloc = rt.alloc();
+    let task = MockTask::new(&rt)?;
+    let requests = asks(alloc, &[(1, 0, 0)], None)?;
+    let mut failing = Runner::new(
+        alloc,
+        scheduler(alloc, requests),
+        0,
+        |m: &Message| run(m, 0),
+    )
+    .delay_tasks_until(Untold {
+        future: future::err::<(), u32>(7),
+    });
+    for wanted in [READINESS, END] {
+        let answer = task.enter(|cx| failing.poll_next(alloc, cx, Moment(0), 9))?;
+        assert_eq!(rt; shown(&answer), wanted);
+    }
+    let mut runner = failing.delay_tasks_until(Untold {
+        future: future::ok::<(), u32>(()),
+    });
+    for wanted in [NOT_READY, 1, NOT_READY] {
         let answer = task.enter(|cx| runner.poll_next(alloc, cx, Moment(0), 9))?;
         assert_eq!(rt; shown(&answer), wanted);
     }

@@ -19,7 +19,7 @@ pub returns-in-Some-clause-polled : goal.returns-in-Some-clause-polled
 returns-in-Some-clause-polled g c =
     let entries = c.shift_remove_index.ensures.entries in
     subst (λ xs. FirstReady g.F.ToldFuture.told g.F.Future.gives c.args.self.now xs c.in-Some.value) (sym entries)
-    (polling-ready g.F.ToldFuture.told g.F.Future.gives g.F.Future.can_poll c.args.self.now c.loop-place.self-inside.futures.entries c.poll_place.new.futures.entries c.loop-place.place c.in-Some.value c.loop-place.invariant.polling c.in-Some.ensures.polled)
+    (polling-ready g.F.ToldFuture.told g.F.Future.gives c.args.self.now c.loop-place.self-inside.futures.entries c.poll_place.new.futures.entries c.loop-place.place c.in-Some.value c.loop-place.invariant.polling c.in-Some.ensures.polled)
 
 pub invariant_of-self-in-Some : goal.invariant_of-self-in-Some
 invariant_of-self-in-Some g c =
