@@ -37,7 +37,7 @@ fn gives_something<I>(answer: &Result<Next<Result<I, Error>>, StreamFault>) -> b
 }
 
 /// An answer of a stream that gave something, or the last of so many.
-fn ask<St: EventStream>(
+pub fn ask<St: EventStream>(
     stream: &mut St,
     alloc: Global,
     now: Moment,

@@ -1,3 +1,7 @@
-//! Delays, and each call once.
+//! Delays, properties and adaptors, and each call once.
 
+mod adapted;
 mod backoffs;
+mod pauses;
+mod predicates;
+mod scripted;

@@ -1,0 +1,73 @@
+//! What can be made of any stream of events (kube-runtime's `WatchStreamExt`).
+
+ghost use Rattle.std.specs.Prelude.{◌≡◌, [], false, true, None};
+ghost use Rattle.kube_streams.specs.Backoffs.{default_backoff};
+
+use crate::adapted::Adapted;
+use crate::backoff::Backoff;
+use crate::backoff_reset_timer::DefaultBackoff;
+use crate::event_decode::{Decode, EventDecode};
+use crate::event_modify::{EventModify, Modify};
+use crate::stream_backoff::{State, StreamBackoff};
+use crate::settled::{Settle, Settled};
+use kube_watch::{Event, EventStream};
+use std::alloc::Global;
+
+/// Streams made of streams of events.
+pub trait WatchStreamExt: EventStream {
+    /// The objects of `Apply` and `InitApply`.
+    fn applied_objects<T: Drop>(self, alloc: Global) -> EventDecode<Self>
+    where
+        Self: EventStream<Item = Event<T>> + Sized,
+        ensures { result ≡ record { stream = self; adapt = record { deletes = false }; waiting = []; fault = None } }
+    {
+        Adapted::new(alloc, self, Decode::new(false))
+    }
+
+    /// The objects of `Apply`, `InitApply` and `Delete`.
+    fn touched_objects<T: Drop>(self, alloc: Global) -> EventDecode<Self>
+    where
+        Self: EventStream<Item = Event<T>> + Sized,
+        ensures { result ≡ record { stream = self; adapt = record { deletes = true }; waiting = []; fault = None } }
+    {
+        Adapted::new(alloc, self, Decode::new(true))
+    }
+
+    /// The objects of `Apply`, and those of a list at its `InitDone`.
+    fn settled_objects<T: Drop>(self, alloc: Global) -> Settled<Self>
+    where
+        Self: EventStream<Item = Event<T>> + Sized,
+        ensures { result ≡ record { stream = self; adapt = []; waiting = []; fault = None } }
+    {
+        Adapted::new(alloc, self, Settle::new(alloc))
+    }
+
+    /// The events with their objects changed by `f`.
+    fn modify<T: Drop, F: FnMut(&mut T) + Drop>(self, alloc: Global, f: F) -> EventModify<Self, F>
+    where
+        Self: EventStream<Item = Event<T>> + Sized,
+        ensures { result ≡ record { stream = self; adapt = record { f = f }; waiting = []; fault = None } }
+    {
+        Adapted::new(alloc, self, Modify::new(f))
+    }
+
+    /// All that the stream gives, with a pause of the default backoff after each error.
+    fn default_backoff(self) -> StreamBackoff<Self, DefaultBackoff>
+    where
+        Self: Sized,
+        ensures { result ≡ record { stream = self; backoff = default_backoff; state = State.Awake; fault = None } }
+    {
+        StreamBackoff::new(self, DefaultBackoff::default())
+    }
+
+    /// All that the stream gives, with a pause after each error.
+    fn backoff<B: Backoff>(self, b: B) -> StreamBackoff<Self, B>
+    where
+        Self: Sized,
+        ensures { result ≡ record { stream = self; backoff = b; state = State.Awake; fault = None } }
+    {
+        StreamBackoff::new(self, b)
+    }
+}
+
+impl<S: EventStream> WatchStreamExt for S {}
