@@ -1,5 +1,5 @@
 -- What the exchanges of one poll of an object come to.
-use Rattle.std.proofs.Common.{◌≡◌, ℕ, ◌+◌, ◌<◌, Bool, true, false, not, List, [], ◌∷◌, ◌++◌, map, Option, Some, None, refl, sym, ap, ◌∙◌, subst, append_assoc, append-nil}
+use Rattle.std.proofs.Common.{◌≡◌, ℕ, ◌+◌, ◌<◌, Bool, true, false, not, List, [], ◌∷◌, ◌++◌, Some, None, refl, sym, ap, ◌∙◌, subst, append_assoc, append-nil}
 use Rattle.kube_meta.specs.declared.poll.Next.{Next}
 use Rattle.kube_meta.specs.declared.poll.Next.TheVariants.{Item, NotReady, Spent}
 use Rattle.kube_model.specs.World.{Settings}
@@ -7,9 +7,9 @@ use Rattle.kube_model.specs.History.{Dated, Exchange}
 use Rattle.kube_model.specs.Owed.{is_not_ready}
 use Rattle.kube_watch.specs.Stands.{StandsFor, exchanges_in, row_of, settings_in}
 use Rattle.kube_watch.specs.Watching.{Told, Watching}
-use Rattle.kube_watch.specs.Polls.{Look, Quiet, look_of, answered_by, polled, told_by, Api, Exchanged, Filled}
+use Rattle.kube_watch.specs.Polls.{look_of, answered_by, polled, told_by, Api, Exchanged, Filled}
 use Rattle.kube_watch.specs.Objects.{Found, answer_to, answers_to, answers_in, held_after, held_by, held_through, is_held, object_looks, with_answer, Observing, PolledObject}
-use Rattle.kube_watch.proofs.Polls.{quiets, quiets-snoc, ended_by, answered-then, answered-quiet, look-unready, look-ready, exchanged-none, exchanged-more, exchanged-as, exchanged-from, told-last}
+use Rattle.kube_watch.proofs.Polls.{quiets, quiets-snoc, ended_by, answered-then, answered-quiet, look-unready, look-ready, exchanged-none, exchanged-more, exchanged-as, told-last}
 
 module _ {V : Type 0} (settings : Settings) where
   looks-snoc : (held : Bool) (before xs : List (Exchange V)) (x : Exchange V)
@@ -148,22 +148,3 @@ module _ {A V : Type 0} (api : Api A V) (now : ℕ) where
     answered = λ ds h. ap (λ ws. polled ws fuel []) first;
     held = λ ds h. held;
   }
-
-  -- what was taken of what waits without an answer makes no difference
-  pub after-taken : (fuel : ℕ) (old middle new : Observing A V) (answer : Next (Found V)) → answers_in old ≡ [] → middle.watcher.waiting ≡ []
-      → middle.watcher ≡ record old.watcher { waiting = middle.watcher.waiting } → is_held middle ≡ is_held old → PolledObject api now fuel middle answer new → PolledObject api now fuel old answer new
-  after-taken fuel old middle new answer first left same held p =
-      let settings : settings_in middle.watcher ≡ settings_in old.watcher = ap settings_in same in
-      let asks : (ds : List (Dated V)) → StandsFor ds old.watcher → StandsFor ds middle.watcher =
-      (λ ds h. subst (λ w. StandsFor ds w) (sym same) (record { stands = h.stands; unspent = h.unspent })) in
-      record {
-        exchanges = p.exchanges;
-        exchanged = exchanged-from api now old.watcher middle.watcher new.watcher p.exchanges same p.exchanged;
-        answered = λ ds h.
-            ap (λ ws. polled ws fuel (object_looks (settings_in old.watcher) (is_held old) (exchanges_in ds) p.exchanges)) (first ∙ ap (answers_to middle.held) (sym left))
-            ∙ (ap (λ s. polled (answers_in middle) fuel (object_looks s (is_held old) (exchanges_in ds) p.exchanges)) (sym settings)
-            ∙ (ap (λ k. polled (answers_in middle) fuel (object_looks (settings_in middle.watcher) k (exchanges_in ds) p.exchanges)) (sym held) ∙ p.answered ds (asks ds h)));
-        held = λ ds h.
-            p.held ds (asks ds h)
-            ∙ (ap (λ s. held_through s (is_held middle) (exchanges_in ds) p.exchanges) settings ∙ ap (λ k. held_through (settings_in old.watcher) k (exchanges_in ds) p.exchanges) held);
-      }

@@ -141,17 +141,6 @@ module _ {A V : Type 0} (api : Api A V) (now : ℕ) where
     config = ap (λ (v : Watching A V). v.config) same ∙ e.config;
   }
 
-  -- nor what waited before
-  pub exchanged-from : (old w new : Watching A V) (xs : List (Exchange V)) → w ≡ record old { waiting = w.waiting } → Exchanged api now w xs new → Exchanged api now old xs new
-  exchanged-from old w new xs same =
-      subst (λ m. Exchanged api now m xs new → Exchanged api now old xs new) (sym same)
-      (λ e. record {
-        calls = e.calls;
-        made = λ ds h. e.made ds (record { stands = h.stands; unspent = h.unspent });
-        stands = λ ds h. e.stands ds (record { stands = h.stands; unspent = h.unspent });
-        config = e.config;
-      })
-
   -- what the last of them told is what waits
   pub told-last : (old w new : Watching A V) (xs : List (Exchange V)) (b : Bool) → (e : Exchanged api now old xs w) → (f : Filled api now w b new) → (ds : List (Dated V)) → StandsFor ds old
       → told_by (row_of (settings_in old) (exchanges_in ds ++ xs) f.exchange) ≡ new.waiting

@@ -3,4 +3,6 @@
 mod cases;
 mod config;
 mod event;
+mod params;
+mod polls;
 mod script;
