@@ -1,1 +1,3 @@
--- proofs
+-- lemmas that the proofs cite
+pub mod Folds
+pub mod Quiet

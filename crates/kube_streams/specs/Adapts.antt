@@ -1,10 +1,11 @@
 -- Streams made of other ones: what they give, by what the other one answers. (Crate: the streams of `WatchStreamExt`.)
-use Rattle.std.specs.Prelude.{◌≡◌, ◌⊎◌, ℕ, zero, suc, ◌<◌, ⊤, ⊥, List, [], ◌∷◌, Option, Some, None, Result, Ok, Err}
+use Rattle.std.specs.Prelude.{◌≡◌, ◌⊎◌, ℕ, zero, suc, ◌<◌, ⊤, List, [], ◌∷◌, Option, Some, None, Result, Ok, Err}
 use Rattle.kube_meta.specs.declared.poll.Next.TheVariants.{Item, NotReady, Spent, End}
 use Rattle.kube_model.specs.declared.error.Error.{Error}
 use Rattle.kube_watch.specs.declared.stream.StreamFault.{StreamFault}
 use Rattle.kube_watch.specs.declared.stream.StreamFault.TheVariants.{NoMemory, Unnamed}
 use Rattle.kube_watch.specs.Streams.{Answer}
+use Rattle.kube_reflect.specs.Reflects.{fault_in}
 
 -- what a stream gives: an item, or an error
 abbrev pub Told : Type 0 → Type 0
@@ -22,11 +23,6 @@ pub record Adapting (S T J : Type 0) : Type 0 where
   pub adapt : T
   pub waiting : List (Told J)
   pub fault : Option StreamFault
-
--- the fault that an answer leaves
-abbrev pub fault_in : {J : Type 0} → Answer J → Option StreamFault
-fault_in (Ok a) = None
-fault_in (Err fault) = Some fault
 
 -- what is made of one thing at a moment: by the state before it, what is given, in order, and the state after it; and whether it has no name
 module _ {S T I J : Type 0} (polls : S → ℕ → ℕ → Answer I → S → Type 0) (takes : ℕ → T → Told I → List (Told J) → T → Type 0) (unnamed : T → Told I → Type 0) where
@@ -55,6 +51,11 @@ module _ {S T I J : Type 0} (polls : S → ℕ → ℕ → Answer I → S → Ty
   ComesTo now t (Ok Spent) answer rest u = ⊥
   ComesTo now t (Ok End) answer rest u = (answer ≡ Ok End) × (rest ≡ []) × (u ≡ t)
   ComesTo now t (Err fault) answer rest u = (answer ≡ Err fault) × (rest ≡ []) × (u ≡ t)
+
+  -- an answer gives nothing, or comes to this one
+  abbrev pub Comes : ℕ → T → Answer I → Option (Answer J) → List (Told J) → T → Type 0
+  Comes now t last None rest u = IsQuiet now t last u × (rest ≡ [])
+  Comes now t last (Some answer) rest u = ComesTo now t last answer rest u
 
   -- after some that gave nothing, one came to this answer
   pub record Gave (now fuel : ℕ) (s : S) (t : T) (answer : Answer J) (rest : List (Told J)) (r : S) (u : T) : Type 0 where

@@ -18,32 +18,32 @@ pub record Pausing (S B : Type 0) : Type 0 where
 -- the pause after an error: until the moment and the delay; without a delay the stream is given up
 abbrev pub pause_of : ℕ → Option ℕ → State
 pause_of now None = states.GivenUp
-pause_of now (Some delay) = states.BackingOff (saturated (now + delay))
+pause_of now (Some delay) = states.BackingOff (record { 0 = saturated (now + delay) })
+
+-- the backoff after an answer: an error asks it, an item and the end begin it anew
+abbrev pub backoff_after : {B I : Type 0} → (B → ℕ → B) → (B → B) → ℕ → B → Answer I → B
+backoff_after delayed restarted now b (Ok (Item (Ok i))) = restarted b
+backoff_after delayed restarted now b (Ok (Item (Err e))) = delayed b now
+backoff_after delayed restarted now b (Ok NotReady) = b
+backoff_after delayed restarted now b (Ok Spent) = b
+backoff_after delayed restarted now b (Ok End) = restarted b
+backoff_after delayed restarted now b (Err fault) = b
+
+-- only an error pauses
+abbrev pub state_after : {B I : Type 0} → (B → ℕ → Option ℕ) → ℕ → B → Answer I → State
+state_after delay now b (Ok (Item (Ok i))) = states.Awake
+state_after delay now b (Ok (Item (Err e))) = pause_of now (delay b now)
+state_after delay now b (Ok NotReady) = states.Awake
+state_after delay now b (Ok Spent) = states.Awake
+state_after delay now b (Ok End) = states.Awake
+state_after delay now b (Err fault) = states.Awake
 
 module _ {S B I : Type 0} (delay : B → ℕ → Option ℕ) (delayed : B → ℕ → B) (restarted : B → B) (polls : S → ℕ → ℕ → Answer I → S → Type 0) where
-  -- the backoff after an answer: an error asks it, an item and the end begin it anew
-  abbrev pub backoff_after : ℕ → B → Answer I → B
-  backoff_after now b (Ok (Item (Ok i))) = restarted b
-  backoff_after now b (Ok (Item (Err e))) = delayed b now
-  backoff_after now b (Ok NotReady) = b
-  backoff_after now b (Ok Spent) = b
-  backoff_after now b (Ok End) = restarted b
-  backoff_after now b (Err fault) = b
-
-  -- only an error pauses
-  abbrev pub state_after : ℕ → B → Answer I → State
-  state_after now b (Ok (Item (Ok i))) = states.Awake
-  state_after now b (Ok (Item (Err e))) = pause_of now (delay b now)
-  state_after now b (Ok NotReady) = states.Awake
-  state_after now b (Ok Spent) = states.Awake
-  state_after now b (Ok End) = states.Awake
-  state_after now b (Err fault) = states.Awake
-
   -- the stream is asked, and its answer is given
   pub record Passed (now fuel : ℕ) (p : Pausing S B) (answer : Answer I) (q : Pausing S B) : Type 0 where
     pub asked : Asked polls now fuel p.stream answer q.stream
-    pub backoff : q.backoff ≡ backoff_after now p.backoff answer
-    pub state : q.state ≡ state_after now p.backoff answer
+    pub backoff : q.backoff ≡ backoff_after delayed restarted now p.backoff answer
+    pub state : q.state ≡ state_after delay now p.backoff answer
     pub fault : q.fault ≡ fault_in answer
 
   -- within a pause nothing is asked
@@ -54,7 +54,7 @@ module _ {S B I : Type 0} (delay : B → ℕ → Option ℕ) (delayed : B → �
   -- a stream that is given up has ended
   abbrev pub Advanced : State → ℕ → ℕ → Pausing S B → Answer I → Pausing S B → Type 0
   Advanced states.Awake now fuel p answer q = Passed now fuel p answer q
-  Advanced (states.BackingOff until) now fuel p answer q = Held (nat_lt now until) now fuel p answer q
+  Advanced (states.BackingOff until) now fuel p answer q = Held (nat_lt now until.0) now fuel p answer q
   Advanced states.GivenUp now fuel p answer q = (answer ≡ Ok End) × (q ≡ p)
 
   -- a poll: after a fault it answers only that

@@ -2,7 +2,8 @@
 use Rattle.std.specs.Prelude.{◌≡◌, ◌⊎◌, ℕ, ◌*◌, ◌%◌, ◌^◌, ℤ, List, [], ◌∷◌, ◌++◌, length, Option, None, Some, unwrap_or, fold, bit_xor}
 use Rattle.std.specs.List.{flat_map}
 use Rattle.std.specs.Option.{option_map}
-use Rattle.std.specs.Int.{w64, cast_unsigned, to_le_bytes}
+use Rattle.std.specs.Int.{w64, cast_unsigned}
+use Rattle.std.specs.Hash.{le_bytes}
 use Rattle.kube_meta.specs.declared.metadata.ObjectMeta.{ObjectMeta}
 
 -- the fold after one byte more
@@ -14,7 +15,7 @@ folded h bytes = fold folded_byte h bytes
 
 -- a number of 64 bits: its 8 bytes, the lowest first
 abbrev pub number_bytes : ℕ → List ℕ
-number_bytes n = to_le_bytes w64 n
+number_bytes n = le_bytes 8 n
 
 -- a text: its length, and its bytes
 abbrev pub text_bytes : List ℕ → List ℕ
@@ -71,9 +72,9 @@ combined None (Some b) = Some (hashed 6 (part_bytes None ++ part_bytes (Some b))
 combined (Some a) b = Some (hashed 6 (part_bytes (Some a) ++ part_bytes b))
 
 -- what the first and the second give, combined
-pub record Combines (first second : Option ℕ → Type 0) (value : Option ℕ) : Type 0 where
+pub record Combines (first second : Option ℕ → Type 0) (given : Option ℕ) : Type 0 where
   pub a : Option ℕ
   pub b : Option ℕ
   pub gives_a : first a
   pub gives_b : second b
-  pub value : value ≡ combined a b
+  pub value : given ≡ combined a b

@@ -1,6 +1,8 @@
 //! Objects of events (kube-runtime's `utils::event_decode`).
 
-ghost use Rattle.std.specs.Prelude.{◌≡◌};
+ghost use Rattle.std.specs.Prelude.{◌≡◌, []};
+ghost use Rattle.kube_streams.specs.Adapts.{IsTaken};
+ghost use Rattle.kube_streams.specs.Decodes.{decoded};
 
 use crate::adapted::{Adapt, Adapted, wait};
 use kube_meta::Moment;
@@ -36,7 +38,10 @@ impl<T: Drop> Adapt<Event<T>> for Decode {
         _now: Moment,
         told: Result<Event<T>, Error>,
         waiting: &mut VecDeque<Result<T, Error>>,
-    ) -> Result<(), StreamFault> {
+    ) -> Result<(), StreamFault>
+        requires none { waiting.old.items ≡ [] }
+        ensures taken { IsTaken ((waiting.new.items ≡ decoded self.old.deletes told) × (self.new ≡ self.old)) ⊥ result }
+    {
         match told {
             Ok(Event::Apply(object)) | Ok(Event::InitApply(object)) => {
                 wait(waiting, Ok(object))?;

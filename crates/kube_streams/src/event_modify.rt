@@ -1,26 +1,41 @@
 //! Events whose objects are changed (kube-runtime's `utils::event_modify`).
 
-ghost use Rattle.std.specs.Prelude.{◌≡◌};
+ghost use Rattle.std.specs.Prelude.{◌≡◌, None};
 ghost use Rattle.std.specs.Fn.{CalledAtMut};
-ghost use Rattle.kube_streams.specs.Modifies.{IsChanged};
+ghost use Rattle.kube_streams.specs.Modifies.{AnswerChanged, IsChanged};
 
-use crate::adapted::{Adapt, Adapted, wait};
-use kube_meta::Moment;
-use kube_watch::{Error, Event, StreamFault};
+use crate::faults::fault_of;
+use kube_meta::{Moment, Next};
+use kube_reflect::reflecting::ask;
+use kube_watch::{Error, Event, EventStream, StreamFault};
 use std::alloc::Global;
-use std::collections::VecDeque;
+use std::marker::Model;
 
-/// Changes the objects of events.
+/// A stream of events whose objects a closure changes before they are given (kube-runtime's `EventModify`).
 #[derive(Drop)]
-pub struct Modify<F> {
+pub struct EventModify<S, F> {
+    stream: S,
     f: F,
+    fault: Option<StreamFault>,
 }
 
-impl<F> Modify<F> {
-    pub(crate) fn new(f: F) -> Modify<F>
-        ensures { result ≡ record { f = f } }
+impl<S, F> Model for EventModify<S, F> {
+    ghost use Rattle.kube_streams.specs.Modifies.{Modifying};
+
+    ghost Value = { Modifying S F };
+
+    ghost view = { λ m. record { stream = m.stream; f = m.f; fault = m.fault } };
+}
+
+impl<S, F> EventModify<S, F> {
+    pub(crate) fn new(stream: S, f: F) -> EventModify<S, F>
+        ensures { result ≡ record { stream = stream; f = f; fault = None } }
     {
-        Modify { f }
+        EventModify {
+            stream,
+            f,
+            fault: None,
+        }
     }
 }
 
@@ -35,7 +50,7 @@ fn changed<T, F: FnMut(&mut T)>(f: &mut F, mut object: T) -> T
 }
 
 /// The event with its object changed.
-fn modified<T, F: FnMut(&mut T)>(f: &mut F, event: Event<T>) -> Event<T>
+fn event_changed<T, F: FnMut(&mut T)>(f: &mut F, event: Event<T>) -> Event<T>
     requires may { F.IsAlwaysCallable f.old }
     ensures may { F.IsAlwaysCallable f.new }
     ensures changed { IsChanged F.FnMut f.old event result f.new }
@@ -49,32 +64,46 @@ fn modified<T, F: FnMut(&mut T)>(f: &mut F, event: Event<T>) -> Event<T>
     }
 }
 
-impl<T: Drop, F: FnMut(&mut T) + Drop> Adapt<Event<T>> for Modify<F> {
-    ghost use Rattle.kube_streams.specs.Modifies.{Modified};
-
-    type Given = Event<T>;
-
-    ghost takes = { λ now m told given n. Modified F.FnMut m.f told given n.f };
-
-    ghost may = { λ m. F.IsAlwaysCallable m.f };
-
-    fn take(
-        &mut self,
-        _alloc: Global,
-        _now: Moment,
-        told: Result<Event<T>, Error>,
-        waiting: &mut VecDeque<Result<Event<T>, Error>>,
-    ) -> Result<(), StreamFault> {
-        match told {
-            Ok(event) => {
-                let event = modified(&mut self.f, event);
-                wait(waiting, Ok(event))?;
-            }
-            Err(error) => wait(waiting, Err(error))?,
-        }
-        Ok(())
+/// The answer with its object changed.
+fn answer_changed<T, F: FnMut(&mut T)>(
+    f: &mut F,
+    answer: Result<Next<Result<Event<T>, Error>>, StreamFault>,
+) -> Result<Next<Result<Event<T>, Error>>, StreamFault>
+    requires may { F.IsAlwaysCallable f.old }
+    ensures may { F.IsAlwaysCallable f.new }
+    ensures changed { AnswerChanged F.FnMut f.old answer result f.new }
+{
+    match answer {
+        Ok(Next::Item(Ok(event))) => Ok(Next::Item(Ok(event_changed(f, event)))),
+        answer => answer,
     }
 }
 
-/// The stream of the events with their objects changed (what `WatchStreamExt::modify` gives).
-pub type EventModify<S, F> = Adapted<S, Modify<F>>;
+impl<T: Drop, S: EventStream<Item = Event<T>>, F: FnMut(&mut T) + Drop> EventStream for EventModify<S, F> {
+    ghost use Rattle.std.specs.Prelude.{None};
+    ghost use Rattle.kube_reflect.specs.Reflects.{Said};
+    ghost use Rattle.kube_streams.specs.Modifies.{Modified};
+
+    type Item = Event<T>;
+
+    ghost told = { λ _. None };
+
+    ghost can_poll = { λ m. S.can_poll m.stream × F.IsAlwaysCallable m.f };
+
+    ghost polls = { λ m now fuel answer n. Modified F.FnMut (Said S.polls S.told) m.fault now fuel m answer n };
+
+    fn poll_next(
+        &mut self,
+        alloc: Global,
+        now: Moment,
+        fuel: u32,
+    ) -> Result<Next<Result<Event<T>, Error>>, StreamFault> {
+        if let Some(fault) = self.fault {
+            return Err(fault);
+        }
+        let last = ask(&mut self.stream, alloc, now, fuel);
+        let answer = answer_changed(&mut self.f, last);
+        self.fault = fault_of(&answer);
+        answer
+    }
+}

@@ -1,8 +1,8 @@
 //! Predicates: what of an object is looked at to say whether it changed (kube-runtime's `utils::predicate`).
 
-ghost use Rattle.std.specs.Prelude.{◌≡◌};
+ghost use Rattle.std.specs.Prelude.{◌≡◌, ◌++◌};
 ghost use Rattle.std.specs.Fn.{FnReturnsAt};
-ghost use Rattle.kube_streams.specs.Properties.{Combines, FallsBack, combined as combined_value, folded, part_bytes};
+ghost use Rattle.kube_streams.specs.Properties.{Combines, FallsBack, combined as combined_value, folded, hashed, part_bytes};
 
 use crate::fold::Fold;
 use std::hash::Hasher;
@@ -23,7 +23,7 @@ pub trait Predicate<K>: Drop {
         ensures gives { gives self.now obj.now result };
 
     /// This property, and another one of the objects that don't have this one.
-    fn fallback<F: Predicate<K>>(self, f: F) -> Fallback<Self, F>
+    final fn fallback<F: Predicate<K>>(self, f: F) -> Fallback<Self, F>
     where
         Self: Sized,
         ensures { result ≡ record { first = self; second = f } }
@@ -35,7 +35,7 @@ pub trait Predicate<K>: Drop {
     }
 
     /// This property and another one, as far as an object has them.
-    fn combine<F: Predicate<K>>(self, f: F) -> Combine<Self, F>
+    final fn combine<F: Predicate<K>>(self, f: F) -> Combine<Self, F>
     where
         Self: Sized,
         ensures { result ≡ record { first = self; second = f } }
@@ -101,17 +101,24 @@ fn part(fold: &mut Fold, value: Option<u64>)
     }
 }
 
+/// Both parts, as one value.
+fn both(a: Option<u64>, b: Option<u64>) -> u64
+    ensures { result ≡ hashed 6 (part_bytes a ++ part_bytes b) }
+{
+    let mut fold = Fold::new(6);
+    part(&mut fold, a);
+    part(&mut fold, b);
+    fold.finish()
+}
+
 /// Both values as one.
 fn combined(a: Option<u64>, b: Option<u64>) -> Option<u64>
     ensures { result ≡ combined_value a b }
 {
-    if a.is_none() && b.is_none() {
-        return None;
+    match (a, b) {
+        (None, None) => None,
+        (a, b) => Some(both(a, b)),
     }
-    let mut fold = Fold::new(6);
-    part(&mut fold, a);
-    part(&mut fold, b);
-    Some(fold.finish())
 }
 
 impl<K, A: Predicate<K>, B: Predicate<K>> Predicate<K> for Combine<A, B> {

@@ -1,10 +1,12 @@
 //! Objects of lists that are whole.
 
-ghost use Rattle.std.specs.Prelude.{◌≡◌, [], ◌++◌, OnOk, Ok, map};
+ghost use Rattle.std.specs.Prelude.{◌≡◌, [], ◌∷◌, ◌++◌, OnOk, Ok, map};
+ghost use Rattle.kube_streams.specs.Adapts.{IsTaken};
+ghost use Rattle.kube_streams.specs.Decodes.{listed_after, settled};
 
-use crate::adapted::{Adapt, Adapted, wait};
+use crate::adapted::{Adapt, Adapted, ObjectOf, wait};
 use kube_meta::{Moment, NoMemory};
-use kube_watch::{Error, Event, EventStream, StreamFault};
+use kube_watch::{Error, Event, StreamFault};
 use std::alloc::Global;
 use std::collections::VecDeque;
 use std::marker::Model;
@@ -67,10 +69,13 @@ impl<T: Drop> Adapt<Event<T>> for Settle<T> {
         _now: Moment,
         told: Result<Event<T>, Error>,
         waiting: &mut VecDeque<Result<T, Error>>,
-    ) -> Result<(), StreamFault> {
+    ) -> Result<(), StreamFault>
+        requires none { waiting.old.items ≡ [] }
+        ensures taken { IsTaken ((waiting.new.items ≡ settled self.old told) × (self.new ≡ listed_after self.old told)) ⊥ result }
+    {
         match told {
             Ok(Event::Apply(object)) => wait(waiting, Ok(object))?,
-            Ok(Event::Delete(_)) => {}
+            Ok(Event::Delete(_object)) => {}
             Ok(Event::Init) => self.listed.clear(),
             Ok(Event::InitApply(object)) => self.keep(object)?,
             Ok(Event::InitDone) => self.give(waiting)?,
@@ -80,14 +85,6 @@ impl<T: Drop> Adapt<Event<T>> for Settle<T> {
     }
 }
 
-/// What has an object or none.
-pub trait OfObject {
-    type Object: Drop;
-}
-
-impl<T: Drop> OfObject for Event<T> {
-    type Object = T;
-}
 
 /// The stream of the objects of whole lists, and of those that changed (what `WatchStreamExt::settled_objects` gives).
-pub type Settled<S> = Adapted<S, Settle<<<S as EventStream>::Item as OfObject>::Object>>;
+pub type Settled<S> = Adapted<S, Settle<ObjectOf<S>>>;

@@ -146,7 +146,7 @@ fn objects_are_changed(rt: HostRuntime) -> Result<(), Fail> {
         Said::InitApply(10),
         Said::InitDone,
     ])
-    .modify(alloc, |object| *object = object.saturating_add(1));
+    .modify(|object| *object = object.saturating_add(1));
     check(
         &rt,
         alloc,
