@@ -1,3 +1,4 @@
 -- lemmas that the proofs cite
 pub mod Folds
+pub mod Given
 pub mod Quiet

@@ -1,5 +1,5 @@
 -- Streams made of other ones: what they give, by what the other one answers. (Crate: the streams of `WatchStreamExt`.)
-use Rattle.std.specs.Prelude.{◌≡◌, ◌⊎◌, ℕ, zero, suc, ◌<◌, ⊤, List, [], ◌∷◌, Option, Some, None, Result, Ok, Err}
+use Rattle.std.specs.Prelude.{◌≡◌, ◌⊎◌, ℕ, zero, suc, ◌<◌, ⊤, List, [], ◌∷◌, ◌++◌, Option, Some, None, Result, Ok, Err}
 use Rattle.kube_meta.specs.declared.poll.Next.TheVariants.{Item, NotReady, Spent, End}
 use Rattle.kube_model.specs.declared.error.Error.{Error}
 use Rattle.kube_watch.specs.declared.stream.StreamFault.{StreamFault}
@@ -16,6 +16,18 @@ abbrev pub IsTaken : Type 0 → Type 0 → Result (Unit {0}) StreamFault → Typ
 IsTaken taken unnamed (Ok _) = taken
 IsTaken taken unnamed (Err NoMemory) = ⊤
 IsTaken taken unnamed (Err Unnamed) = unnamed
+
+-- what an answer gives, and what many give
+abbrev pub told_in : {J : Type 0} → Answer J → List (Told J)
+told_in (Ok (Item told)) = told ∷ []
+told_in (Ok NotReady) = []
+told_in (Ok Spent) = []
+told_in (Ok End) = []
+told_in (Err fault) = []
+
+abbrev pub all_told : {J : Type 0} → List (ℕ × ℕ × Answer J) → List (Told J)
+all_told [] = []
+all_told (p ∷ ps) = told_in p.2 ++ all_told ps
 
 -- a stream S, the state T of what is made of what it gives, what waits, and the fault that is answered from then on
 pub record Adapting (S T J : Type 0) : Type 0 where
@@ -83,3 +95,32 @@ module _ {S T I J : Type 0} (polls : S → ℕ → ℕ → Answer I → S → Ty
   abbrev pub Adapted : Option StreamFault → Adapting S T J → ℕ → ℕ → Answer J → Adapting S T J → Type 0
   Adapted (Some fault) a now fuel answer b = (answer ≡ Err fault) × (b ≡ a)
   Adapted None a now fuel answer b = Advanced a.waiting a now fuel answer b
+
+  -- ---- over many polls
+
+  -- what an answer of the stream gives, in order, and the state after it
+  abbrev pub Gives : ℕ → T → Answer I → List (Told J) → T → Type 0
+  Gives now t (Ok (Item told)) given u = takes now t told given u
+  Gives now t (Ok NotReady) given u = (given ≡ []) × (u ≡ t)
+  Gives now t (Ok Spent) given u = (given ≡ []) × (u ≡ t)
+  Gives now t (Ok End) given u = (given ≡ []) × (u ≡ t)
+  Gives now t (Err fault) given u = ⊥
+
+  -- answers of the stream, each with its moment, and all that they give, in order
+  abbrev pub Came : S → T → List (ℕ × Answer I) → List (Told J) → S → T → Type 0
+  Came s t [] given r u = (given ≡ []) × (r ≡ s) × (u ≡ t)
+  Came s t (a ∷ more) given r u =
+      (q : S) × (v : T) × (first : List (Told J)) × (rest : List (Told J))
+      × polls s a.0 1 a.1 q × Gives a.0 t a.1 first v × Came q v more rest r u × (given ≡ first ++ rest)
+
+  -- polls, one after another, each with its moment, its fuel and its answer
+  abbrev pub Polled : Adapting S T J → List (ℕ × ℕ × Answer J) → Adapting S T J → Type 0
+  Polled a [] b = b ≡ a
+  Polled a (p ∷ more) b = (m : Adapting S T J) × Adapted a.fault a p.0 p.1 p.2 m × Polled m more b
+
+  -- what was given so far, and what waits, is what waited at first and all that the answers of the stream gave since, in order
+  pub record GivenSoFar (a : Adapting S T J) (ps : List (ℕ × ℕ × Answer J)) (b : Adapting S T J) : Type 0 where
+    pub answers : List (ℕ × Answer I)
+    pub given : List (Told J)
+    pub came : Came a.stream a.adapt answers given b.stream b.adapt
+    pub told : all_told ps ++ b.waiting ≡ a.waiting ++ given

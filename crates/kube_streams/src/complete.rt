@@ -49,10 +49,7 @@ fn call<F: FnOnce()>(f: &mut Option<F>)
 }
 
 /// Calls the closure where the answer is the end.
-fn complete<F: FnOnce(), I>(
-    f: &mut Option<F>,
-    answer: &Result<Next<Result<I, Error>>, StreamFault>,
-)
+fn complete<F: FnOnce(), I>(f: &mut Option<F>, answer: &Result<Next<Result<I, Error>>, StreamFault>)
     requires can { CanCall F.IsAlwaysCallable f.old }
     ensures can { CanCall F.IsAlwaysCallable f.new }
     ensures left { f.new ≡ left_after f.old answer.now }

@@ -79,7 +79,8 @@ fn answer_changed<T, F: FnMut(&mut T)>(
     }
 }
 
-impl<T: Drop, S: EventStream<Item = Event<T>>, F: FnMut(&mut T) + Drop> EventStream for EventModify<S, F> {
+impl<T: Drop, S: EventStream<Item = Event<T>>, F: FnMut(&mut T) + Drop> EventStream
+    for EventModify<S, F> {
     ghost use Rattle.std.specs.Prelude.{None};
     ghost use Rattle.kube_reflect.specs.Reflects.{Said};
     ghost use Rattle.kube_streams.specs.Modifies.{Modified};

@@ -1,15 +1,16 @@
 //! Streams of events: adaptors, predicates, backoffs.
 #![tactic(auto)]
 
-mod adapted;
+pub mod adapted;
 pub mod backoff;
 pub mod backoff_reset_timer;
+pub mod complete;
 pub mod event_decode;
 pub mod event_modify;
 pub mod exponential;
 mod faults;
 mod fold;
-pub mod complete;
+pub mod laws;
 pub mod plain_backoffs;
 pub mod predicate;
 pub mod predicates;
@@ -21,18 +22,18 @@ pub mod watch_ext;
 
 pub use backoff::Backoff;
 pub use backoff_reset_timer::{DefaultBackoff, ResetTimerBackoff};
+pub use complete::{OnComplete, on_complete};
 pub use event_decode::EventDecode;
 pub use event_modify::EventModify;
 pub use exponential::ExponentialBackoff;
 pub use kube_watch::{EventStream, StreamFault};
 pub use plain_backoffs::{ConstantBackoff, LinearBackoff};
-pub use complete::{OnComplete, on_complete};
+pub use predicate::{Combine, Fallback, FnPredicate, Predicate};
 pub use reflect::Reflect;
 pub use settled::Settled;
 pub use split::split_result;
 pub use stream_backoff::StreamBackoff;
 pub use watch_ext::WatchStreamExt;
-pub use predicate::{Combine, Fallback, FnPredicate, Predicate};
 
 #[cfg(test)]
 mod tests;

@@ -85,6 +85,5 @@ impl<T: Drop> Adapt<Event<T>> for Settle<T> {
     }
 }
 
-
 /// The stream of the objects of whole lists, and of those that changed (what `WatchStreamExt::settled_objects` gives).
 pub type Settled<S> = Adapted<S, Settle<ObjectOf<S>>>;

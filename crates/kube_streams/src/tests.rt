@@ -4,4 +4,5 @@ mod adapted;
 mod backoffs;
 mod pauses;
 mod predicates;
+mod reflected;
 mod scripted;

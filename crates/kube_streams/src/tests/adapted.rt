@@ -56,7 +56,9 @@ fn touched_objects_are_given(rt: HostRuntime) -> Result<(), Fail> {
 #[test]
 fn events_without_an_object_spend_the_fuel(rt: HostRuntime) -> Result<(), Fail> {
     let alloc = rt.alloc();
-    let mut objects = Scripted::new(&[Said::Init, Said::InitDone, Said::Apply(1)]).applied_objects(alloc);
+    let mut objects = Scripted::new(&[Said::Init, Said::InitDone, Said::Apply(1)]).applied_objects(
+        alloc,
+    );
     check(
         &rt,
         alloc,

@@ -36,8 +36,14 @@ fn a_constant_pause_after_an_error(rt: HostRuntime) -> Result<(), Fail> {
 #[test]
 fn pauses_grow_until_an_item_comes(rt: HostRuntime) -> Result<(), Fail> {
     let alloc = rt.alloc();
-    let mut events = Scripted::new(&[Said::Error, Said::Error, Said::Apply(4), Said::Error, Said::Spent])
-        .backoff(LinearBackoff::new(2 * SECOND));
+    let mut events = Scripted::new(&[
+        Said::Error,
+        Said::Error,
+        Said::Apply(4),
+        Said::Error,
+        Said::Spent,
+    ])
+    .backoff(LinearBackoff::new(2 * SECOND));
     check(
         &rt,
         alloc,

@@ -87,34 +87,44 @@ fn check<P: Predicate<DynamicObject>>(
 #[test]
 fn both_values_are_combined(rt: HostRuntime) -> Result<(), Fail> {
     let object = full(rt.alloc())?;
-    let both = FnPredicate(generation::<DynamicObject>).combine(FnPredicate(resource_version::<DynamicObject>));
+    let both = FnPredicate(generation::<DynamicObject>).combine(FnPredicate(
+        resource_version::<DynamicObject>,
+    ));
     check(&rt, &both, &object, Some(13477763842899525787))
 }
 
 #[test]
 fn one_value_is_combined_with_none(rt: HostRuntime) -> Result<(), Fail> {
     let object = bare(Some(7));
-    let both = FnPredicate(generation::<DynamicObject>).combine(FnPredicate(resource_version::<DynamicObject>));
+    let both = FnPredicate(generation::<DynamicObject>).combine(FnPredicate(
+        resource_version::<DynamicObject>,
+    ));
     check(&rt, &both, &object, Some(18404737571765746040))
 }
 
 #[test]
 fn none_combined_with_none_is_none(rt: HostRuntime) -> Result<(), Fail> {
     let object = bare(None);
-    let both = FnPredicate(generation::<DynamicObject>).combine(FnPredicate(resource_version::<DynamicObject>));
+    let both = FnPredicate(generation::<DynamicObject>).combine(FnPredicate(
+        resource_version::<DynamicObject>,
+    ));
     check(&rt, &both, &object, None)
 }
 
 #[test]
 fn the_second_is_asked_where_the_first_gives_none(rt: HostRuntime) -> Result<(), Fail> {
     let object = bare(Some(7));
-    let either = FnPredicate(resource_version::<DynamicObject>).fallback(FnPredicate(generation::<DynamicObject>));
+    let either = FnPredicate(resource_version::<DynamicObject>).fallback(FnPredicate(
+        generation::<DynamicObject>,
+    ));
     check(&rt, &either, &object, Some(3719803776375581067))
 }
 
 #[test]
 fn the_first_goes_before_the_second(rt: HostRuntime) -> Result<(), Fail> {
     let object = full(rt.alloc())?;
-    let either = FnPredicate(resource_version::<DynamicObject>).fallback(FnPredicate(generation::<DynamicObject>));
+    let either = FnPredicate(resource_version::<DynamicObject>).fallback(FnPredicate(
+        generation::<DynamicObject>,
+    ));
     check(&rt, &either, &object, Some(6559768642691309808))
 }

@@ -1,6 +1,6 @@
 //! A stream of answers that are written down, and what other streams make of it.
 
-ghost use Rattle.std.specs.Prelude.{◌≤◌, OnOk};
+ghost use Rattle.std.specs.Prelude.{◌≤◌};
 
 use crate::{EventStream, StreamFault};
 use kube_meta::{Moment, Next};
@@ -72,18 +72,18 @@ impl EventStream for Scripted {
 }
 
 /// What can be read.
-pub trait Shown: Drop {
-    fn shown(&self, alloc: Global) -> Result<String, AllocError>;
+pub trait Readable: Drop {
+    fn read_out(&self, alloc: Global) -> Result<String, AllocError>;
 }
 
-impl Shown for u32 {
-    fn shown(&self, alloc: Global) -> Result<String, AllocError> {
+impl Readable for u32 {
+    fn read_out(&self, alloc: Global) -> Result<String, AllocError> {
         format!(in alloc; "{self}")
     }
 }
 
-impl Shown for Event<u32> {
-    fn shown(&self, alloc: Global) -> Result<String, AllocError> {
+impl Readable for Event<u32> {
+    fn read_out(&self, alloc: Global) -> Result<String, AllocError> {
         match self {
             Event::Apply(object) => format!(in alloc; "Apply {object}"),
             Event::Delete(object) => format!(in alloc; "Delete {object}"),
@@ -94,12 +94,12 @@ impl Shown for Event<u32> {
     }
 }
 
-fn text_of<T: Shown>(
+fn text_of<T: Readable>(
     alloc: Global,
     answer: &Next<Result<T, Error>>,
 ) -> Result<String, AllocError> {
     match answer {
-        Next::Item(Ok(item)) => item.shown(alloc),
+        Next::Item(Ok(item)) => item.read_out(alloc),
         Next::Item(Err(_)) => String::from_str(alloc, "error"),
         Next::NotReady => String::from_str(alloc, "not ready"),
         Next::Spent => String::from_str(alloc, "spent"),
@@ -118,7 +118,7 @@ fn check_poll<S: EventStream>(
     poll: Poll,
 ) -> Result<(), Fail>
 where
-    S::Item: Shown,
+    S::Item: Readable,
     requires may { S.can_poll stream.old }
     ensures may { S.can_poll stream.new }
 {
@@ -137,7 +137,7 @@ pub fn check<S: EventStream>(
     polls: &[Poll],
 ) -> Result<(), Fail>
 where
-    S::Item: Shown,
+    S::Item: Readable,
     requires may { S.can_poll stream.old }
 {
     for poll in polls {

@@ -9,9 +9,9 @@ loop-asked-preserved g c =
     let l = c.loop-asked in
     let polls = Said g.S.EventStream.polls g.S.EventStream.told in
     let more = quiet_more polls g.T.Adapt.takes g.T.Adapt.unnamed c.args.now.0 l._asked c.args.self.now.stream c.args.self.now.adapt l.self.stream l.self.adapt c.poll_next-answer.result c.poll_next-answer.new.self c.pass.new.self.adapt
-        l.invariant.quiet
-        (subst (λ a. polls a.stream c.args.now.0 1 c.poll_next-answer.result c.poll_next-answer.new.self) c.self.view_is (c.poll_next-answer.ensures.polls, c.poll_next-answer.ensures.told))
-        (subst (λ a. IsQuiet polls g.T.Adapt.takes g.T.Adapt.unnamed c.args.now.0 a.adapt c.poll_next-answer.result c.pass.new.self.adapt) c.self.view_is c.in_default.ensures.passed.0) in
+    l.invariant.quiet
+    (subst (λ a. polls a.stream c.args.now.0 1 c.poll_next-answer.result c.poll_next-answer.new.self) c.self.view_is (c.poll_next-answer.ensures.polls, c.poll_next-answer.ensures.told))
+    (subst (λ a. IsQuiet polls g.T.Adapt.takes g.T.Adapt.unnamed c.args.now.0 a.adapt c.poll_next-answer.result c.pass.new.self.adapt) c.self.view_is c.in_default.ensures.passed.0) in
     let next : suc l._asked ≡ l._asked + 1 = omega arith in
     record {
       can = subst (λ s. g.S.EventStream.can_poll s) (sym c.pass.ensures.stream) c.poll_next-answer.ensures.may;

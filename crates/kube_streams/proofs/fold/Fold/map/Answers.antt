@@ -14,8 +14,8 @@ loop-key-preserved c =
     let text = c.in-Some.text.now in
     let named : c.as_str.result.now ≡ key = c.as_str.ensures.value in
     let fed : c.text-in-loop-key.new.self ≡ folded (folded l.self (text_bytes key)) (text_bytes text)
-        = c.text-in-loop-key.ensures ∙ ap (λ t. folded c.text.new.self (text_bytes t)) c.as_str-in-loop-key.ensures
-        ∙ ap (λ h. folded h (text_bytes text)) (c.text.ensures ∙ ap (λ k. folded l.self (text_bytes k)) named) in
+    = c.text-in-loop-key.ensures ∙ ap (λ t. folded c.text.new.self (text_bytes t)) c.as_str-in-loop-key.ensures
+    ∙ ap (λ h. folded h (text_bytes text)) (c.text.ensures ∙ ap (λ k. folded l.self (text_bytes k)) named) in
     ap (λ h. folded h (flat_map pair_bytes (pairs_of left))) fed ∙ sym (pair_first l.self key text (pairs_of left))
     ∙ ap (λ es. folded l.self (flat_map pair_bytes (pairs_of es))) (sym c.in-Some.ensures.steps) ∙ l.invariant
 
