@@ -26,6 +26,20 @@ pub struct Reflector<K: Resource, St> {
     pub(crate) fault: Option<StreamFault>,
 }
 
+impl<K: Resource, St> Reflector<K, St> {
+    /// A reflector that has applied nothing.
+    pub fn new(writer: Writer<K>, stream: St) -> Reflector<K, St>
+        ensures { result ≡ record { writer = writer; stream = stream; held = None; fault = None } }
+    {
+        Reflector {
+            writer,
+            stream,
+            held: None,
+            fault: None,
+        }
+    }
+}
+
 /// Whether an answer gives something.
 fn gives_something<I>(answer: &Result<Next<Result<I, Error>>, StreamFault>) -> bool
     ensures { result ≡ gives_something answer.now }
@@ -37,7 +51,7 @@ fn gives_something<I>(answer: &Result<Next<Result<I, Error>>, StreamFault>) -> b
 }
 
 /// An answer of a stream that gave something, or the last of so many.
-fn ask<St: EventStream>(
+pub fn ask<St: EventStream>(
     stream: &mut St,
     alloc: Global,
     now: Moment,

@@ -15,10 +15,5 @@ pub fn reflector<K: Resource, St: EventStream<Item = Event<Arc<K>>>>(
 ) -> Reflector<K, St>
     ensures { result ≡ record { writer = writer; stream = stream; held = None; fault = None } }
 {
-    Reflector {
-        writer,
-        stream,
-        held: None,
-        fault: None,
-    }
+    Reflector::new(writer, stream)
 }

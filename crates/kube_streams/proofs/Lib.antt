@@ -1,1 +1,4 @@
--- proofs
+-- lemmas that the proofs cite
+pub mod Folds
+pub mod Given
+pub mod Quiet

@@ -1,2 +1,10 @@
 -- the definitions that the contracts cite
+pub mod Adapts
+pub mod Applies
 pub mod Backoffs
+pub mod Completes
+pub mod Decodes
+pub mod Modifies
+pub mod Pauses
+pub mod Properties
+pub mod Splits

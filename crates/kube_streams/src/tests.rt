@@ -1,3 +1,8 @@
-//! Delays, and each call once.
+//! Delays, properties and adaptors, and each call once.
 
+mod adapted;
 mod backoffs;
+mod pauses;
+mod predicates;
+mod reflected;
+mod scripted;

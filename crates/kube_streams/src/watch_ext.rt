@@ -1,0 +1,94 @@
+//! What can be made of any stream of events (kube-runtime's `WatchStreamExt`).
+
+ghost use Rattle.std.specs.Prelude.{◌≡◌, [], false, true, None};
+ghost use Rattle.kube_streams.specs.Backoffs.{default_backoff};
+
+use crate::adapted::Adapted;
+use crate::backoff::Backoff;
+use crate::backoff_reset_timer::DefaultBackoff;
+use crate::event_decode::{Decode, EventDecode};
+use crate::event_modify::EventModify;
+use crate::reflect::Reflect;
+use crate::settled::{Settle, Settled};
+use crate::stream_backoff::{State, StreamBackoff};
+use kube_meta::Resource;
+use kube_reflect::{Reflector, Writer};
+use kube_watch::{Event, EventStream};
+use std::alloc::Global;
+
+/// Streams made of streams of events.
+pub trait WatchStreamExt: EventStream {
+    /// The objects of `Apply` and `InitApply`.
+    final fn applied_objects<T: Drop>(self, alloc: Global) -> EventDecode<Self>
+    where
+        Self: EventStream<Item = Event<T>> + Sized,
+        ensures { result ≡ record { stream = self; adapt = record { deletes = false }; waiting = []; fault = None } }
+    {
+        Adapted::new(alloc, self, Decode::new(false))
+    }
+
+    /// The objects of `Apply`, `InitApply` and `Delete`.
+    final fn touched_objects<T: Drop>(self, alloc: Global) -> EventDecode<Self>
+    where
+        Self: EventStream<Item = Event<T>> + Sized,
+        ensures { result ≡ record { stream = self; adapt = record { deletes = true }; waiting = []; fault = None } }
+    {
+        Adapted::new(alloc, self, Decode::new(true))
+    }
+
+    /// The objects of `Apply`, and those of a list at its `InitDone`.
+    final fn settled_objects<T: Drop>(self, alloc: Global) -> Settled<Self>
+    where
+        Self: EventStream<Item = Event<T>> + Sized,
+        ensures { result ≡ record { stream = self; adapt = []; waiting = []; fault = None } }
+    {
+        Adapted::new(alloc, self, Settle::new(alloc))
+    }
+
+    /// The events, each applied to the writer first.
+    final fn reflect<K: Resource>(self, writer: Writer<K>) -> Reflect<Self, K>
+    where
+        Self: Sized,
+        ensures { result ≡ record { stream = self; writer = writer; fault = None } }
+    {
+        Reflect::new(self, writer)
+    }
+
+    /// The events, each applied to the writer and offered to its subscribers first.
+    final fn reflect_shared<K: Resource>(self, writer: Writer<K>) -> Reflector<K, Self>
+    where
+        Self: Sized,
+        ensures { result ≡ record { writer = writer; stream = self; held = None; fault = None } }
+    {
+        Reflector::new(writer, self)
+    }
+
+    /// The events with their objects changed by `f`.
+    final fn modify<T: Drop, F: FnMut(&mut T) + Drop>(self, f: F) -> EventModify<Self, F>
+    where
+        Self: EventStream<Item = Event<T>> + Sized,
+        ensures { result ≡ record { stream = self; f = f; fault = None } }
+    {
+        EventModify::new(self, f)
+    }
+
+    /// All that the stream gives, with a pause of the default backoff after each error.
+    final fn default_backoff(self) -> StreamBackoff<Self, DefaultBackoff>
+    where
+        Self: Sized,
+        ensures { result ≡ record { stream = self; backoff = default_backoff; state = State.Awake; fault = None } }
+    {
+        StreamBackoff::new(self, DefaultBackoff::default())
+    }
+
+    /// All that the stream gives, with a pause after each error.
+    final fn backoff<B: Backoff>(self, b: B) -> StreamBackoff<Self, B>
+    where
+        Self: Sized,
+        ensures { result ≡ record { stream = self; backoff = b; state = State.Awake; fault = None } }
+    {
+        StreamBackoff::new(self, b)
+    }
+}
+
+impl<S: EventStream> WatchStreamExt for S {}
