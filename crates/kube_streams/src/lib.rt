@@ -33,7 +33,7 @@ pub use reflect::Reflect;
 pub use settled::Settled;
 pub use split::split_result;
 pub use stream_backoff::StreamBackoff;
-pub use watch_ext::WatchStreamExt;
+pub use watch_ext::{WatchEventsExt, WatchStreamExt};
 
 #[cfg(test)]
 mod tests;

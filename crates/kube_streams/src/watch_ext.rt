@@ -16,35 +16,8 @@ use kube_reflect::{Reflector, Writer};
 use kube_watch::{Event, EventStream};
 use std::alloc::Global;
 
-/// Streams made of streams of events.
+/// What can be made of any stream.
 pub trait WatchStreamExt: EventStream {
-    /// The objects of `Apply` and `InitApply`.
-    final fn applied_objects<T: Drop>(self, alloc: Global) -> EventDecode<Self>
-    where
-        Self: EventStream<Item = Event<T>> + Sized,
-        ensures { result ≡ record { stream = self; adapt = record { deletes = false }; waiting = []; fault = None } }
-    {
-        Adapted::new(alloc, self, Decode::new(false))
-    }
-
-    /// The objects of `Apply`, `InitApply` and `Delete`.
-    final fn touched_objects<T: Drop>(self, alloc: Global) -> EventDecode<Self>
-    where
-        Self: EventStream<Item = Event<T>> + Sized,
-        ensures { result ≡ record { stream = self; adapt = record { deletes = true }; waiting = []; fault = None } }
-    {
-        Adapted::new(alloc, self, Decode::new(true))
-    }
-
-    /// The objects of `Apply`, and those of a list at its `InitDone`.
-    final fn settled_objects<T: Drop>(self, alloc: Global) -> Settled<Self>
-    where
-        Self: EventStream<Item = Event<T>> + Sized,
-        ensures { result ≡ record { stream = self; adapt = []; waiting = []; fault = None } }
-    {
-        Adapted::new(alloc, self, Settle::new(alloc))
-    }
-
     /// The events, each applied to the writer first.
     final fn reflect<K: Resource>(self, writer: Writer<K>) -> Reflect<Self, K>
     where
@@ -61,15 +34,6 @@ pub trait WatchStreamExt: EventStream {
         ensures { result ≡ record { writer = writer; stream = self; held = None; fault = None } }
     {
         Reflector::new(writer, self)
-    }
-
-    /// The events with their objects changed by `f`.
-    final fn modify<T: Drop, F: FnMut(&mut T) + Drop>(self, f: F) -> EventModify<Self, F>
-    where
-        Self: EventStream<Item = Event<T>> + Sized,
-        ensures { result ≡ record { stream = self; f = f; fault = None } }
-    {
-        EventModify::new(self, f)
     }
 
     /// All that the stream gives, with a pause of the default backoff after each error.
@@ -92,3 +56,44 @@ pub trait WatchStreamExt: EventStream {
 }
 
 impl<S: EventStream> WatchStreamExt for S {}
+
+/// What can be made of a stream of events.
+pub trait WatchEventsExt<T: Drop>: EventStream<Item = Event<T>> {
+    /// The objects of `Apply` and `InitApply`.
+    final fn applied_objects(self, alloc: Global) -> EventDecode<Self>
+    where
+        Self: Sized,
+        ensures { result ≡ record { stream = self; adapt = record { deletes = false }; waiting = []; fault = None } }
+    {
+        Adapted::new(alloc, self, Decode::new(false))
+    }
+
+    /// The objects of `Apply`, `InitApply` and `Delete`.
+    final fn touched_objects(self, alloc: Global) -> EventDecode<Self>
+    where
+        Self: Sized,
+        ensures { result ≡ record { stream = self; adapt = record { deletes = true }; waiting = []; fault = None } }
+    {
+        Adapted::new(alloc, self, Decode::new(true))
+    }
+
+    /// The objects of `Apply`, and those of a list at its `InitDone`.
+    final fn settled_objects(self, alloc: Global) -> Settled<Self>
+    where
+        Self: Sized,
+        ensures { result ≡ record { stream = self; adapt = []; waiting = []; fault = None } }
+    {
+        Adapted::new(alloc, self, Settle::new(alloc))
+    }
+
+    /// The events with their objects changed by `f`.
+    final fn modify<F: FnMut(&mut T) + Drop>(self, f: F) -> EventModify<Self, F>
+    where
+        Self: Sized,
+        ensures { result ≡ record { stream = self; f = f; fault = None } }
+    {
+        EventModify::new(self, f)
+    }
+}
+
+impl<T: Drop, S: EventStream<Item = Event<T>>> WatchEventsExt<T> for S {}

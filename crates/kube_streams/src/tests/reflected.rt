@@ -1,6 +1,5 @@
 //! Events that are applied to a writer, closures at the end, and results apart from errors.
 
-
 use super::scripted::{Poll, Readable, Said, Scripted, check};
 use crate::{EventStream, StreamFault, WatchStreamExt, on_complete, split_result};
 use kube_meta::{ApiResource, DynamicObject, Moment, Next, NoMemory, ObjectMeta, Text};
@@ -150,11 +149,7 @@ fn each_event_is_applied_before_it_is_given(rt: HostRuntime) -> Result<(), Fail>
     check_stored(&rt, alloc, 6, 2)
 }
 
-fn check_unnamed<S: EventStream>(
-    rt: &impl Abort,
-    alloc: Global,
-    stream: &mut S,
-) -> Result<(), Fail>
+fn check_unnamed<S: EventStream>(rt: &impl Abort, alloc: Global, stream: &mut S) -> Result<(), Fail>
     requires may { S.can_poll stream.old }
     ensures may { S.can_poll stream.new }
 {

@@ -1,7 +1,5 @@
 //! A stream of answers that are written down, and what other streams make of it.
 
-ghost use Rattle.std.specs.Prelude.{◌≤◌};
-
 use crate::{EventStream, StreamFault};
 use kube_meta::{Moment, Next};
 use kube_watch::{Error, Event};
