@@ -1,4 +1,6 @@
 -- lemmas that the proofs cite
+pub mod Evicted
 pub mod Folds
+pub mod Forgetting
 pub mod Given
 pub mod Quiet

@@ -1,9 +1,10 @@
 //! Laws of the definitions: each is the contract of a function that does nothing.
 
-ghost use Rattle.std.specs.Prelude.{◌≡◌, ◌↔◌, ℕ, List, Option, Some, None};
+ghost use Rattle.std.specs.Prelude.{◌≡◌, ◌↔◌, ℕ, Bool, List, Option, Some, None};
 ghost use Rattle.kube_watch.specs.Streams.{Answer as answer_data};
 ghost use Rattle.kube_reflect.specs.Reflects.{Said};
 ghost use Rattle.kube_streams.specs.Adapts.{Adapting, GivenSoFar, Polled};
+ghost use Rattle.kube_streams.specs.Filters.{NeverFall, Passing, Showing, Sights, passing};
 ghost use Rattle.kube_streams.specs.Properties.{FallsBack, combined};
 
 use crate::adapted::Adapt;
@@ -28,4 +29,10 @@ pub fn falls_back_where_there_is_none<K, A: Predicate<K>, B: Predicate<K>>()
         → (given : Option ℕ) → FallsBack (A.gives a object) (B.gives b object) given → given ≡ Some value }
     ensures second { (a : A) (b : B) (object : K) → ((v : Option ℕ) → A.gives a object v → v ≡ None)
         → (given : Option ℕ) → FallsBack (A.gives a object) (B.gives b object) given → B.gives b object given }
+{}
+
+/// Over moments that never fall, what passes a filter is the same whatever sights that don't count it forgets.
+pub fn forgetting_changes_nothing()
+    ensures { (ttl from : ℕ) (sights : Sights) (showings : List Showing) (bs : List Bool) → NeverFall from showings → Passing ttl sights showings bs
+        → bs ≡ passing ttl sights showings }
 {}

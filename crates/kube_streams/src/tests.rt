@@ -2,6 +2,7 @@
 
 mod adapted;
 mod backoffs;
+mod filtered;
 mod pauses;
 mod predicates;
 mod reflected;
