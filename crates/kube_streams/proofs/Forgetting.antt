@@ -39,6 +39,7 @@ module _ (ttl : ℕ) where
   seen-alike now xs ys s a key = at (same_key s.key key) (a key) where
     sight : Sight
     sight = record { value = s.value; seen = s.at }
+
     at : (b : Bool) → (xs key ≡ ys key) ⊎ ((xs key ≡ None) × DoesNotCount ttl now (ys key))
         → (cond b (Some sight) (xs key) ≡ cond b (Some sight) (ys key)) ⊎ ((cond b (Some sight) (xs key) ≡ None) × DoesNotCount ttl now (cond b (Some sight) (ys key)))
     at true e = inl refl

@@ -13,8 +13,8 @@ use kube_watch::EventStream;
 
 /// However a stream that is made of another one is polled, at whatever moments and with whatever fuel: what it gave, and
 /// what waits, is what waited at first and all that the answers of the other one give, in order.
-pub fn given_so_far<S: EventStream, T: Adapt<S::Item>>()
-    ensures { (a b : Adapting S T T.Given) (ps : List (ℕ × ℕ × answer_data T.Given)) → Polled (Said S.polls S.told) T.takes T.unnamed a ps b → b.fault ≡ None
+pub fn given_so_far<S: EventStream, J: Drop, T: Adapt<S::Item, J>>()
+    ensures { (a b : Adapting S T J) (ps : List (ℕ × ℕ × answer_data J)) → Polled (Said S.polls S.told) T.takes T.unnamed a ps b → b.fault ≡ None
         → GivenSoFar (Said S.polls S.told) T.takes T.unnamed a ps b }
 {}
 

@@ -10,7 +10,7 @@ use crate::predicate::Predicate;
 use indexmap::IndexMap;
 use kube_meta::text::copy_option;
 use kube_meta::{Moment, NoMemory, Resource, Text};
-use kube_watch::{Error, StreamFault};
+use kube_watch::{Error, EventStream, StreamFault};
 use std::alloc::Global;
 use std::collections::VecDeque;
 use std::hash::{Hash, Hasher};
@@ -261,12 +261,10 @@ impl<P> Filter<P> {
     }
 }
 
-impl<K: Resource, P: Predicate<K>> Adapt<Arc<K>> for Filter<P> {
+impl<K: Resource, P: Predicate<K>> Adapt<Arc<K>, Arc<K>> for Filter<P> {
     ghost use Rattle.std.specs.Prelude.{◌≡◌};
     ghost use Rattle.std.specs.Arc.{arc_value};
     ghost use Rattle.kube_streams.specs.Filters.{Filtered};
-
-    type Given = Arc<K>;
 
     ghost takes = { λ now f told given g. Filtered P.gives K.meta_of arc_value now f told given g };
 
@@ -297,4 +295,4 @@ impl<K: Resource, P: Predicate<K>> Adapt<Arc<K>> for Filter<P> {
 }
 
 /// The stream of the objects that pass (what `WatchStreamExt::predicate_filter` gives).
-pub type PredicateFilter<S, P> = Adapted<S, Filter<P>>;
+pub type PredicateFilter<S, P> = Adapted<S, Filter<P>, <S as EventStream>::Item>;

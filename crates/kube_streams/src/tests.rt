@@ -2,6 +2,7 @@
 
 mod adapted;
 mod backoffs;
+mod cuts;
 mod filtered;
 mod pauses;
 mod predicates;

@@ -1,8 +1,9 @@
 //! Objects that pass a predicate filter.
 
+use super::cuts::check_fuel;
 use super::scripted::{Poll, Readable, check};
 use crate::predicates::generation;
-use crate::{EventStream, FnPredicate, Predicate, PredicateConfig, StreamFault, WatchObjectsExt};
+use crate::{EventStream, FnPredicate, PredicateConfig, StreamFault, WatchObjectsExt};
 use kube_meta::{DynamicObject, Moment, Next, NoMemory, ObjectMeta, Text};
 use kube_watch::Error;
 use std::alloc::{AllocError, Global};
@@ -16,6 +17,8 @@ type Object = Arc<DynamicObject>;
 enum Shown {
     Object(i64, &'static str),
     Error,
+    NotReady,
+    Spent,
 }
 
 #[derive(Drop)]
@@ -53,6 +56,8 @@ impl EventStream for Objects {
                 Next::Item(Ok(object(alloc, *generation, uid)?))
             }
             Some(Shown::Error) => Next::Item(Err(Error::NoResourceVersion)),
+            Some(Shown::NotReady) => Next::NotReady,
+            Some(Shown::Spent) => Next::Spent,
             None => Next::End,
         };
         self.next = self.next.saturating_add(1);
@@ -66,20 +71,6 @@ impl Readable for Object {
             Some(uid) => String::from_str(alloc, uid.as_str()),
             None => String::from_str(alloc, "none"),
         }
-    }
-}
-
-/// The generation of an object.
-#[derive(Drop)]
-struct ByGeneration;
-
-impl Predicate<DynamicObject> for ByGeneration {
-    ghost use Rattle.std.specs.Prelude.{⊤};
-
-    ghost gives = { λ _ _ _. ⊤ };
-
-    fn hash_property(&self, obj: &DynamicObject) -> Option<u64> {
-        generation(obj)
     }
 }
 
@@ -97,7 +88,7 @@ fn an_object_passes_where_its_generation_changed(rt: HostRuntime) -> Result<(), 
     };
     let mut passed = all.predicate_filter(
         alloc,
-        ByGeneration,
+        FnPredicate(generation::<DynamicObject>),
         PredicateConfig::default(),
     );
     check(
@@ -205,4 +196,34 @@ fn an_object_without_the_property_passes(rt: HostRuntime) -> Result<(), Fail> {
             Poll(0, 9, "end"),
         ],
     )
+}
+
+fn eight() -> Objects {
+    Objects {
+        all: &[
+            Shown::Object(1, "a"),
+            Shown::Spent,
+            Shown::Object(1, "b"),
+            Shown::Object(1, "a"),
+            Shown::NotReady,
+            Shown::Error,
+            Shown::Object(2, "a"),
+            Shown::Object(1, "b"),
+        ],
+        next: 0,
+    }
+}
+
+#[test]
+fn filtered_objects_of_any_cut(rt: HostRuntime) -> Result<(), Fail> {
+    let alloc = rt.alloc();
+    for fuel in 1..4 {
+        let mut passed = eight().predicate_filter(
+            alloc,
+            FnPredicate(generation::<DynamicObject>),
+            PredicateConfig::default(),
+        );
+        check_fuel(&rt, alloc, &mut passed, fuel, "a;b;error;a;end;")?;
+    }
+    Ok(())
 }

@@ -30,7 +30,7 @@ returns-in_ok-passed-in-Some-clause-judged g c =
       given_by = subst (λ p. g.P.Predicate.gives p c.args.object.now (Some value)) same c.in-Some.ensures.gives;
       judged = (
         seen.passes ∙ ap (λ t. passes t c.args.now.0 (sights_in after c.in_ok-key-in-Some.key) value) c.evict.ensures.settings.1
-        ∙ ap (λ k. passes old.ttl c.args.now.0 (sights_in after k) value) named,
+            ∙ ap (λ k. passes old.ttl c.args.now.0 (sights_in after k) value) named,
         subst (λ k. SameSights (sights_in c.see.new.self) (with_sight (sights_in after) k sight)) named seen.seen,
       );
       settings = (seen.settings.0 ∙ c.evict.ensures.settings.0, seen.settings.1 ∙ c.evict.ensures.settings.1);
