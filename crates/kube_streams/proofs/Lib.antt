@@ -3,4 +3,5 @@ pub mod Evicted
 pub mod Folds
 pub mod Forgetting
 pub mod Given
+pub mod PassedOn
 pub mod Quiet

@@ -6,6 +6,7 @@ pub mod Completes
 pub mod Decodes
 pub mod FilterLaws
 pub mod Filters
+pub mod InOrder
 pub mod Modifies
 pub mod Pauses
 pub mod Properties

@@ -5,6 +5,7 @@ ghost use Rattle.kube_watch.specs.Streams.{Answer as answer_data};
 ghost use Rattle.kube_reflect.specs.Reflects.{Said};
 ghost use Rattle.kube_streams.specs.Adapts.{Adapting, GivenSoFar, Polled};
 ghost use Rattle.kube_streams.specs.Filters.{NeverFall, Passing, Showing, Sights, passing};
+ghost use Rattle.kube_streams.specs.InOrder.{AskedInTurn, PassedOn};
 ghost use Rattle.kube_streams.specs.Properties.{FallsBack, combined};
 
 use crate::adapted::Adapt;
@@ -16,6 +17,12 @@ use kube_watch::EventStream;
 pub fn given_so_far<S: EventStream, J: Drop, T: Adapt<S::Item, J>>()
     ensures { (a b : Adapting S T J) (ps : List (ℕ × ℕ × answer_data J)) → Polled (Said S.polls S.told) T.takes T.unnamed a ps b → b.fault ≡ None
         → GivenSoFar (Said S.polls S.told) T.takes T.unnamed a ps b }
+{}
+
+/// However a stream is asked whose answers are passed on, at whatever moments and with whatever fuel: what was passed on is
+/// all that its answers give, in order.
+pub fn passed_on_in_order<S: EventStream>()
+    ensures { (s r : S) (ps : List (ℕ × ℕ × answer_data S.Item)) → AskedInTurn (Said S.polls S.told) s ps r → PassedOn (Said S.polls S.told) s ps r }
 {}
 
 /// Two values combined are none exactly where both are.
