@@ -4,6 +4,9 @@ pub mod Applies
 pub mod Backoffs
 pub mod Completes
 pub mod Decodes
+pub mod FilterLaws
+pub mod Filters
+pub mod InOrder
 pub mod Modifies
 pub mod Pauses
 pub mod Properties

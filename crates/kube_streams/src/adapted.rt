@@ -11,15 +11,12 @@ use std::collections::VecDeque;
 use std::marker::Model;
 
 /// What is made of what a stream gives, one thing after another.
-pub trait Adapt<I: Drop>: Drop {
+pub trait Adapt<I: Drop, J: Drop>: Drop {
     ghost use Rattle.std.specs.Prelude.{◌≡◌, ℕ, List, [], ⊤};
     ghost use Rattle.kube_streams.specs.Adapts.{IsTaken, Told};
 
-    /// What is given.
-    type Given: Drop;
-
     /// What is made of one thing at a moment in nanoseconds: by the state before it, what is given, and the state after it.
-    ghost takes: { ℕ → Self → Told I → List (Told Self.Given) → Self → Type 0 };
+    ghost takes: { ℕ → Self → Told I → List (Told J) → Self → Type 0 };
 
     /// Whether a thing must have a name and has none.
     ghost unnamed: { Self → Told I → Type 0 } = { λ _ _. ⊥ };
@@ -33,7 +30,7 @@ pub trait Adapt<I: Drop>: Drop {
         alloc: Global,
         now: Moment,
         told: Result<I, Error>,
-        waiting: &mut VecDeque<Result<Self::Given, Error>>,
+        waiting: &mut VecDeque<Result<J, Error>>,
     ) -> Result<(), StreamFault>
         requires may { may self.old }
         requires none { waiting.old.items ≡ [] }
@@ -64,25 +61,25 @@ pub fn wait<J: Drop>(
     Ok(())
 }
 
-/// A stream of what is made of what another one gives.
+/// A stream of what is made of what another one gives: J of the items of S, by T.
 #[derive(Drop)]
-pub struct Adapted<S: EventStream, T: Adapt<S::Item>> {
+pub struct Adapted<S, T, J> {
     stream: S,
     adapt: T,
-    waiting: VecDeque<Result<T::Given, Error>>,
+    waiting: VecDeque<Result<J, Error>>,
     fault: Option<StreamFault>,
 }
 
-impl<S: EventStream, T: Adapt<S::Item>> Model for Adapted<S, T> {
+impl<S, T, J> Model for Adapted<S, T, J> {
     ghost use Rattle.kube_streams.specs.Adapts.{Adapting};
 
-    ghost Value = { Adapting S T T.Given };
+    ghost Value = { Adapting S T J };
 
     ghost view = { λ a. record { stream = a.stream; adapt = a.adapt; waiting = a.waiting.items; fault = a.fault } };
 }
 
-impl<S: EventStream, T: Adapt<S::Item>> Adapted<S, T> {
-    pub(crate) fn new(alloc: Global, stream: S, adapt: T) -> Adapted<S, T>
+impl<S, T, J> Adapted<S, T, J> {
+    pub(crate) fn new(alloc: Global, stream: S, adapt: T) -> Adapted<S, T, J>
         ensures { result ≡ record { stream = stream; adapt = adapt; waiting = []; fault = None } }
     {
         Adapted {
@@ -92,14 +89,16 @@ impl<S: EventStream, T: Adapt<S::Item>> Adapted<S, T> {
             fault: None,
         }
     }
+}
 
+impl<S: EventStream, J: Drop, T: Adapt<S::Item, J>> Adapted<S, T, J> {
     // What one thing gives: the first of it, and the rest waits.
     fn take(
         &mut self,
         alloc: Global,
         now: Moment,
         told: Result<S::Item, Error>,
-    ) -> Option<Result<Next<Result<T::Given, Error>>, StreamFault>>
+    ) -> Option<Result<Next<Result<J, Error>>, StreamFault>>
         requires may { T.may self.old.adapt }
         requires none { self.old.waiting ≡ [] }
         ensures may { T.may self.new.adapt }
@@ -122,7 +121,7 @@ impl<S: EventStream, T: Adapt<S::Item>> Adapted<S, T> {
         alloc: Global,
         now: Moment,
         answer: Result<Next<Result<S::Item, Error>>, StreamFault>,
-    ) -> Option<Result<Next<Result<T::Given, Error>>, StreamFault>>
+    ) -> Option<Result<Next<Result<J, Error>>, StreamFault>>
         requires may { T.may self.old.adapt }
         requires none { self.old.waiting ≡ [] }
         ensures may { T.may self.new.adapt }
@@ -145,7 +144,7 @@ impl<S: EventStream, T: Adapt<S::Item>> Adapted<S, T> {
         alloc: Global,
         now: Moment,
         fuel: u32,
-    ) -> Result<Next<Result<T::Given, Error>>, StreamFault>
+    ) -> Result<Next<Result<J, Error>>, StreamFault>
         requires can { S.can_poll self.old.stream }
         requires may { T.may self.old.adapt }
         requires none { self.old.waiting ≡ [] }
@@ -164,12 +163,12 @@ impl<S: EventStream, T: Adapt<S::Item>> Adapted<S, T> {
     }
 }
 
-impl<S: EventStream, T: Adapt<S::Item>> EventStream for Adapted<S, T> {
+impl<S: EventStream, J: Drop, T: Adapt<S::Item, J>> EventStream for Adapted<S, T, J> {
     ghost use Rattle.std.specs.Prelude.{None};
     ghost use Rattle.kube_reflect.specs.Reflects.{Said};
     ghost use Rattle.kube_streams.specs.Adapts.{Adapted as IsAdapted};
 
-    type Item = T::Given;
+    type Item = J;
 
     ghost told = { λ _. None };
 
@@ -182,7 +181,7 @@ impl<S: EventStream, T: Adapt<S::Item>> EventStream for Adapted<S, T> {
         alloc: Global,
         now: Moment,
         fuel: u32,
-    ) -> Result<Next<Result<T::Given, Error>>, StreamFault> {
+    ) -> Result<Next<Result<J, Error>>, StreamFault> {
         if let Some(fault) = self.fault {
             return Err(fault);
         }

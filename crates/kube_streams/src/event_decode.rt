@@ -4,7 +4,7 @@ ghost use Rattle.std.specs.Prelude.{◌≡◌, []};
 ghost use Rattle.kube_streams.specs.Adapts.{IsTaken};
 ghost use Rattle.kube_streams.specs.Decodes.{decoded};
 
-use crate::adapted::{Adapt, Adapted, wait};
+use crate::adapted::{Adapt, Adapted, ObjectOf, wait};
 use kube_meta::Moment;
 use kube_watch::{Error, Event, StreamFault};
 use std::alloc::Global;
@@ -24,11 +24,9 @@ impl Decode {
     }
 }
 
-impl<T: Drop> Adapt<Event<T>> for Decode {
+impl<T: Drop> Adapt<Event<T>, T> for Decode {
     ghost use Rattle.std.specs.Prelude.{◌≡◌};
     ghost use Rattle.kube_streams.specs.Decodes.{decoded};
-
-    type Given = T;
 
     ghost takes = { λ now d told given e. (given ≡ decoded d.deletes told) × (e ≡ d) };
 
@@ -59,4 +57,4 @@ impl<T: Drop> Adapt<Event<T>> for Decode {
 }
 
 /// The stream of the objects of events.
-pub type EventDecode<S> = Adapted<S, Decode>;
+pub type EventDecode<S> = Adapted<S, Decode, ObjectOf<S>>;

@@ -13,6 +13,7 @@ mod fold;
 pub mod laws;
 pub mod plain_backoffs;
 pub mod predicate;
+pub mod predicate_filter;
 pub mod predicates;
 pub mod reflect;
 pub mod settled;
@@ -29,11 +30,12 @@ pub use exponential::ExponentialBackoff;
 pub use kube_watch::{EventStream, StreamFault};
 pub use plain_backoffs::{ConstantBackoff, LinearBackoff};
 pub use predicate::{Combine, Fallback, FnPredicate, Predicate};
+pub use predicate_filter::{PredicateConfig, PredicateFilter};
 pub use reflect::Reflect;
 pub use settled::Settled;
 pub use split::split_result;
 pub use stream_backoff::StreamBackoff;
-pub use watch_ext::{WatchEventsExt, WatchStreamExt};
+pub use watch_ext::{WatchEventsExt, WatchObjectsExt, WatchStreamExt};
 
 #[cfg(test)]
 mod tests;

@@ -55,11 +55,9 @@ impl<T: Drop> Settle<T> {
     }
 }
 
-impl<T: Drop> Adapt<Event<T>> for Settle<T> {
+impl<T: Drop> Adapt<Event<T>, T> for Settle<T> {
     ghost use Rattle.std.specs.Prelude.{◌≡◌};
     ghost use Rattle.kube_streams.specs.Decodes.{listed_after, settled};
-
-    type Given = T;
 
     ghost takes = { λ now s told given t. (given ≡ settled s told) × (t ≡ listed_after s told) };
 
@@ -86,4 +84,4 @@ impl<T: Drop> Adapt<Event<T>> for Settle<T> {
 }
 
 /// The stream of the objects of whole lists, and of those that changed (what `WatchStreamExt::settled_objects` gives).
-pub type Settled<S> = Adapted<S, Settle<ObjectOf<S>>>;
+pub type Settled<S> = Adapted<S, Settle<ObjectOf<S>>, ObjectOf<S>>;

@@ -2,6 +2,8 @@
 
 mod adapted;
 mod backoffs;
+mod cuts;
+mod filtered;
 mod pauses;
 mod predicates;
 mod reflected;

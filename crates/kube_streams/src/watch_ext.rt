@@ -8,6 +8,8 @@ use crate::backoff::Backoff;
 use crate::backoff_reset_timer::DefaultBackoff;
 use crate::event_decode::{Decode, EventDecode};
 use crate::event_modify::EventModify;
+use crate::predicate::Predicate;
+use crate::predicate_filter::{Filter, PredicateConfig, PredicateFilter};
 use crate::reflect::Reflect;
 use crate::settled::{Settle, Settled};
 use crate::stream_backoff::{State, StreamBackoff};
@@ -15,6 +17,7 @@ use kube_meta::Resource;
 use kube_reflect::{Reflector, Writer};
 use kube_watch::{Event, EventStream};
 use std::alloc::Global;
+use std::sync::Arc;
 
 /// What can be made of any stream.
 pub trait WatchStreamExt: EventStream {
@@ -97,3 +100,22 @@ pub trait WatchEventsExt<T: Drop>: EventStream<Item = Event<T>> {
 }
 
 impl<T: Drop, S: EventStream<Item = Event<T>>> WatchEventsExt<T> for S {}
+
+/// What can be made of a stream of objects.
+pub trait WatchObjectsExt<K: Resource>: EventStream<Item = Arc<K>> {
+    /// The objects of which a property changed, by a predicate, and the errors.
+    final fn predicate_filter<P: Predicate<K>>(
+        self,
+        alloc: Global,
+        p: P,
+        config: PredicateConfig,
+    ) -> PredicateFilter<Self, P>
+    where
+        Self: Sized,
+        ensures { result ≡ record { stream = self; adapt = record { predicate = p; kept = []; ttl = config.ttl }; waiting = []; fault = None } }
+    {
+        Adapted::new(alloc, self, Filter::new(alloc, p, config))
+    }
+}
+
+impl<K: Resource, S: EventStream<Item = Arc<K>>> WatchObjectsExt<K> for S {}

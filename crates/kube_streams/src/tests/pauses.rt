@@ -1,7 +1,8 @@
 //! Pauses after errors.
 
 use super::scripted::{Poll, Said, Scripted, check};
-use crate::{ConstantBackoff, LinearBackoff, WatchStreamExt};
+use crate::{Backoff, ConstantBackoff, LinearBackoff, WatchStreamExt};
+use kube_meta::Moment;
 use std::test::Fail;
 
 const SECOND: u64 = 1_000_000_000;
@@ -59,6 +60,45 @@ fn pauses_grow_until_an_item_comes(rt: HostRuntime) -> Result<(), Fail> {
             Poll(9, 1, "not ready"),
             Poll(10, 1, "spent"),
             Poll(10, 1, "end"),
+        ],
+    )
+}
+
+/// A backoff that gives up at once.
+#[derive(Drop)]
+struct NoBackoff;
+
+impl Backoff for NoBackoff {
+    ghost use Rattle.std.specs.Prelude.{None};
+
+    ghost delay = { λ _ _. None };
+
+    ghost delayed = { λ b _. b };
+
+    ghost restarted = { λ b. b };
+
+    fn next(&mut self, _now: Moment) -> Option<u64> {
+        None
+    }
+
+    fn reset(&mut self) {}
+}
+
+#[test]
+fn without_a_delay_the_stream_ends(rt: HostRuntime) -> Result<(), Fail> {
+    let alloc = rt.alloc();
+    let mut events = Scripted::new(&[Said::Apply(0), Said::Error, Said::Apply(3)]).backoff(
+        NoBackoff,
+    );
+    check(
+        &rt,
+        alloc,
+        &mut events,
+        &[
+            Poll(0, 1, "Apply 0"),
+            Poll(0, 1, "error"),
+            Poll(0, 1, "end"),
+            Poll(9, 1, "end"),
         ],
     )
 }

@@ -1,5 +1,6 @@
 //! Events that are applied to a writer, closures at the end, and results apart from errors.
 
+use super::cuts::{EIGHT, check_fuel};
 use super::scripted::{Poll, Readable, Said, Scripted, check};
 use crate::{EventStream, StreamFault, WatchStreamExt, on_complete, split_result};
 use kube_meta::{ApiResource, DynamicObject, Moment, Next, NoMemory, ObjectMeta, Text};
@@ -95,6 +96,8 @@ const SAID: [Said; 6] = [
     Said::InitDone,
 ];
 
+const EVENTS: &str = "Init;InitApply(1);error;Delete(2);InitApply(3);InitDone;Apply(4);end;";
+
 #[test]
 fn all_events_are_given(rt: HostRuntime) -> Result<(), Fail> {
     let alloc = rt.alloc();
@@ -113,6 +116,16 @@ fn all_events_are_given(rt: HostRuntime) -> Result<(), Fail> {
             Poll(0, 9, "end"),
         ],
     )
+}
+
+#[test]
+fn applied_events_of_any_cut(rt: HostRuntime) -> Result<(), Fail> {
+    let alloc = rt.alloc();
+    for fuel in 1..4 {
+        let mut events = naming(&EIGHT).reflect(writer(alloc)?);
+        check_fuel(&rt, alloc, &mut events, fuel, EVENTS)?;
+    }
+    Ok(())
 }
 
 fn poll_once<S: EventStream>(alloc: Global, stream: &mut S) -> Result<(), Fail>

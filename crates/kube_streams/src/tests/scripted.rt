@@ -92,7 +92,7 @@ impl Readable for Event<u32> {
     }
 }
 
-fn text_of<T: Readable>(
+pub fn text_of<T: Readable>(
     alloc: Global,
     answer: &Next<Result<T, Error>>,
 ) -> Result<String, AllocError> {

@@ -1,0 +1,131 @@
+-- Objects that pass where a property of theirs changed. (Crate: `utils::PredicateFilter`.)
+use Rattle.std.specs.Prelude.{◌≡◌, ◌⊎◌, ◌≤◌, ℕ, ◌-◌, ⊤, Bool, true, false, not, ◌&&◌, cond, nat_lt, nat_eq, bytes_eq, List, [], ◌∷◌, Option, Some, None, Ok, Err, unwrap_or}
+use Rattle.std.specs.Option.{option_eq}
+use Rattle.std.specs.Map.{lookup}
+use Rattle.std.specs.List.{slice_get}
+use Rattle.kube_meta.specs.declared.metadata.ObjectMeta.{ObjectMeta}
+use Rattle.kube_streams.specs.Adapts.{Told}
+
+-- what says which object it is: its name, empty where it has none, its namespace and its uid
+pub record Key : Type 0 where
+  pub name : List ℕ
+  pub namespace : Option (List ℕ)
+  pub uid : Option (List ℕ)
+
+abbrev pub same_key : Key → Key → Bool
+same_key a b = bytes_eq a.name b.name && option_eq bytes_eq a.namespace b.namespace && option_eq bytes_eq a.uid b.uid
+
+abbrev pub filter_key : ObjectMeta → Key
+filter_key meta = record { name = unwrap_or meta.name []; namespace = meta.namespace; uid = meta.uid }
+
+-- the value that an object had when it was seen last, and when that was
+pub record Sight : Type 0 where
+  pub value : ℕ
+  pub seen : ℕ
+
+-- the last sight of each object
+abbrev pub Sights : Type 0
+Sights = Key → Option Sight
+
+abbrev pub no_sights : Sights
+no_sights key = None
+
+-- with one more
+abbrev pub with_sight : Sights → Key → Sight → Sights
+with_sight sights key sight = λ k. cond (same_key key k) (Some sight) (sights k)
+
+-- whether a sight counts: less than the ttl has passed since
+abbrev pub is_fresh : ℕ → ℕ → Sight → Bool
+is_fresh ttl now sight = nat_lt (now - sight.seen) ttl
+
+-- whether an object with this value passes: unless it had the same value at a sight that counts
+abbrev pub passes : ℕ → ℕ → Option Sight → ℕ → Bool
+passes ttl now None value = true
+passes ttl now (Some sight) value = not (is_fresh ttl now sight && nat_eq sight.value value)
+
+-- no sight, or one that doesn't count
+abbrev pub DoesNotCount : ℕ → ℕ → Option Sight → Type 0
+DoesNotCount ttl now None = ⊤
+DoesNotCount ttl now (Some sight) = is_fresh ttl now sight ≡ false
+
+-- sights that don't count may be forgotten, and no others
+abbrev pub IsForgotten : ℕ → ℕ → Sights → Sights → Type 0
+IsForgotten ttl now old new =
+    (key : Key) → (new key ≡ old key) ⊎ ((new key ≡ None) × DoesNotCount ttl now (old key))
+
+-- the same sights
+abbrev pub SameSights : Sights → Sights → Type 0
+SameSights a b = (key : Key) → a key ≡ b key
+
+-- a predicate, the sights as they are kept, and the ttl in nanoseconds
+pub record Filtering (P : Type 0) : Type 0 where
+  pub predicate : P
+  pub kept : List (Key × Sight)
+  pub ttl : ℕ
+
+abbrev pub sights_in : {P : Type 0} → Filtering P → Sights
+sights_in f = λ key. lookup (same_key key) f.kept
+
+-- the sight at a place of what is kept is gone, if there was one
+abbrev pub IsRemovedAt : {P : Type 0} → ℕ → Filtering P → Filtering P → Type 0
+IsRemovedAt place f g =
+    SameSights (sights_in g) (sights_in f)
+    ⊎ ((e : Key × Sight) × (slice_get f.kept place ≡ Some e) × ((key : Key) → sights_in g key ≡ cond (same_key e.0 key) None (sights_in f key)))
+
+-- the sight at a place of what is kept is the last one of its object, and doesn't count
+abbrev pub IsOldAt : {P : Type 0} → ℕ → ℕ → Filtering P → Type 0
+IsOldAt place now f = (e : Key × Sight) → slice_get f.kept place ≡ Some e → (sights_in f e.0 ≡ Some e.1) × (is_fresh f.ttl now e.1 ≡ false)
+
+-- only sights changed
+abbrev pub KeepsSettings : {P : Type 0} → Filtering P → Filtering P → Type 0
+KeepsSettings f g = (g.predicate ≡ f.predicate) × (g.ttl ≡ f.ttl)
+
+module _ {P O : Type 0} (gives : P → O → Option ℕ → Type 0) (meta : O → ObjectMeta) where
+  -- an object without the property passes; each other one is seen, and passes where it changed
+  abbrev pub Judged : ℕ → ℕ → Sights → O → Option ℕ → Bool → Sights → Type 0
+  Judged ttl now sights object None passed after = (passed ≡ true) × SameSights after sights
+  Judged ttl now sights object (Some v) passed after =
+      (passed ≡ passes ttl now (sights (filter_key (meta object))) v)
+      × SameSights after (with_sight sights (filter_key (meta object)) (record { value = v; seen = now }))
+
+  -- an object is judged after some sights may be forgotten
+  pub record JudgedAt (now : ℕ) (f : Filtering P) (object : O) (passed : Bool) (g : Filtering P) : Type 0 where
+    pub left : Sights
+    pub property : Option ℕ
+    pub forgotten : IsForgotten f.ttl now (sights_in f) left
+    pub given_by : gives f.predicate object property
+    pub judged : Judged f.ttl now left object property passed (sights_in g)
+    pub settings : KeepsSettings f g
+
+  -- an object is given where it passes, and so is each error
+  abbrev pub Filtered : {A : Type 0} → (A → O) → ℕ → Filtering P → Told A → List (Told A) → Filtering P → Type 0
+  Filtered value now f (Ok object) given g = (passed : Bool) × JudgedAt now f (value object) passed g × (given ≡ cond passed (Ok object ∷ []) [])
+  Filtered value now f (Err e) given g = (given ≡ Err e ∷ []) × (g ≡ f)
+
+-- ---- without forgetting
+
+-- an object that came at a moment with a value
+pub record Showing : Type 0 where
+  pub at : ℕ
+  pub key : Key
+  pub value : ℕ
+
+abbrev pub seen_at : Sights → Showing → Sights
+seen_at sights s = with_sight sights s.key (record { value = s.value; seen = s.at })
+
+-- which of these pass where no sight is forgotten
+abbrev pub passing : ℕ → Sights → List Showing → List Bool
+passing ttl sights [] = []
+passing ttl sights (s ∷ ss) = passes ttl s.at (sights s.key) s.value ∷ passing ttl (seen_at sights s) ss
+
+-- these pass where sights that don't count may be forgotten before each
+abbrev pub Passing : ℕ → Sights → List Showing → List Bool → Type 0
+Passing ttl sights [] bs = bs ≡ []
+Passing ttl sights (s ∷ ss) bs =
+    (kept : Sights) × (rest : List Bool) × IsForgotten ttl s.at sights kept × Passing ttl (seen_at kept s) ss rest
+    × (bs ≡ passes ttl s.at (kept s.key) s.value ∷ rest)
+
+-- moments that never fall, from one on
+abbrev pub NeverFall : ℕ → List Showing → Type 0
+NeverFall from [] = ⊤
+NeverFall from (s ∷ ss) = (from ≤ s.at) × NeverFall s.at ss

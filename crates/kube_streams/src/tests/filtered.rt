@@ -1,0 +1,229 @@
+//! Objects that pass a predicate filter.
+
+use super::cuts::check_fuel;
+use super::scripted::{Poll, Readable, check};
+use crate::predicates::generation;
+use crate::{EventStream, FnPredicate, PredicateConfig, StreamFault, WatchObjectsExt};
+use kube_meta::{DynamicObject, Moment, Next, NoMemory, ObjectMeta, Text};
+use kube_watch::Error;
+use std::alloc::{AllocError, Global};
+use std::sync::Arc;
+use std::test::Fail;
+
+type Object = Arc<DynamicObject>;
+
+/// What a stream gives: the generation and the uid of an object; the generation 0 for none.
+#[derive(Clone, Copy)]
+enum Shown {
+    Object(i64, &'static str),
+    Error,
+    NotReady,
+    Spent,
+}
+
+#[derive(Drop)]
+struct Objects {
+    all: &'static [Shown],
+    next: usize,
+}
+
+fn object(alloc: Global, generation: i64, uid: &str) -> Result<Object, NoMemory> {
+    let mut metadata = ObjectMeta::empty();
+    metadata.uid = Some(Text::new(alloc, uid)?);
+    metadata.generation = if generation == 0 {
+        None
+    } else {
+        Some(generation)
+    };
+    Ok(Arc::new(alloc, DynamicObject::bare(metadata))?)
+}
+
+impl EventStream for Objects {
+    ghost use Rattle.std.specs.Prelude.{None};
+
+    type Item = Object;
+
+    ghost told = { λ _. None };
+
+    fn poll_next(
+        &mut self,
+        alloc: Global,
+        _now: Moment,
+        _fuel: u32,
+    ) -> Result<Next<Result<Object, Error>>, StreamFault> {
+        let answer = match self.all.get(self.next) {
+            Some(Shown::Object(generation, uid)) => {
+                Next::Item(Ok(object(alloc, *generation, uid)?))
+            }
+            Some(Shown::Error) => Next::Item(Err(Error::NoResourceVersion)),
+            Some(Shown::NotReady) => Next::NotReady,
+            Some(Shown::Spent) => Next::Spent,
+            None => Next::End,
+        };
+        self.next = self.next.saturating_add(1);
+        Ok(answer)
+    }
+}
+
+impl Readable for Object {
+    fn read_out(&self, alloc: Global) -> Result<String, AllocError> {
+        match &self.metadata.uid {
+            Some(uid) => String::from_str(alloc, uid.as_str()),
+            None => String::from_str(alloc, "none"),
+        }
+    }
+}
+
+#[test]
+fn an_object_passes_where_its_generation_changed(rt: HostRuntime) -> Result<(), Fail> {
+    let alloc = rt.alloc();
+    let all = Objects {
+        all: &[
+            Shown::Object(1, "a"),
+            Shown::Error,
+            Shown::Object(1, "a"),
+            Shown::Object(2, "a"),
+        ],
+        next: 0,
+    };
+    let mut passed = all.predicate_filter(
+        alloc,
+        FnPredicate(generation::<DynamicObject>),
+        PredicateConfig::default(),
+    );
+    check(
+        &rt,
+        alloc,
+        &mut passed,
+        &[
+            Poll(0, 9, "a"),
+            Poll(0, 9, "error"),
+            Poll(0, 9, "a"),
+            Poll(0, 9, "end"),
+        ],
+    )
+}
+
+#[test]
+fn objects_of_other_uids_pass(rt: HostRuntime) -> Result<(), Fail> {
+    let alloc = rt.alloc();
+    let all = Objects {
+        all: &[
+            Shown::Object(1, "uid-1"),
+            Shown::Object(1, "uid-1"),
+            Shown::Object(1, "uid-2"),
+            Shown::Object(2, "uid-3"),
+        ],
+        next: 0,
+    };
+    let mut passed = all.predicate_filter(
+        alloc,
+        FnPredicate(generation::<DynamicObject>),
+        PredicateConfig::default(),
+    );
+    check(
+        &rt,
+        alloc,
+        &mut passed,
+        &[
+            Poll(0, 9, "uid-1"),
+            Poll(0, 9, "uid-2"),
+            Poll(0, 9, "uid-3"),
+            Poll(0, 9, "end"),
+        ],
+    )
+}
+
+#[test]
+fn a_sight_counts_for_less_than_the_ttl(rt: HostRuntime) -> Result<(), Fail> {
+    let alloc = rt.alloc();
+    let all = Objects {
+        all: &[
+            Shown::Object(1, "a"),
+            Shown::Object(1, "a"),
+            Shown::Object(1, "a"),
+            Shown::Object(1, "a"),
+            Shown::Object(1, "a"),
+        ],
+        next: 0,
+    };
+    let mut passed = all.predicate_filter(
+        alloc,
+        FnPredicate(generation::<DynamicObject>),
+        PredicateConfig::default().ttl(2_000_000_000),
+    );
+    check(
+        &rt,
+        alloc,
+        &mut passed,
+        &[
+            Poll(0, 1, "a"),
+            Poll(1, 1, "spent"),
+            Poll(2, 1, "spent"),
+            Poll(4, 1, "a"),
+            Poll(4, 1, "spent"),
+        ],
+    )
+}
+
+#[test]
+fn an_object_without_the_property_passes(rt: HostRuntime) -> Result<(), Fail> {
+    let alloc = rt.alloc();
+    let all = Objects {
+        all: &[
+            Shown::Object(0, "a"),
+            Shown::Object(0, "a"),
+            Shown::Object(1, "a"),
+            Shown::Object(0, "a"),
+            Shown::Object(1, "a"),
+        ],
+        next: 0,
+    };
+    let mut passed = all.predicate_filter(
+        alloc,
+        FnPredicate(generation::<DynamicObject>),
+        PredicateConfig::default(),
+    );
+    check(
+        &rt,
+        alloc,
+        &mut passed,
+        &[
+            Poll(0, 9, "a"),
+            Poll(0, 9, "a"),
+            Poll(0, 9, "a"),
+            Poll(0, 9, "a"),
+            Poll(0, 9, "end"),
+        ],
+    )
+}
+
+fn eight() -> Objects {
+    Objects {
+        all: &[
+            Shown::Object(1, "a"),
+            Shown::Spent,
+            Shown::Object(1, "b"),
+            Shown::Object(1, "a"),
+            Shown::NotReady,
+            Shown::Error,
+            Shown::Object(2, "a"),
+            Shown::Object(1, "b"),
+        ],
+        next: 0,
+    }
+}
+
+#[test]
+fn filtered_objects_of_any_cut(rt: HostRuntime) -> Result<(), Fail> {
+    let alloc = rt.alloc();
+    for fuel in 1..4 {
+        let mut passed = eight().predicate_filter(
+            alloc,
+            FnPredicate(generation::<DynamicObject>),
+            PredicateConfig::default(),
+        );
+        check_fuel(&rt, alloc, &mut passed, fuel, "a;b;error;a;end;")?;
+    }
+    Ok(())
+}
