@@ -35,7 +35,7 @@ pub use reflect::Reflect;
 pub use settled::Settled;
 pub use split::split_result;
 pub use stream_backoff::StreamBackoff;
-pub use watch_ext::{WatchEventsExt, WatchObjectsExt, WatchStreamExt};
+pub use watch_ext::WatchStreamExt;
 
 #[cfg(test)]
 mod tests;

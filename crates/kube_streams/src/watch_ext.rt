@@ -3,42 +3,22 @@
 ghost use Rattle.std.specs.Prelude.{◌≡◌, [], false, true, None};
 ghost use Rattle.kube_streams.specs.Backoffs.{default_backoff};
 
-use crate::adapted::Adapted;
+use crate::adapted::{Adapted, ObjectOf, OfObject};
 use crate::backoff::Backoff;
 use crate::backoff_reset_timer::DefaultBackoff;
 use crate::event_decode::{Decode, EventDecode};
 use crate::event_modify::EventModify;
-use crate::predicate::Predicate;
 use crate::predicate_filter::{Filter, PredicateConfig, PredicateFilter};
 use crate::reflect::Reflect;
 use crate::settled::{Settle, Settled};
 use crate::stream_backoff::{State, StreamBackoff};
 use kube_meta::Resource;
 use kube_reflect::{Reflector, Writer};
-use kube_watch::{Event, EventStream};
+use kube_watch::EventStream;
 use std::alloc::Global;
-use std::sync::Arc;
 
-/// What can be made of any stream.
+/// What can be made of a stream.
 pub trait WatchStreamExt: EventStream {
-    /// The events, each applied to the writer first.
-    final fn reflect<K: Resource>(self, writer: Writer<K>) -> Reflect<Self, K>
-    where
-        Self: Sized,
-        ensures { result ≡ record { stream = self; writer = writer; fault = None } }
-    {
-        Reflect::new(self, writer)
-    }
-
-    /// The events, each applied to the writer and offered to its subscribers first.
-    final fn reflect_shared<K: Resource>(self, writer: Writer<K>) -> Reflector<K, Self>
-    where
-        Self: Sized,
-        ensures { result ≡ record { writer = writer; stream = self; held = None; fault = None } }
-    {
-        Reflector::new(writer, self)
-    }
-
     /// All that the stream gives, with a pause of the default backoff after each error.
     final fn default_backoff(self) -> StreamBackoff<Self, DefaultBackoff>
     where
@@ -56,16 +36,12 @@ pub trait WatchStreamExt: EventStream {
     {
         StreamBackoff::new(self, b)
     }
-}
 
-impl<S: EventStream> WatchStreamExt for S {}
-
-/// What can be made of a stream of events.
-pub trait WatchEventsExt<T: Drop>: EventStream<Item = Event<T>> {
     /// The objects of `Apply` and `InitApply`.
     final fn applied_objects(self, alloc: Global) -> EventDecode<Self>
     where
         Self: Sized,
+        Self::Item: OfObject,
         ensures { result ≡ record { stream = self; adapt = record { deletes = false }; waiting = []; fault = None } }
     {
         Adapted::new(alloc, self, Decode::new(false))
@@ -75,6 +51,7 @@ pub trait WatchEventsExt<T: Drop>: EventStream<Item = Event<T>> {
     final fn touched_objects(self, alloc: Global) -> EventDecode<Self>
     where
         Self: Sized,
+        Self::Item: OfObject,
         ensures { result ≡ record { stream = self; adapt = record { deletes = true }; waiting = []; fault = None } }
     {
         Adapted::new(alloc, self, Decode::new(true))
@@ -84,27 +61,24 @@ pub trait WatchEventsExt<T: Drop>: EventStream<Item = Event<T>> {
     final fn settled_objects(self, alloc: Global) -> Settled<Self>
     where
         Self: Sized,
+        Self::Item: OfObject,
         ensures { result ≡ record { stream = self; adapt = []; waiting = []; fault = None } }
     {
         Adapted::new(alloc, self, Settle::new(alloc))
     }
 
     /// The events with their objects changed by `f`.
-    final fn modify<F: FnMut(&mut T) + Drop>(self, f: F) -> EventModify<Self, F>
+    final fn modify<F: FnMut(&mut ObjectOf<Self>) + Drop>(self, f: F) -> EventModify<Self, F>
     where
         Self: Sized,
+        Self::Item: OfObject,
         ensures { result ≡ record { stream = self; f = f; fault = None } }
     {
         EventModify::new(self, f)
     }
-}
 
-impl<T: Drop, S: EventStream<Item = Event<T>>> WatchEventsExt<T> for S {}
-
-/// What can be made of a stream of objects.
-pub trait WatchObjectsExt<K: Resource>: EventStream<Item = Arc<K>> {
     /// The objects of which a property changed, by a predicate, and the errors.
-    final fn predicate_filter<P: Predicate<K>>(
+    final fn predicate_filter<P>(
         self,
         alloc: Global,
         p: P,
@@ -116,6 +90,24 @@ pub trait WatchObjectsExt<K: Resource>: EventStream<Item = Arc<K>> {
     {
         Adapted::new(alloc, self, Filter::new(alloc, p, config))
     }
+
+    /// The events, each applied to the writer first.
+    final fn reflect<K: Resource>(self, writer: Writer<K>) -> Reflect<Self, K>
+    where
+        Self: Sized,
+        ensures { result ≡ record { stream = self; writer = writer; fault = None } }
+    {
+        Reflect::new(self, writer)
+    }
+
+    /// The events, each applied to the writer and offered to its subscribers first.
+    final fn reflect_shared<K: Resource>(self, writer: Writer<K>) -> Reflector<K, Self>
+    where
+        Self: Sized,
+        ensures { result ≡ record { writer = writer; stream = self; held = None; fault = None } }
+    {
+        Reflector::new(writer, self)
+    }
 }
 
-impl<K: Resource, S: EventStream<Item = Arc<K>>> WatchObjectsExt<K> for S {}
+impl<S: EventStream> WatchStreamExt for S {}

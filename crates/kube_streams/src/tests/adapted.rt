@@ -1,7 +1,7 @@
 //! What adaptors give of a stream's answers.
 
 use super::scripted::{Poll, Said, Scripted, check};
-use crate::WatchEventsExt;
+use crate::WatchStreamExt;
 use std::test::Fail;
 
 const CHANGES: [Said; 8] = [

@@ -1,7 +1,7 @@
 //! What adaptors give of eight answers, however they are polled.
 
 use super::scripted::{Readable, Said, Scripted, text_of};
-use crate::{ConstantBackoff, EventStream, WatchEventsExt, WatchStreamExt, on_complete};
+use crate::{ConstantBackoff, EventStream, WatchStreamExt, on_complete};
 use kube_meta::{Moment, Next};
 use std::alloc::Global;
 use std::process::Abort;

@@ -3,7 +3,7 @@
 use super::cuts::check_fuel;
 use super::scripted::{Poll, Readable, check};
 use crate::predicates::generation;
-use crate::{EventStream, FnPredicate, PredicateConfig, StreamFault, WatchObjectsExt};
+use crate::{EventStream, FnPredicate, PredicateConfig, StreamFault, WatchStreamExt};
 use kube_meta::{DynamicObject, Moment, Next, NoMemory, ObjectMeta, Text};
 use kube_watch::Error;
 use std::alloc::{AllocError, Global};
