@@ -17,6 +17,10 @@ pub record Applying (O S : Type 0) : Type 0 where
   pub writer : Writing O
   pub fault : Option StreamFault
 
+-- with another writer
+abbrev pub with_writer : {O S : Type 0} → Applying O S → Writing O → Applying O S
+with_writer a w = record a { writer = w }
+
 module _ {O A : Type 0} (value : A → O) (meta : O → ObjectMeta) where
   -- an event is applied and given; or it has no name, or memory can't be had, and then the writer is as before
   abbrev pub IsApplied : Writing O → Event A → Answer (Event A) → Writing O → Type 0

@@ -42,6 +42,20 @@ impl<S, K: Resource> Reflect<S, K> {
 }
 
 impl<S: Drop, K: Resource> Reflect<S, K> {
+    ghost use Rattle.std.specs.Borrow.{Lends, sem};
+    ghost use Rattle.kube_streams.specs.Applies.{with_writer};
+    ghost use Rattle.kube_streams.specs.contracts.reflect.Reflect.{the_row as reflect_row};
+    ghost use Rattle.kube_reflect.specs.contracts.store.Writer.{the_row as writer_row};
+
+    /// The writer, to which all events that were given were applied.
+    pub fn writer(&mut self) -> &mut Writer<K>
+        ensures* lends { sem 𝓛 (Lends (reflect_row S.row K.row K.DynamicType.row K.Resource K.DynamicType.PartialEq (record { hash_input = K.DynamicType.hash_input }))
+            (writer_row K.row K.DynamicType.row K.Resource K.DynamicType.PartialEq (record { hash_input = K.DynamicType.hash_input })) self.entry result (with_writer self.old)) }
+        ensures value { result.now ≡ self.old.writer }
+    {
+        &mut self.writer
+    }
+
     /// The writer, to which all events that were given were applied. The stream is dropped.
     pub fn into_writer(self) -> Writer<K>
         ensures { result ≡ self.writer }

@@ -149,7 +149,8 @@ fn poll_all<S: EventStream>(alloc: Global, stream: &mut S, polls: usize) -> Resu
 fn check_stored(rt: &impl Abort, alloc: Global, polls: usize, stored: usize) -> Result<(), Fail> {
     let mut events = naming(&SAID).reflect(writer(alloc)?);
     poll_all(alloc, &mut events, polls)?;
-    assert_eq!(rt; events.into_writer().cache().len(), stored);
+    assert_eq!(rt; events.writer().cache().len(), stored);
+    assert_eq!(rt; events.into_writer().is_ready(), stored == 2);
     Ok(())
 }
 
