@@ -5,6 +5,7 @@ pub mod Cached
 pub mod Relists
 pub mod Subscribers
 pub mod Writers
+pub mod Published
 pub mod Lags
 pub mod Subscriptions
 pub mod Reflects

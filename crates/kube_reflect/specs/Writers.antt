@@ -1,18 +1,25 @@
 -- A writer and the handles of its subscribers. (Crate: `reflector::store::Writer`, `ReflectHandle`.)
 use Rattle.std.specs.Prelude.{◌≡◌, ◌≢◌, ℕ, Bool, true, false, List, [], length, Option, Some, None, is_some}
 use Rattle.std.specs.Option.{option_map}
+use Rattle.logbook.specs.Pages.{Book}
 use Rattle.kube_meta.specs.Reference.{ObjectType, Reference}
 use Rattle.kube_meta.specs.declared.poll.Next.{Next}
 use Rattle.kube_meta.specs.declared.poll.Next.TheVariants.{NotReady}
 use Rattle.kube_reflect.specs.Cached.{Kept, nothing}
 use Rattle.kube_reflect.specs.Subscribers.{Ring, is_full, offered, subscribed, with_waiting, waiting_for, closed, first_stored, given, left}
 
--- the type of its objects, what its events made, how many reader places it has left, and its ring where it is shared
+-- the type of its objects, what its events made, how many reader places it has left, its ring where it is shared, and the
+-- book that tells it from other writers
 pub record Writing (O : Type 0) : Type 0 where
   pub kind : ObjectType
   pub kept : Kept O
   pub readers : ℕ
   pub ring : Option Ring
+  pub book : Book
+
+-- what is of a writer: its book
+pub record OfWriter : Type 0 where
+  pub book : Book
 
 -- the number of a subscriber, and whether its handle could have no memory
 pub record Handle : Type 0 where
@@ -24,8 +31,8 @@ fresh number = record { number = number; is_spent = false }
 
 module _ {O : Type 0} where
   -- a writer to which nothing was applied
-  abbrev pub new_writer : ObjectType → ℕ → Option Ring → Writing O
-  new_writer kind readers ring = record { kind = kind; kept = nothing; readers = readers; ring = ring }
+  abbrev pub new_writer : ObjectType → ℕ → Option Ring → Book → Writing O
+  new_writer kind readers ring book = record { kind = kind; kept = nothing; readers = readers; ring = ring; book = book }
 
   abbrev pub waits_for : Writing O → ℕ → Option (List Reference)
   waits_for w number = elim (w.ring) [ None ↦ None | Some ring ↦ waiting_for ring number ]

@@ -9,6 +9,7 @@ ghost use Rattle.kube_meta.specs.Keys.{reference_of};
 ghost use Rattle.kube_meta.specs.Reference.{same_reference, without_namespace};
 ghost use Rattle.kube_reflect.specs.Reads.{object_at, objects, IsFirst, IsFiltered, is_selected};
 ghost use Rattle.kube_reflect.specs.Cached.{put_under, drop_under};
+ghost use Rattle.kube_reflect.specs.Views.{all_stored};
 
 use crate::stored::{Stored, put, remove};
 use kube_meta::{NoMemory, ObjectRef, Resource, Selector, TextMap};
@@ -127,6 +128,34 @@ fn copy_keys<K: Resource>(
     Ok(keys)
 }
 
+/// All references, in a vector.
+fn list_keys<K: Resource>(
+    alloc: Global,
+    items: &[Stored<K>],
+) -> Result<Vec<ObjectRef<K>>, NoMemory>
+    ensures { IfOk result (λ v. map (reference_of K.type_of) v.items ≡ map (λ s. reference_of K.type_of s.reference) items.now) }
+{
+    let mut keys = Vec::new(alloc);
+    for stored in items {
+        keys.push(stored.reference.copy(alloc)?)?;
+    }
+    Ok(keys)
+}
+
+/// All of it once more, with the same objects.
+fn copy_all<K: Resource>(alloc: Global, items: &[Stored<K>]) -> Result<Vec<Stored<K>>, NoMemory>
+    ensures { IfOk result (λ v. all_stored K.type_of v.items ≡ all_stored K.type_of items.now) }
+{
+    let mut copies = Vec::new(alloc);
+    for stored in items {
+        copies.push(Stored {
+            reference: stored.reference.copy(alloc)?,
+            object: Arc::try_clone(&stored.object)?,
+        })?;
+    }
+    Ok(copies)
+}
+
 /// The objects that pass.
 fn share_passing<K: Resource, P: Fn(&K) -> bool>(
     alloc: Global,
@@ -193,10 +222,10 @@ impl<K: Resource> Cache<K> {
     }
 
     // Drops the object under an equal reference.
-    pub(crate) fn remove(&mut self, reference: &ObjectRef<K>)
-        ensures { (object : K) → self.new ≡ drop_under self.old (reference_of K.type_of reference.now, object) }
+    pub(crate) fn remove(&mut self, reference: ObjectRef<K>)
+        ensures { (object : K) → self.new ≡ drop_under self.old (reference_of K.type_of reference, object) }
     {
-        remove(&mut self.items, reference);
+        remove(&mut self.items, &reference);
     }
 
     // The references, in order.
@@ -204,6 +233,22 @@ impl<K: Resource> Cache<K> {
         ensures { IfOk result (λ v. map (reference_of K.type_of) v.items ≡ map (λ p. p.0) self.now) }
     {
         copy_keys(alloc, &self.items)
+    }
+
+    // The references, in order.
+    pub(crate) fn keys(&self, alloc: Global) -> Result<Vec<ObjectRef<K>>, NoMemory>
+        ensures { IfOk result (λ v. map (reference_of K.type_of) v.items ≡ map (λ p. p.0) self.now) }
+    {
+        list_keys(alloc, &self.items)
+    }
+
+    // Another one with the same objects.
+    pub(crate) fn copy(&self, alloc: Global) -> Result<Cache<K>, NoMemory>
+        ensures { IfOk result (λ c. c ≡ self.now) }
+    {
+        Ok(Cache {
+            items: copy_all(alloc, &self.items)?,
+        })
     }
 
     /// The object under a reference, or else under it without its namespace, as cluster-scoped objects are stored.

@@ -1,11 +1,11 @@
 //! Subscribers of a writer (kube-runtime's `reflector::dispatcher`).
 
-ghost use Rattle.std.specs.Prelude.{◌≡◌, [], true, false, Some, IfOk, OnOk, OnErr, IsErr};
+ghost use Rattle.std.specs.Prelude.{◌≡◌, ◌↔◌, ◌-◌, [], true, false, Some, IfOk, IfSome, IsNone, OnOk, OnErr, IsErr};
 ghost use Rattle.std.specs.Arc.{arc_value};
 ghost use Rattle.kube_reflect.specs.Subscribers.{next_map};
 ghost use Rattle.kube_reflect.specs.Writers.{fresh, is_live, AllStay, OthersStay, next_number, with_subscriber, without_subscriber, references_for, answer_for, after_answer};
 
-use crate::store::Writer;
+use crate::store::{Store, Writer};
 use kube_meta::{Next, NoMemory, Resource};
 use std::alloc::Global;
 use std::marker::{Model, PhantomData};
@@ -87,6 +87,17 @@ impl<K: Resource> ReflectHandle<K> {
     {
         let number = writer.copy_subscriber(self.number)?;
         Ok(ReflectHandle::new(number))
+    }
+
+    /// A store handle of this subscription's writer. None where all its reader places were handed out.
+    pub fn reader(&self, writer: &mut Writer<K>) -> Option<Store<K>>
+        requires { is_live writer.old self.now.number ≡ true }
+        ensures none { IsNone result ↔ (writer.old.readers ≡ 0) }
+        ensures writer { writer.new ≡ record writer.old { readers = writer.old.readers - 1 } }
+        ensures store { IfSome result (λ s. s.book ≡ writer.old.book) }
+        ensures live { AllStay writer.old writer.new }
+    {
+        writer.as_reader()
     }
 
     /// Ends the subscription: what is offered waits for it no more.

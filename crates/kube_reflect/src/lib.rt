@@ -5,10 +5,14 @@
 pub mod cache;
 pub mod dispatcher;
 mod held;
+mod keeper;
 pub mod laws;
+mod readable;
+pub mod reader;
 pub mod reflecting;
 pub mod reflector;
 mod ring;
+mod sign;
 pub mod store;
 mod stored;
 
@@ -16,7 +20,9 @@ pub use cache::Cache;
 pub use dispatcher::ReflectHandle;
 pub use kube_meta::{Lookup, ObjectRef};
 pub use reflecting::Reflector;
-pub use store::{OfferError, WriteError, Writer};
+pub use store::{
+    Ended, OfferError, Published, Store, WriteError, Writer, WriterDropped, store_shared,
+};
 
 #[cfg(test)]
 mod tests;

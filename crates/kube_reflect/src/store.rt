@@ -1,6 +1,6 @@
 //! The one that writes a cache (kube-runtime's `reflector::store`).
 
-ghost use Rattle.std.specs.Prelude.{◌≡◌, ◌≤◌, [], ◌∷◌, map, true, false, Some, None, IfOk, IfSome, IsNone, OnOk, OnErr, IsErrOf, is_some};
+ghost use Rattle.std.specs.Prelude.{◌≡◌, ◌↔◌, ◌≤◌, ◌-◌, [], ◌∷◌, length, map, true, false, Some, None, IfOk, IfErr, IfSome, IsNone, OnOk, OnErr, IsErrOf, is_some};
 ghost use Rattle.std.specs.Arc.{arc_value};
 ghost use Rattle.kube_meta.specs.Keys.{reference_of, key_of, is_named};
 ghost use Rattle.kube_watch.specs.Events.{event_map};
@@ -10,15 +10,20 @@ ghost use Rattle.kube_reflect.specs.Writers.{new_writer, fresh, is_live, AllStay
 
 use crate::cache::Cache;
 use crate::dispatcher::ReflectHandle;
+use crate::keeper::Keeper;
+use crate::readable::Readable;
+pub use crate::reader::{Ended, Published, Store, WriterDropped};
+use crate::reader::Copies;
 pub use crate::ring::OfferError;
 use crate::ring::Ring;
-use kube_meta::{Next, NoMemory, ObjectRef, RefError, Resource, TypeInfo};
+use crate::sign::{Sign, new_sign};
+use kube_meta::{Next, NoMemory, ObjectRef, Resource};
 use kube_watch::Event;
 use std::alloc::Global;
 use std::collections::VecDeque;
 use std::marker::Model;
 use std::mem::replace;
-use std::sync::Arc;
+use std::sync::{Arc, RwLock, Wait};
 use thiserror::Error;
 
 /// Why an event was not applied.
@@ -43,49 +48,98 @@ impl From<NoMemory> for WriteError {
     }
 }
 
-/// Applies the events of a watcher to a cache, and offers references to subscribers where it is shared.
+/// Applies the events of a watcher to a cache, publishes it for readers, and offers references to subscribers where it is
+/// shared.
 ///
 /// Contracts see it as the type of its objects, what its events made (the cache, the list under way and whether a list
-/// was complete), how many reader places it has left, and its ring of offers.
+/// was complete), how many reader places it has left, its ring of offers, and its book, which tells it from other writers.
 #[derive(Drop)]
 pub struct Writer<K: Resource> {
-    dyntype: K::DynamicType,
-    cache: Cache<K>,
-    buffer: Cache<K>,
-    is_ready: bool,
-    readers: u32,
+    keeper: Keeper<K>,
     ring: Option<Ring<K>>,
+    copies: Copies<K>,
+    places: Vec<Copies<K>>,
+    sign: Sign,
 }
 
 impl<K: Resource> Model for Writer<K> {
+    ghost use Rattle.std.specs.Prelude.{length};
     ghost use Rattle.kube_reflect.specs.Writers.{Writing};
 
     ghost Value = { Writing K };
 
-    ghost view = { λ w. record { kind = K.type_of w.dyntype; kept = record { cache = w.cache; buffer = w.buffer; is_ready = w.is_ready }; readers = w.readers; ring = w.ring } };
+    ghost view = { λ w. record { kind = w.keeper.kind; kept = w.keeper.kept; readers = length w.places.items; ring = w.ring; book = w.sign.book } };
 }
 
-/// The same object.
-fn share<K: Drop>(object: &Arc<K>) -> Result<Arc<K>, NoMemory>
-    ensures { IfOk result (λ a. arc_value a ≡ arc_value object.now) }
+/// So many reader places.
+fn make_places<K: Resource>(
+    alloc: Global,
+    copies: &Copies<K>,
+    readers: u32,
+) -> Result<Vec<Copies<K>>, NoMemory>
+    ensures { IfOk result (λ v. length v.items ≡ readers) }
 {
-    Ok(Arc::try_clone(object)?)
+    let mut places = Vec::new(alloc);
+    for _reader in 0..readers {
+        places.push(Arc::try_clone(copies)?)?;
+    }
+    Ok(places)
+}
+
+/// Puts what readers are to read in the place of what they read until now.
+fn put_out<R: Wait, K: Resource>(rt: &R, copies: &RwLock<Readable<K>>, readable: Readable<K>) {
+    let mut shown = copies.write(rt);
+    let old = replace(&mut *shown, readable);
+    drop(shown);
+    drop(old);
+}
+
+/// A writer of an empty cache, and its first store handle. `readers` is how many handles there are, this one included.
+pub fn store<K: Resource<DynamicType = ()>>(
+    alloc: Global,
+    readers: u32,
+) -> Result<(Store<K>, Writer<K>), NoMemory>
+    requires { 1 ≤ readers }
+    ensures writer { IfOk result (λ p. p.1 ≡ new_writer (K.type_of tt) (readers - 1) None p.1.book) }
+    ensures store { IfOk result (λ p. p.0.book ≡ p.1.book) }
+{
+    with_first(Writer::new(alloc, (), readers)?)
+}
+
+/// As `store`, with a writer that takes subscribers: `buf_size` is how many offered references each of them may leave
+/// before no more are offered.
+pub fn store_shared<K: Resource<DynamicType = ()>>(
+    alloc: Global,
+    buf_size: u32,
+    readers: u32,
+) -> Result<(Store<K>, Writer<K>), NoMemory>
+    requires room { 1 ≤ buf_size }
+    requires readers { 1 ≤ readers }
+    ensures writer { IfOk result (λ p. p.1 ≡ new_writer (K.type_of tt) (readers - 1) (Some (new_ring buf_size)) p.1.book) }
+    ensures store { IfOk result (λ p. p.0.book ≡ p.1.book) }
+{
+    with_first(Writer::new_shared(alloc, buf_size, (), readers)?)
+}
+
+/// A writer with a place left, and the handle that takes it.
+fn with_first<K: Resource>(writer: Writer<K>) -> Result<(Store<K>, Writer<K>), NoMemory>
+    requires { 1 ≤ writer.readers }
+    ensures { IfOk result (λ p. (p.1 ≡ record writer { readers = writer.readers - 1 }) × (p.0.book ≡ writer.book)) }
+{
+    let mut writer = writer;
+    match writer.as_reader() {
+        Some(store) => Ok((store, writer)),
+        None => unreachable!(),
+    }
 }
 
 impl<K: Resource> Writer<K> {
     /// A writer of an empty cache, which takes no subscribers. `readers` is how many store handles it can give.
     pub fn new(alloc: Global, t: K::DynamicType, readers: u32) -> Result<Writer<K>, NoMemory>
         requires { 1 ≤ readers }
-        ensures { IfOk result (λ w. w ≡ new_writer (K.type_of t) readers None) }
+        ensures { IfOk result (λ w. w ≡ new_writer (K.type_of t) readers None w.book) }
     {
-        Ok(Writer {
-            dyntype: t,
-            cache: Cache::new(alloc),
-            buffer: Cache::new(alloc),
-            is_ready: false,
-            readers,
-            ring: None,
-        })
+        Writer::with_ring(alloc, t, readers, None)
     }
 
     /// A writer of an empty cache, which takes subscribers: `buf_size` is how many offered references each of them may
@@ -98,44 +152,80 @@ impl<K: Resource> Writer<K> {
     ) -> Result<Writer<K>, NoMemory>
         requires room { 1 ≤ buf_size }
         requires readers { 1 ≤ readers }
-        ensures { IfOk result (λ w. w ≡ new_writer (K.type_of t) readers (Some (new_ring buf_size))) }
+        ensures { IfOk result (λ w. w ≡ new_writer (K.type_of t) readers (Some (new_ring buf_size)) w.book) }
     {
+        Writer::with_ring(alloc, t, readers, Some(Ring::new(alloc, buf_size)))
+    }
+
+    // A writer of an empty cache, with this ring.
+    fn with_ring(
+        alloc: Global,
+        t: K::DynamicType,
+        readers: u32,
+        ring: Option<Ring<K>>,
+    ) -> Result<Writer<K>, NoMemory>
+        ensures { IfOk result (λ w. w ≡ new_writer (K.type_of t) readers ring w.book) }
+    {
+        let keeper = Keeper::new(alloc, t);
+        let copies = Arc::new(alloc, RwLock::new(keeper.show(alloc, false)?))?;
+        let places = make_places(alloc, &copies, readers)?;
         Ok(Writer {
-            dyntype: t,
-            cache: Cache::new(alloc),
-            buffer: Cache::new(alloc),
-            is_ready: false,
-            readers,
-            ring: Some(Ring::new(alloc, buf_size)),
+            keeper,
+            ring,
+            copies,
+            places,
+            sign: new_sign(),
         })
+    }
+
+    /// A handle that reads what this writer publishes. None where all its reader places were handed out.
+    pub fn as_reader(&mut self) -> Option<Store<K>>
+        ensures none { IsNone result ↔ (self.old.readers ≡ 0) }
+        ensures writer { self.new ≡ record self.old { readers = self.old.readers - 1 } }
+        ensures store { IfSome result (λ s. s.book ≡ self.old.book) }
+    {
+        let copies = self.places.pop()?;
+        Some(Store::new(copies, self.sign.again()))
+    }
+
+    /// Makes readable what is stored now. The note names it.
+    pub fn publish<R: Wait>(&mut self, rt: &R, alloc: Global) -> Result<Published<K>, NoMemory>
+        ensures writer { self.new ≡ self.old }
+        ensures note { IfOk result (λ n. n.book ≡ self.old.book) }
+    {
+        let readable = self.keeper.show(alloc, false)?;
+        put_out(rt, &self.copies, readable);
+        Ok(Published::new(self.sign.again()))
+    }
+
+    /// Makes readable what is stored now, and that no more follows. After want of memory nothing is published, and the
+    /// writer comes back as it was.
+    pub fn end<R: Wait>(self, rt: &R, alloc: Global) -> Result<Ended<K>, (Writer<K>, NoMemory)>
+        ensures ended { IfOk result (λ e. e.book ≡ self.book) }
+        ensures err { IfErr result (λ e. e.0 ≡ self) }
+    {
+        match self.keeper.show(alloc, true) {
+            Ok(readable) => {
+                put_out(rt, &self.copies, readable);
+                let Writer { copies, sign, .. } = self;
+                Ok(Ended::new(copies, sign))
+            }
+            Err(error) => Err((self, error)),
+        }
     }
 
     /// What is stored.
     pub fn cache(&self) -> &Cache<K>
         ensures { result.now ≡ self.now.kept.cache }
     {
-        &self.cache
+        self.keeper.cache()
     }
 
     /// Whether a list was complete: after the first `InitDone`.
     pub fn is_ready(&self) -> bool
         ensures { result ≡ self.now.kept.is_ready }
     {
-        self.is_ready
-    }
-
-    // The reference of an object.
-    fn key(&self, alloc: Global, object: &K) -> Result<ObjectRef<K>, WriteError>
-        ensures named { IfOk result (λ r. is_named (K.meta_of object.now) ≡ true) }
-        ensures reference { IfOk result (λ r. reference_of K.type_of r ≡ key_of self.now.kind (K.meta_of object.now)) }
-        ensures unnamed { IsErrOf result WriteError.Unnamed → is_named (K.meta_of object.now) ≡ false }
-    {
-        let dyntype = self.dyntype.share(alloc)?;
-        match ObjectRef::from_obj_with(alloc, object, dyntype) {
-            Ok(reference) => Ok(reference),
-            Err(RefError::Unnamed) => Err(WriteError::Unnamed),
-            Err(RefError::NoMemory) => Err(WriteError::NoMemory),
-        }
+        self.keeper.is_ready()
     }
 
     /// Applies one event.
@@ -155,28 +245,7 @@ impl<K: Resource> Writer<K> {
         ensures err { OnErr result (self.new ≡ self.old) }
         ensures live { AllStay self.old self.new }
     {
-        match event {
-            Event::Apply(object) => {
-                let key = self.key(alloc, &**object)?;
-                let object = share(object)?;
-                self.cache.put(key, object)?;
-            }
-            Event::Delete(object) => {
-                let key = self.key(alloc, &**object)?;
-                self.cache.remove(&key);
-            }
-            Event::Init => self.buffer = Cache::new(alloc),
-            Event::InitApply(object) => {
-                let key = self.key(alloc, &**object)?;
-                let object = share(object)?;
-                self.buffer.put(key, object)?;
-            }
-            Event::InitDone => {
-                self.cache = replace(&mut self.buffer, Cache::new(alloc));
-                self.is_ready = true;
-            }
-        }
-        Ok(())
+        self.keeper.apply(alloc, event)
     }
 
     /// Adds a subscriber, which takes what is offered from now on. None where the writer is not shared.
@@ -253,15 +322,7 @@ impl<K: Resource> Writer<K> {
         requires { is_named (K.meta_of object.now) ≡ true }
         ensures { IfOk result (λ v. map (reference_of K.type_of) v.items ≡ key_of self.now.kind (K.meta_of object.now) ∷ []) }
     {
-        match self.key(alloc, object) {
-            Ok(reference) => {
-                let mut queue = VecDeque::new(alloc);
-                queue.push_back(reference)?;
-                Ok(queue)
-            }
-            Err(WriteError::NoMemory) => Err(NoMemory),
-            Err(WriteError::Unnamed) => unreachable!(),
-        }
+        self.keeper.queue_key(alloc, object)
     }
 
     // Whether a live subscriber has not taken as many offered references as it may leave.
@@ -293,7 +354,7 @@ impl<K: Resource> Writer<K> {
         ensures live { AllStay self.old self.new }
     {
         match &mut self.ring {
-            Some(ring) => ring.take_next(&self.cache, number),
+            Some(ring) => ring.take_next(self.keeper.cache(), number),
             None => unreachable!(),
         }
     }

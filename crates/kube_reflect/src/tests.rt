@@ -2,6 +2,8 @@
 
 mod errors;
 mod events;
+mod node;
 mod objects;
+mod readers;
 mod reflect;
 mod share;

@@ -8,6 +8,6 @@ use Rattle.kube_reflect.proofs.cache.Cache.remove.Goals as goal
 pub returns : goal.returns
 returns g c = λ object.
     let seen = stored_of g.K.Resource.type_of in
-    let r = reference_of g.K.Resource.type_of c.args.reference.now in
+    let r = reference_of g.K.Resource.type_of c.args.reference in
     ap (map seen) c.remove.ensures
     ∙ (dropped seen c.self.inside.items.items r object ∙ ap (λ s. drop_under s (r, object)) c.self.view_is)
