@@ -129,10 +129,7 @@ fn copy_keys<K: Resource>(
 }
 
 /// All references, in a vector.
-fn list_keys<K: Resource>(
-    alloc: Global,
-    items: &[Stored<K>],
-) -> Result<Vec<ObjectRef<K>>, NoMemory>
+fn list_keys<K: Resource>(alloc: Global, items: &[Stored<K>]) -> Result<Vec<ObjectRef<K>>, NoMemory>
     ensures { IfOk result (λ v. map (reference_of K.type_of) v.items ≡ map (λ s. reference_of K.type_of s.reference) items.now) }
 {
     let mut keys = Vec::new(alloc);

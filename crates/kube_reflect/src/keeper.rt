@@ -107,11 +107,7 @@ impl<K: Resource> Keeper<K> {
     }
 
     // Applies one event. After a refusal, and after want of memory, all is as before.
-    pub(crate) fn apply(
-        &mut self,
-        alloc: Global,
-        event: &Event<Arc<K>>,
-    ) -> Result<(), WriteError>
+    pub(crate) fn apply(&mut self, alloc: Global, event: &Event<Arc<K>>) -> Result<(), WriteError>
         ensures applied { OnOk result (self.new ≡ record self.old { kept = applied (λ o. key_of self.old.kind (K.meta_of o)) self.old.kept (event_map arc_value event.now) }) }
         ensures named { OnOk result (has_name K.meta_of (event_map arc_value event.now) ≡ true) }
         ensures unnamed { IsErrOf result WriteError.Unnamed → has_name K.meta_of (event_map arc_value event.now) ≡ false }

@@ -178,9 +178,13 @@ fn the_first_object_that_passes_is_found(rt: HostRuntime) -> Result<(), Fail> {
     apply(alloc, &mut writer, "a")?;
     apply(alloc, &mut writer, "b")?;
     writer.publish(&rt, alloc)?;
-    let found = reads.find(&rt, alloc, |o: &DynamicObject| -> bool { name_of(o) == "b" })?;
+    let found = reads.find(&rt, alloc, |o: &DynamicObject| -> bool {
+        name_of(o) == "b"
+    })?;
     assert_eq!(rt; found.as_ref().map(|o| name_of(&**o)), Some("b"));
-    let none = reads.find(&rt, alloc, |o: &DynamicObject| -> bool { name_of(o) == "c" })?;
+    let none = reads.find(&rt, alloc, |o: &DynamicObject| -> bool {
+        name_of(o) == "c"
+    })?;
     assert!(rt; none.is_none());
     Ok(())
 }
@@ -192,8 +196,9 @@ fn objects_are_read_that_pass(rt: HostRuntime) -> Result<(), Fail> {
     apply(alloc, &mut writer, "a")?;
     apply(alloc, &mut writer, "b")?;
     writer.publish(&rt, alloc)?;
-    let passed =
-        reads.state_filter(&rt, alloc, |o: &DynamicObject| -> bool { name_of(o) != "a" })?;
+    let passed = reads.state_filter(&rt, alloc, |o: &DynamicObject| -> bool {
+        name_of(o) != "a"
+    })?;
     assert_eq!(rt; names(alloc, &passed)?.as_str(), "b,");
     Ok(())
 }
@@ -206,10 +211,7 @@ fn objects_are_read_that_a_selector_selects(rt: HostRuntime) -> Result<(), Fail>
     writer.apply_watcher_event(alloc, &Event::Apply(labelled(alloc, "b", "web")?))?;
     writer.publish(&rt, alloc)?;
     let mut selector = Selector::new(alloc);
-    selector.push(Expression::Equal(
-        Text::new(alloc, "app")?,
-        Text::new(alloc, "web")?,
-    ))?;
+    selector.push(Expression::Equal(Text::new(alloc, "app")?, Text::new(alloc, "web")?))?;
     let selected = reads.state_filter_selector(&rt, alloc, &selector)?;
     assert_eq!(rt; names(alloc, &selected)?.as_str(), "b,");
     Ok(())
@@ -257,17 +259,15 @@ fn a_shared_store_comes_with_its_writer(rt: HostRuntime) -> Result<(), Fail> {
 fn that_a_writer_was_dropped_is_shown(rt: HostRuntime) -> Result<(), Fail> {
     let alloc = rt.alloc();
     let shown = format!(in alloc; "{WriterDropped}")?;
-    assert_eq!(rt; shown.as_str(), "writer ended before its first list was complete");
+    assert_eq!(rt;
+        shown.as_str(),
+        "writer ended before its first list was complete"
+    );
     Ok(())
 }
 
 /// So many objects are applied, each with a publish behind it.
-fn publish_each<R: Wait>(
-    rt: &R,
-    alloc: Global,
-    writer: &mut Maps,
-    count: u32,
-) -> Result<(), Fail> {
+fn publish_each<R: Wait>(rt: &R, alloc: Global, writer: &mut Maps, count: u32) -> Result<(), Fail> {
     for number in 0..count {
         let name = format!(in alloc; "{number}")?;
         apply(alloc, writer, name.as_str())?;

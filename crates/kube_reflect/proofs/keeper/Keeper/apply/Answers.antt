@@ -12,9 +12,9 @@ invariant_of-self g c =
     let o = arc_value c.in-Apply.object in
     made-by meta (g.K.Resource.type_of before.dyntype) _ (Apply o) _ c.self.invariant
     (ap (λ s. record { cache = s; buffer = before.buffer; is_ready = before.is_ready })
-      (c.in_ok-put-in-Apply.ensures.ok ∙ ap (put_under before.cache)
-        (beside-key meta c.args.self.now.kind (g.K.Resource.type_of before.dyntype) _ o _ c.deref.result.now (ap (λ k. k.kind) c.self.view_is)
-          c.deref.ensures c.in_ok-key-in-Apply.ensures.reference c.in_ok-object-in-Apply.ensures)))
+    (c.in_ok-put-in-Apply.ensures.ok ∙ ap (put_under before.cache)
+    (beside-key meta c.args.self.now.kind (g.K.Resource.type_of before.dyntype) _ o _ c.deref.result.now (ap (λ k. k.kind) c.self.view_is)
+    c.deref.ensures c.in_ok-key-in-Apply.ensures.reference c.in_ok-object-in-Apply.ensures)))
 
 pub invariant_of-self-in-Delete : goal.invariant_of-self-in-Delete
 invariant_of-self-in-Delete g c =
@@ -23,9 +23,9 @@ invariant_of-self-in-Delete g c =
     let o = arc_value c.in-Delete.object in
     made-by meta (g.K.Resource.type_of before.dyntype) _ (Delete o) _ c.self.invariant
     (ap (λ s. record { cache = s; buffer = before.buffer; is_ready = before.is_ready })
-      (c.remove.ensures o ∙ ap (drop_under before.cache)
-        (beside-key meta c.args.self.now.kind (g.K.Resource.type_of before.dyntype) _ o o c.deref-in-Delete.result.now (ap (λ k. k.kind) c.self.view_is)
-          c.deref-in-Delete.ensures c.in_ok-key-in-Delete.ensures.reference refl)))
+    (c.remove.ensures o ∙ ap (drop_under before.cache)
+    (beside-key meta c.args.self.now.kind (g.K.Resource.type_of before.dyntype) _ o o c.deref-in-Delete.result.now (ap (λ k. k.kind) c.self.view_is)
+    c.deref-in-Delete.ensures c.in_ok-key-in-Delete.ensures.reference refl)))
 
 pub invariant_of-self-in-Init : goal.invariant_of-self-in-Init
 invariant_of-self-in-Init g c =
@@ -40,9 +40,9 @@ invariant_of-self-in-Continue-branch-7 g c =
     let o = arc_value c.in-InitApply.object in
     made-by meta (g.K.Resource.type_of before.dyntype) _ (InitApply o) _ c.self.invariant
     (ap (λ s. record { cache = before.cache; buffer = s; is_ready = before.is_ready })
-      (c.in_ok-put-in-InitApply.ensures.ok ∙ ap (put_under before.buffer)
-        (beside-key meta c.args.self.now.kind (g.K.Resource.type_of before.dyntype) _ o _ c.deref-in-InitApply.result.now (ap (λ k. k.kind) c.self.view_is)
-          c.deref-in-InitApply.ensures c.in_ok-key-in-InitApply.ensures.reference c.in_ok-object-in-InitApply.ensures)))
+    (c.in_ok-put-in-InitApply.ensures.ok ∙ ap (put_under before.buffer)
+    (beside-key meta c.args.self.now.kind (g.K.Resource.type_of before.dyntype) _ o _ c.deref-in-InitApply.result.now (ap (λ k. k.kind) c.self.view_is)
+    c.deref-in-InitApply.ensures c.in_ok-key-in-InitApply.ensures.reference c.in_ok-object-in-InitApply.ensures)))
 
 pub invariant_of-self-in-InitDone : goal.invariant_of-self-in-InitDone
 invariant_of-self-in-InitDone g c =
