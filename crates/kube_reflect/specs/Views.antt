@@ -8,7 +8,7 @@ use Rattle.kube_reflect.specs.declared.stored.Stored.{Stored}
 module _ {K D : Type 0} where
   -- the reference and the object
   abbrev pub stored_of : (D → ObjectType) → Stored K D → Reference × K
-  stored_of type_of s = (reference_of type_of s.reference, arc_value s.object)
+  stored_of type_of s = (reference_of type_of (arc_value s.reference), arc_value s.object)
 
   abbrev pub all_stored : (D → ObjectType) → List (Stored K D) → List (Reference × K)
   all_stored type_of ss = map (stored_of type_of) ss

@@ -62,9 +62,9 @@ fn find_equal<'a, K: Resource>(
     reference: &ObjectRef<K>,
 ) -> Option<&'a Arc<K>>
     ensures { option_map arc_value (option_copied result)
-        ≡ option_map (λ s. arc_value s.object) (find (λ s. same_reference (reference_of K.type_of s.reference) (reference_of K.type_of reference.now)) items.now) }
+        ≡ option_map (λ s. arc_value s.object) (find (λ s. same_reference (reference_of K.type_of (arc_value s.reference)) (reference_of K.type_of reference.now)) items.now) }
 {
-    match items.iter().find(|s| s.reference == *reference) {
+    match items.iter().find(|s| *s.reference == *reference) {
         Some(s) => Some(&s.object),
         None => None,
     }
@@ -76,11 +76,11 @@ fn find_without_namespace<'a, K: Resource>(
     reference: &ObjectRef<K>,
 ) -> Option<&'a Arc<K>>
     ensures { option_map arc_value (option_copied result)
-        ≡ option_map (λ s. arc_value s.object) (find (λ s. same_reference (reference_of K.type_of s.reference) (without_namespace (reference_of K.type_of reference.now))) items.now) }
+        ≡ option_map (λ s. arc_value s.object) (find (λ s. same_reference (reference_of K.type_of (arc_value s.reference)) (without_namespace (reference_of K.type_of reference.now))) items.now) }
 {
     match items
         .iter()
-        .find(|s| is_without_namespace(&s.reference, reference))
+        .find(|s| is_without_namespace(&*s.reference, reference))
     {
         Some(s) => Some(&s.object),
         None => None,
@@ -119,7 +119,7 @@ fn copy_keys<K: Resource>(
     alloc: Global,
     items: &[Stored<K>],
 ) -> Result<VecDeque<ObjectRef<K>>, NoMemory>
-    ensures { IfOk result (λ v. map (reference_of K.type_of) v.items ≡ map (λ s. reference_of K.type_of s.reference) items.now) }
+    ensures { IfOk result (λ v. map (reference_of K.type_of) v.items ≡ map (λ s. reference_of K.type_of (arc_value s.reference)) items.now) }
 {
     let mut keys = VecDeque::new(alloc);
     for stored in items {
@@ -130,7 +130,7 @@ fn copy_keys<K: Resource>(
 
 /// All references, in a vector.
 fn list_keys<K: Resource>(alloc: Global, items: &[Stored<K>]) -> Result<Vec<ObjectRef<K>>, NoMemory>
-    ensures { IfOk result (λ v. map (reference_of K.type_of) v.items ≡ map (λ s. reference_of K.type_of s.reference) items.now) }
+    ensures { IfOk result (λ v. map (reference_of K.type_of) v.items ≡ map (λ s. reference_of K.type_of (arc_value s.reference)) items.now) }
 {
     let mut keys = Vec::new(alloc);
     for stored in items {
@@ -139,14 +139,14 @@ fn list_keys<K: Resource>(alloc: Global, items: &[Stored<K>]) -> Result<Vec<Obje
     Ok(keys)
 }
 
-/// All of it once more, with the same objects.
+/// All of it once more, with the same references and objects.
 fn copy_all<K: Resource>(alloc: Global, items: &[Stored<K>]) -> Result<Vec<Stored<K>>, NoMemory>
     ensures { IfOk result (λ v. all_stored K.type_of v.items ≡ all_stored K.type_of items.now) }
 {
     let mut copies = Vec::new(alloc);
     for stored in items {
         copies.push(Stored {
-            reference: stored.reference.copy(alloc)?,
+            reference: Arc::try_clone(&stored.reference)?,
             object: Arc::try_clone(&stored.object)?,
         })?;
     }
@@ -211,10 +211,16 @@ impl<K: Resource> Cache<K> {
     }
 
     // Puts an object in the place of the one under an equal reference, or last.
-    pub(crate) fn put(&mut self, reference: ObjectRef<K>, object: Arc<K>) -> Result<(), NoMemory>
+    pub(crate) fn put(
+        &mut self,
+        alloc: Global,
+        reference: ObjectRef<K>,
+        object: Arc<K>,
+    ) -> Result<(), NoMemory>
         ensures ok { OnOk result (self.new ≡ put_under self.old (reference_of K.type_of reference, arc_value object)) }
         ensures err { OnErr result (self.new ≡ self.old) }
     {
+        let reference = Arc::new(alloc, reference)?;
         put(&mut self.items, Stored { reference, object })
     }
 
@@ -239,7 +245,7 @@ impl<K: Resource> Cache<K> {
         list_keys(alloc, &self.items)
     }
 
-    // Another one with the same objects.
+    // Another one with the same references and objects.
     pub(crate) fn copy(&self, alloc: Global) -> Result<Cache<K>, NoMemory>
         ensures { IfOk result (λ c. c ≡ self.now) }
     {

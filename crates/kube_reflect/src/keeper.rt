@@ -117,7 +117,7 @@ impl<K: Resource> Keeper<K> {
             Event::Apply(object) => {
                 let key = self.key(alloc, &**object)?;
                 let object = share(object)?;
-                self.cache.put(key, object)?;
+                self.cache.put(alloc, key, object)?;
             }
             Event::Delete(object) => {
                 let key = self.key(alloc, &**object)?;
@@ -127,7 +127,7 @@ impl<K: Resource> Keeper<K> {
             Event::InitApply(object) => {
                 let key = self.key(alloc, &**object)?;
                 let object = share(object)?;
-                self.buffer.put(key, object)?;
+                self.buffer.put(alloc, key, object)?;
             }
             Event::InitDone => {
                 self.cache = replace(&mut self.buffer, Cache::new(alloc));

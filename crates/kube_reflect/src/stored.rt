@@ -5,6 +5,7 @@ ghost use Rattle.kube_reflect.specs.Cached.{put_under, drop_under};
 ghost use Rattle.kube_reflect.specs.Views.{stored_of, all_stored};
 ghost use Rattle.std.specs.Prelude.{slice_set, vec_len, ◌<◌, not};
 ghost use Rattle.std.specs.List.{filter};
+ghost use Rattle.std.specs.Arc.{arc_value};
 ghost use Rattle.kube_meta.specs.Keys.{reference_of};
 ghost use Rattle.kube_meta.specs.Reference.{same_reference};
 
@@ -14,7 +15,7 @@ use std::sync::Arc;
 /// An object under its reference.
 #[derive(Drop)]
 pub struct Stored<K: Resource> {
-    pub reference: ObjectRef<K>,
+    pub reference: Arc<ObjectRef<K>>,
     pub object: Arc<K>,
 }
 
@@ -33,7 +34,7 @@ pub fn put<K: Resource>(items: &mut Vec<Stored<K>>, item: Stored<K>) -> Result<(
     ensures err { OnErr result (items.new.items ≡ items.old.items) }
 {
     for i in 0..items.len() {
-        if items[i].reference == item.reference {
+        if *items[i].reference == *item.reference {
             write(items, i, item);
             return Ok(());
         }
@@ -44,7 +45,7 @@ pub fn put<K: Resource>(items: &mut Vec<Stored<K>>, item: Stored<K>) -> Result<(
 
 /// Drops what is under an equal reference.
 pub fn remove<K: Resource>(items: &mut Vec<Stored<K>>, reference: &ObjectRef<K>)
-    ensures { items.new.items ≡ filter (λ s. not (same_reference (reference_of K.type_of s.reference) (reference_of K.type_of reference.now))) items.old.items }
+    ensures { items.new.items ≡ filter (λ s. not (same_reference (reference_of K.type_of (arc_value s.reference)) (reference_of K.type_of reference.now))) items.old.items }
 {
-    items.retain(|stored| stored.reference != *reference);
+    items.retain(|stored| *stored.reference != *reference);
 }

@@ -21,6 +21,6 @@ returns-in-None g c =
     let seen = stored_of g.K.Resource.type_of in
     let r = reference_of g.K.Resource.type_of c.args.key.now in
     found_second seen c.self.inside.items.items r _ _ (ap (λ o. option_map arc_value (option_copied o)) c.in-None.is)
-    (c.find_equal.ensures ∙ ap (λ xs. option_map (λ s. arc_value s.object) (find (λ s. same_reference (reference_of g.K.Resource.type_of s.reference) r) xs)) c.deref.ensures.value)
-    (c.find_without_namespace.ensures ∙ ap (λ xs. option_map (λ s. arc_value s.object) (find (λ s. same_reference (reference_of g.K.Resource.type_of s.reference) (without_namespace r)) xs)) c.deref-in-None.ensures.value)
+    (c.find_equal.ensures ∙ ap (λ xs. option_map (λ s. arc_value s.object) (find (λ s. same_reference (reference_of g.K.Resource.type_of (arc_value s.reference)) r) xs)) c.deref.ensures.value)
+    (c.find_without_namespace.ensures ∙ ap (λ xs. option_map (λ s. arc_value s.object) (find (λ s. same_reference (reference_of g.K.Resource.type_of (arc_value s.reference)) (without_namespace r)) xs)) c.deref-in-None.ensures.value)
     ∙ ap (λ s. object_at s r) c.self.view_is
