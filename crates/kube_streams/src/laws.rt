@@ -48,14 +48,16 @@ pub fn stream_backoff_in_order<S: EventStream, B: Backoff>()
 {}
 
 /// However an `EventModify` is polled, at whatever moments and with whatever fuel: what it gave is all that the answers of
-/// its stream give, in order, each event with its object changed by one call of the closure, which follows the call before.
+/// its stream give, in order, each event with its object changed by one call of the closure, from the closure as the call
+/// before left it.
 pub fn event_modify_in_order<T: Drop, S: EventStream<Item = Event<T>>, F: FnMut(&mut T) + Drop>()
     ensures { (a b : Modifying S F) (ps : List (ℕ × ℕ × answer_data (event_data T))) → PolledInTurn ⟦<EventModify<S, F> as EventStream>⟧.polls a ps b
         → ModifiedSoFar F.FnMut (Said S.polls S.told) a ps b }
 {}
 
 /// However a `Reflect` is polled, at whatever moments and with whatever fuel: its writer is the first one with each event
-/// that was given applied, in order; and where it answers no fault, what it gave is all that the answers of its stream give.
+/// that was given applied, in order; and where it answered no fault, what it gave is all that the answers of its stream give,
+/// in order.
 pub fn reflect_in_order<K: Resource, S: EventStream<Item = Event<Arc<K>>>>()
     ensures { (a b : Applying K S) (ps : List (ℕ × ℕ × answer_data (event_data (arc_data K Global)))) → PolledInTurn ⟦<Reflect<S, K> as EventStream>⟧.polls a ps b
         → AppliedSoFar arc_value K.meta_of (Said S.polls S.told) a ps b }
