@@ -1,5 +1,5 @@
 -- What a filter forgets.
-use Rattle.std.proofs.Common.{◌≡◌, ◌⊎◌, ℕ, Bool, true, false, cond, Option, Some, None, refl, sym, ap, subst, ◌∙◌, inl, inr}
+use Rattle.std.proofs.Common.{◌≡◌, ◌⊎◌, ℕ, Bool, true, false, cond, Some, None, refl, sym, ap, subst, ◌∙◌, inl, inr}
 use Rattle.std.specs.Map.{lookup}
 use Rattle.kube_streams.specs.Filters.{Key, Sight, same_key, Filtering, sights_in, DoesNotCount, IsForgotten, IsRemovedAt, IsOldAt}
 use Rattle.kube_streams.specs.FilterLaws.{same_key_equiv}

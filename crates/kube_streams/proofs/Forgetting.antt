@@ -1,7 +1,8 @@
 -- Forgetting sights that don't count changes nothing.
-use Rattle.std.proofs.Common.{◌≡◌, ◌⊎◌, ◌≤◌, ◌<◌, ◌-◌, ℕ, Bool, true, false, cond, nat_lt, nat_eq, not, ◌&&◌, List, [], ◌∷◌, Option, Some, None, refl, sym, ap, ap₂, subst, ◌∙◌, inl, inr, arith}
+use Rattle.std.proofs.Common.{◌≡◌, ◌⊎◌, ◌≤◌, ℕ, Bool, true, false, cond, nat_eq, not, ◌&&◌, List, [], ◌∷◌, map, Option, Some, None, refl, sym, ap, ap₂, subst, ◌∙◌, inl, inr, arith}
 use Rattle.std.proofs.lemmas.Bool.Decides.{nat_tests}
-use Rattle.kube_streams.specs.Filters.{Key, Sight, Sights, same_key, with_sight, is_fresh, passes, DoesNotCount, IsForgotten, Showing, seen_at, passing, Passing, NeverFall}
+use Rattle.kube_meta.specs.declared.metadata.ObjectMeta.{ObjectMeta}
+use Rattle.kube_streams.specs.Filters.{Key, Sight, Sights, same_key, with_sight, is_fresh, passes, lets_pass, sights_after, DoesNotCount, IsForgotten, SameSights, Filtering, filter_key, sights_in, Showing, passing, Passing, NeverFall, Judgement, JudgedInTurn, AreShown, PassedWithoutForgetting}
 
 module _ (ttl : ℕ) where
   -- some sights that don't count are missing
@@ -35,22 +36,70 @@ module _ (ttl : ℕ) where
   same-passes now value o p (inl e) = ap (λ x. passes ttl now x value) e
   same-passes now value o p (inr e) = ap (λ x. passes ttl now x value) e.0 ∙ sym (old-passes now value p e.1)
 
-  seen-alike : (now : ℕ) (xs ys : Sights) (s : Showing) → Alike now xs ys → Alike now (seen_at xs s) (seen_at ys s)
-  seen-alike now xs ys s a key = at (same_key s.key key) (a key) where
-    sight : Sight
-    sight = record { value = s.value; seen = s.at }
+  same-lets : (now : ℕ) (xs ys : Sights) (key : Key) (property : Option ℕ) → Alike now xs ys → lets_pass ttl now xs key property ≡ lets_pass ttl now ys key property
+  same-lets now xs ys key None a = refl
+  same-lets now xs ys key (Some value) a = same-passes now value (xs key) (ys key) (a key)
 
+  seen-alike : (now : ℕ) (xs ys : Sights) (seen : Key) (sight : Sight) → Alike now xs ys → Alike now (with_sight xs seen sight) (with_sight ys seen sight)
+  seen-alike now xs ys seen sight a key = at (same_key seen key) (a key) where
     at : (b : Bool) → (xs key ≡ ys key) ⊎ ((xs key ≡ None) × DoesNotCount ttl now (ys key))
         → (cond b (Some sight) (xs key) ≡ cond b (Some sight) (ys key)) ⊎ ((cond b (Some sight) (xs key) ≡ None) × DoesNotCount ttl now (cond b (Some sight) (ys key)))
     at true e = inl refl
     at false e = e
 
-  all-alike : (from : ℕ) (xs ys : Sights) (ss : List Showing) (bs : List Bool) → NeverFall from ss → Alike from xs ys → Passing ttl xs ss bs → bs ≡ passing ttl ys ss
+  after-alike : (now : ℕ) (xs ys : Sights) (key : Key) (property : Option ℕ) → Alike now xs ys → Alike now (sights_after now xs key property) (sights_after now ys key property)
+  after-alike now xs ys key None a = a
+  after-alike now xs ys key (Some value) a = seen-alike now xs ys key (record { value = value; seen = now }) a
+
+  same-alike : (now : ℕ) (xs same ys : Sights) → SameSights xs same → Alike now same ys → Alike now xs ys
+  same-alike now xs same ys e a key = elim (a key) [ inl p ↦ inl (e key ∙ p) | inr p ↦ inr (e key ∙ p.0, p.1) ]
+
+  all-alike : (from : ℕ) (xs ys : Sights) (ss : List Showing) (bs : List Bool) → NeverFall from (map (λ s. s.at) ss) → Alike from xs ys → Passing ttl xs ss bs → bs ≡ passing ttl ys ss
   all-alike from xs ys [] bs r a p = p
   all-alike from xs ys (s ∷ ss) bs r a p =
-      let now = forgotten s.at xs ys p.0 (later from s.at xs ys r.0 a) p.2 in
-      p.4 ∙ ap₂ (λ b rest. b ∷ rest) (same-passes s.at s.value (p.0 s.key) (ys s.key) (now s.key))
-      (all-alike s.at (seen_at p.0 s) (seen_at ys s) ss p.1 r.1 (seen-alike s.at p.0 ys s now) p.3)
+      let left = p.0 in
+      let now = forgotten s.at xs ys left (later from s.at xs ys r.0 a) p.4 in
+      let after = same-alike s.at p.2 (sights_after s.at left s.key s.value) (sights_after s.at ys s.key s.value) p.5.1 (after-alike s.at left ys s.key s.value now) in
+      p.7 ∙ ap₂ (λ b rest. b ∷ rest) (p.5.0 ∙ same-lets s.at left ys s.key s.value now) (all-alike s.at p.2 (sights_after s.at ys s.key s.value) ss p.3 r.1 after p.6)
 
-  pub nothing-changes : (from : ℕ) (sights : Sights) (ss : List Showing) (bs : List Bool) → NeverFall from ss → Passing ttl sights ss bs → bs ≡ passing ttl sights ss
+  pub nothing-changes : (from : ℕ) (sights : Sights) (ss : List Showing) (bs : List Bool) → NeverFall from (map (λ s. s.at) ss) → Passing ttl sights ss bs → bs ≡ passing ttl sights ss
   nothing-changes from sights ss bs r p = all-alike from sights sights ss bs r (λ key. inl refl) p
+
+-- objects that a filter judged, one after another
+module _ {P O : Type 0} (gives : P → O → Option ℕ → Type 0) (meta : O → ObjectMeta) where
+  record Shown (f : Filtering P) (js : List (Judgement O)) : Type 0 where
+    pub showings : List Showing
+    pub shown : AreShown gives meta f.predicate js showings
+    pub moments : map (λ j. j.at) js ≡ map (λ s. s.at) showings
+    pub passed : Passing f.ttl (sights_in f) showings (map (λ j. j.passed) js)
+
+  all-shown : (f : Filtering P) (js : List (Judgement O)) (g : Filtering P) → JudgedInTurn gives meta f js g → Shown f js
+  all-shown f [] g p = record { showings = []; shown = tt; moments = refl; passed = refl }
+  all-shown f (j ∷ js) g p =
+      let h = p.0 in
+      let one = p.1 in
+      let more = all-shown h js g p.2 in
+      record {
+        showings = record { at = j.at; key = filter_key (meta j.object); value = one.property } ∷ more.showings;
+        shown = ((refl, refl, one.given_by), subst (λ predicate. AreShown gives meta predicate js more.showings) one.settings.0 more.shown);
+        moments = ap (λ moments. j.at ∷ moments) more.moments;
+        passed = (
+          one.left,
+          j.passed,
+          sights_in h,
+          map (λ x. x.passed) js,
+          one.forgotten,
+          one.judged,
+          subst (λ ttl. Passing ttl (sights_in h) more.showings (map (λ x. x.passed) js)) one.settings.1 more.passed,
+          refl,
+        );
+      }
+
+  pub passed-without-forgetting : (from : ℕ) (f : Filtering P) (js : List (Judgement O)) (g : Filtering P) → NeverFall from (map (λ j. j.at) js) → JudgedInTurn gives meta f js g → PassedWithoutForgetting gives meta f js
+  passed-without-forgetting from f js g r p =
+      let all = all-shown f js g p in
+      record {
+        showings = all.showings;
+        shown = all.shown;
+        passed = nothing-changes f.ttl from (sights_in f) all.showings (map (λ j. j.passed) js) (subst (λ moments. NeverFall from moments) all.moments r) all.passed;
+      }

@@ -2,10 +2,9 @@
 use Rattle.std.proofs.Common.{◌≡◌, ℕ, zero, suc, List, [], ◌∷◌, ◌++◌, Option, Some, None, Ok, Err, refl, sym, ap, subst, ◌∙◌, inl, inr, append-nil, append_assoc}
 use Rattle.kube_meta.specs.declared.poll.Next.TheVariants.{Item, NotReady, Spent, End}
 use Rattle.kube_watch.specs.declared.stream.StreamFault.{StreamFault}
-use Rattle.kube_watch.specs.declared.stream.StreamFault.TheVariants.{NoMemory, Unnamed}
 use Rattle.kube_watch.specs.Streams.{Answer}
 use Rattle.kube_reflect.specs.Reflects.{fault_in}
-use Rattle.kube_streams.specs.Adapts.{Told, told_in, all_told, Adapting, IsQuiet, AreQuiet, ComesTo, Gave, Asked, Advanced, Adapted, Gives, Came, Polled, GivenSoFar}
+use Rattle.kube_streams.specs.Adapts.{Told, told_in, all_told, Adapting, IsQuiet, AreQuiet, ComesTo, Asked, Advanced, Adapted, Gives, Came, Polled, GivenSoFar}
 
 module _ {S T I J : Type 0} (polls : S → ℕ → ℕ → Answer I → S → Type 0) (takes : ℕ → T → Told I → List (Told J) → T → Type 0) (unnamed : T → Told I → Type 0) where
   -- answers after others

@@ -1,5 +1,5 @@
 -- Polls of a stream that gave nothing.
-use Rattle.std.proofs.Common.{◌≡◌, ℕ, zero, suc, List, [], Ok, refl, sym, subst}
+use Rattle.std.proofs.Common.{ℕ, zero, suc, List, refl, subst}
 use Rattle.kube_watch.specs.Streams.{Answer}
 use Rattle.kube_streams.specs.Adapts.{Told, IsQuiet, AreQuiet}
 

@@ -1,5 +1,6 @@
 -- A stream that applies its events to a writer. (Crate: `utils::Reflect`.)
-use Rattle.std.specs.Prelude.{◌≡◌, ◌⊎◌, ℕ, true, false, Option, Some, None, Ok, Err}
+use Rattle.std.specs.Prelude.{◌≡◌, ◌⊎◌, ℕ, true, false, List, Option, Some, None, Ok, Err}
+use Rattle.std.specs.List.{fold}
 use Rattle.kube_meta.specs.declared.metadata.ObjectMeta.{ObjectMeta}
 use Rattle.kube_meta.specs.declared.poll.Next.TheVariants.{Item, NotReady, Spent, End}
 use Rattle.kube_watch.specs.declared.event.Event.{Event}
@@ -10,6 +11,8 @@ use Rattle.kube_watch.specs.Streams.{Answer}
 use Rattle.kube_reflect.specs.Cached.{has_name}
 use Rattle.kube_reflect.specs.Reflects.{Asked, fault_in, with_event}
 use Rattle.kube_reflect.specs.Writers.{Writing}
+use Rattle.kube_streams.specs.Adapts.{Told, all_told}
+use Rattle.kube_streams.specs.InOrder.{PassedOn}
 
 -- a stream S, the writer of objects O, and the fault that is answered from then on
 pub record Applying (O S : Type 0) : Type 0 where
@@ -50,3 +53,16 @@ module _ {O A : Type 0} (value : A → O) (meta : O → ObjectMeta) where
     abbrev pub Applied : Option StreamFault → ℕ → ℕ → Applying O S → Answer (Event A) → Applying O S → Type 0
     Applied (Some fault) now fuel a answer b = (answer ≡ Err fault) × (b ≡ a)
     Applied None now fuel a answer b = Passed now fuel a answer b
+
+  -- ---- over many polls
+
+  -- with what was told applied: an event; an error leaves the writer
+  abbrev pub with_told : Writing O → Told (Event A) → Writing O
+  with_told w (Ok event) = with_event value meta w event
+  with_told w (Err e) = w
+
+  module _ {S : Type 0} (polls : S → ℕ → ℕ → Answer (Event A) → S → Type 0) where
+    -- all that was told is applied, in order; and where there was no fault it is all that the stream's answers tell, in order
+    pub record AppliedSoFar (a : Applying O S) (ps : List (ℕ × ℕ × Answer (Event A))) (b : Applying O S) : Type 0 where
+      pub applied : b.writer ≡ fold with_told a.writer (all_told ps)
+      pub passed_on : b.fault ≡ None → PassedOn polls a.stream ps b.stream

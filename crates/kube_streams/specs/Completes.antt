@@ -1,10 +1,12 @@
 -- A stream at whose end a closure is called once. (Crate: `utils`.)
-use Rattle.std.specs.Prelude.{◌≡◌, ℕ, ⊤, Option, Some, None, Ok, Err}
+use Rattle.std.specs.Prelude.{◌≡◌, ℕ, ⊤, Bool, true, false, cond, List, Option, Some, None, Ok, Err}
 use Rattle.std.specs.Fn.{Once, FnOnceReturns}
+use Rattle.std.specs.List.{list_any}
 use Rattle.kube_meta.specs.declared.poll.Next.TheVariants.{Item, NotReady, Spent, End}
 use Rattle.kube_watch.specs.Streams.{Answer}
 use Rattle.kube_watch.specs.declared.stream.StreamFault.{StreamFault}
 use Rattle.kube_reflect.specs.Reflects.{Asked, fault_in}
+use Rattle.kube_streams.specs.InOrder.{PassedOn}
 
 -- a stream S, the closure F until it is called, and the fault that is answered from then on
 pub record Completing (S F : Type 0) : Type 0 where
@@ -38,6 +40,17 @@ left_after f (Ok Spent) = f
 left_after f (Ok End) = None
 left_after f (Err fault) = f
 
+-- whether one of these answers is the end
+abbrev pub is_end : {I : Type 0} → Answer I → Bool
+is_end (Ok (Item told)) = false
+is_end (Ok NotReady) = false
+is_end (Ok Spent) = false
+is_end (Ok End) = true
+is_end (Err fault) = false
+
+abbrev pub has_ended : {I : Type 0} → List (ℕ × ℕ × Answer I) → Bool
+has_ended ps = list_any (λ p. is_end p.2) ps
+
 module _ {S F I : Type 0} (g : Once F (Unit {0}) (Unit {0})) (polls : S → ℕ → ℕ → Answer I → S → Type 0) where
   -- the stream is asked, and its answer is given
   pub record Passed (now fuel : ℕ) (c : Completing S F) (answer : Answer I) (d : Completing S F) : Type 0 where
@@ -50,3 +63,11 @@ module _ {S F I : Type 0} (g : Once F (Unit {0}) (Unit {0})) (polls : S → ℕ 
   abbrev pub Completed : Option StreamFault → ℕ → ℕ → Completing S F → Answer I → Completing S F → Type 0
   Completed (Some fault) now fuel c answer d = (answer ≡ Err fault) × (d ≡ c)
   Completed None now fuel c answer d = Passed now fuel c answer d
+
+  -- ---- over many polls
+
+  -- all that the stream's answers tell was told, in order; and the closure is called and gone where the end was answered, and else there still
+  pub record CompletedSoFar (c : Completing S F) (ps : List (ℕ × ℕ × Answer I)) (d : Completing S F) : Type 0 where
+    pub passed_on : PassedOn polls c.stream ps d.stream
+    pub called : has_ended ps ≡ true → WasCalled g c.f
+    pub left : d.f ≡ cond (has_ended ps) None c.f

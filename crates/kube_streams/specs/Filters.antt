@@ -1,5 +1,5 @@
 -- Objects that pass where a property of theirs changed. (Crate: `utils::PredicateFilter`.)
-use Rattle.std.specs.Prelude.{◌≡◌, ◌⊎◌, ◌≤◌, ℕ, ◌-◌, ⊤, Bool, true, false, not, ◌&&◌, cond, nat_lt, nat_eq, bytes_eq, List, [], ◌∷◌, Option, Some, None, Ok, Err, unwrap_or}
+use Rattle.std.specs.Prelude.{◌≡◌, ◌⊎◌, ◌≤◌, ℕ, ◌-◌, ⊤, Bool, true, false, not, ◌&&◌, cond, nat_lt, nat_eq, bytes_eq, List, [], ◌∷◌, map, Option, Some, None, Ok, Err, unwrap_or}
 use Rattle.std.specs.Option.{option_eq}
 use Rattle.std.specs.Map.{lookup}
 use Rattle.std.specs.List.{slice_get}
@@ -80,21 +80,30 @@ IsOldAt place now f = (e : Key × Sight) → slice_get f.kept place ≡ Some e �
 abbrev pub KeepsSettings : {P : Type 0} → Filtering P → Filtering P → Type 0
 KeepsSettings f g = (g.predicate ≡ f.predicate) × (g.ttl ≡ f.ttl)
 
-module _ {P O : Type 0} (gives : P → O → Option ℕ → Type 0) (meta : O → ObjectMeta) where
-  -- an object without the property passes; each other one is seen, and passes where it changed
-  abbrev pub Judged : ℕ → ℕ → Sights → O → Option ℕ → Bool → Sights → Type 0
-  Judged ttl now sights object None passed after = (passed ≡ true) × SameSights after sights
-  Judged ttl now sights object (Some v) passed after =
-      (passed ≡ passes ttl now (sights (filter_key (meta object))) v)
-      × SameSights after (with_sight sights (filter_key (meta object)) (record { value = v; seen = now }))
+-- ---- one object, by the value of its property; none where it hasn't the property
 
+-- whether it passes: without the property always, else where it changed
+abbrev pub lets_pass : ℕ → ℕ → Sights → Key → Option ℕ → Bool
+lets_pass ttl now sights key None = true
+lets_pass ttl now sights key (Some value) = passes ttl now (sights key) value
+
+-- the sights after it: without the property it is not seen
+abbrev pub sights_after : ℕ → Sights → Key → Option ℕ → Sights
+sights_after now sights key None = sights
+sights_after now sights key (Some value) = with_sight sights key (record { value = value; seen = now })
+
+-- it is judged: whether it passes, and the sights after it
+abbrev pub Judged : ℕ → ℕ → Sights → Key → Option ℕ → Bool → Sights → Type 0
+Judged ttl now sights key property passed after = (passed ≡ lets_pass ttl now sights key property) × SameSights after (sights_after now sights key property)
+
+module _ {P O : Type 0} (gives : P → O → Option ℕ → Type 0) (meta : O → ObjectMeta) where
   -- an object is judged after some sights may be forgotten
   pub record JudgedAt (now : ℕ) (f : Filtering P) (object : O) (passed : Bool) (g : Filtering P) : Type 0 where
     pub left : Sights
     pub property : Option ℕ
     pub forgotten : IsForgotten f.ttl now (sights_in f) left
     pub given_by : gives f.predicate object property
-    pub judged : Judged f.ttl now left object property passed (sights_in g)
+    pub judged : Judged f.ttl now left (filter_key (meta object)) property passed (sights_in g)
     pub settings : KeepsSettings f g
 
   -- an object is given where it passes, and so is each error
@@ -102,30 +111,56 @@ module _ {P O : Type 0} (gives : P → O → Option ℕ → Type 0) (meta : O �
   Filtered value now f (Ok object) given g = (passed : Bool) × JudgedAt now f (value object) passed g × (given ≡ cond passed (Ok object ∷ []) [])
   Filtered value now f (Err e) given g = (given ≡ Err e ∷ []) × (g ≡ f)
 
--- ---- without forgetting
+-- ---- many objects, one after another
 
--- an object that came at a moment with a value
+-- an object that came at a moment, with the value of its property; none where it hasn't the property
 pub record Showing : Type 0 where
   pub at : ℕ
   pub key : Key
-  pub value : ℕ
-
-abbrev pub seen_at : Sights → Showing → Sights
-seen_at sights s = with_sight sights s.key (record { value = s.value; seen = s.at })
+  pub value : Option ℕ
 
 -- which of these pass where no sight is forgotten
 abbrev pub passing : ℕ → Sights → List Showing → List Bool
 passing ttl sights [] = []
-passing ttl sights (s ∷ ss) = passes ttl s.at (sights s.key) s.value ∷ passing ttl (seen_at sights s) ss
+passing ttl sights (s ∷ ss) = lets_pass ttl s.at sights s.key s.value ∷ passing ttl (sights_after s.at sights s.key s.value) ss
 
--- these pass where sights that don't count may be forgotten before each
+-- these pass where each is judged after some sights may be forgotten
 abbrev pub Passing : ℕ → Sights → List Showing → List Bool → Type 0
 Passing ttl sights [] bs = bs ≡ []
 Passing ttl sights (s ∷ ss) bs =
-    (kept : Sights) × (rest : List Bool) × IsForgotten ttl s.at sights kept × Passing ttl (seen_at kept s) ss rest
-    × (bs ≡ passes ttl s.at (kept s.key) s.value ∷ rest)
+    (left : Sights) × (passed : Bool) × (after : Sights) × (rest : List Bool)
+    × IsForgotten ttl s.at sights left × Judged ttl s.at left s.key s.value passed after × Passing ttl after ss rest × (bs ≡ passed ∷ rest)
 
 -- moments that never fall, from one on
-abbrev pub NeverFall : ℕ → List Showing → Type 0
+abbrev pub NeverFall : ℕ → List ℕ → Type 0
 NeverFall from [] = ⊤
-NeverFall from (s ∷ ss) = (from ≤ s.at) × NeverFall s.at ss
+NeverFall from (moment ∷ more) = (from ≤ moment) × NeverFall moment more
+
+-- an object that a filter judged at a moment, and whether it passed
+pub record Judgement (O : Type 0) : Type 0 where
+  pub at : ℕ
+  pub object : O
+  pub passed : Bool
+
+module _ {P O : Type 0} (gives : P → O → Option ℕ → Type 0) (meta : O → ObjectMeta) where
+  -- objects were judged, one after another
+  abbrev pub JudgedInTurn : Filtering P → List (Judgement O) → Filtering P → Type 0
+  JudgedInTurn f [] g = g ≡ f
+  JudgedInTurn f (j ∷ js) g = (h : Filtering P) × JudgedAt gives meta j.at f j.object j.passed h × JudgedInTurn h js g
+
+  -- an object came so: at its moment, with its key and a value that the predicate gives
+  abbrev pub IsShown : P → Judgement O → Showing → Type 0
+  IsShown p j s = (s.at ≡ j.at) × (s.key ≡ filter_key (meta j.object)) × gives p j.object s.value
+
+  -- and so did each of them
+  abbrev pub AreShown : P → List (Judgement O) → List Showing → Type 0
+  AreShown p [] [] = ⊤
+  AreShown p [] (s ∷ ss) = ⊥
+  AreShown p (j ∷ js) [] = ⊥
+  AreShown p (j ∷ js) (s ∷ ss) = IsShown p j s × AreShown p js ss
+
+  -- those passed that pass where no sight is forgotten
+  pub record PassedWithoutForgetting (f : Filtering P) (js : List (Judgement O)) : Type 0 where
+    pub showings : List Showing
+    pub shown : AreShown f.predicate js showings
+    pub passed : map (λ j. j.passed) js ≡ passing f.ttl (sights_in f) showings

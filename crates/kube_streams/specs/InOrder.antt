@@ -9,11 +9,16 @@ abbrev pub answers_told : {I : Type 0} → List (ℕ × Answer I) → List (Told
 answers_told [] = []
 answers_told (a ∷ more) = told_in a.1 ++ answers_told more
 
+module _ {Q J : Type 0} (polls : Q → ℕ → ℕ → Answer J → Q → Type 0) where
+  -- a stream was polled, again and again, each time at a moment and with some fuel, and answered so
+  abbrev pub PolledInTurn : Q → List (ℕ × ℕ × Answer J) → Q → Type 0
+  PolledInTurn a [] b = b ≡ a
+  PolledInTurn a (p ∷ more) b = (m : Q) × polls a p.0 p.1 p.2 m × PolledInTurn m more b
+
 module _ {S I : Type 0} (polls : S → ℕ → ℕ → Answer I → S → Type 0) where
   -- a stream was asked, again and again, each time at a moment and with some fuel, and answered so
   abbrev pub AskedInTurn : S → List (ℕ × ℕ × Answer I) → S → Type 0
-  AskedInTurn s [] r = r ≡ s
-  AskedInTurn s (p ∷ more) r = (m : S) × Asked polls p.0 p.1 s p.2 m × AskedInTurn m more r
+  AskedInTurn s ps r = PolledInTurn (λ s now fuel answer r. Asked polls now fuel s answer r) s ps r
 
   -- polls of the stream, each with fuel 1 at its moment, and their answers
   abbrev pub Answered : S → List (ℕ × Answer I) → S → Type 0

@@ -1,5 +1,5 @@
 -- Events whose objects a closure changes. (Crate: `EventModify`.)
-use Rattle.std.specs.Prelude.{◌≡◌, ℕ, Option, Some, None, Ok, Err}
+use Rattle.std.specs.Prelude.{◌≡◌, ℕ, List, [], ◌∷◌, Option, Some, None, Ok, Err}
 use Rattle.std.specs.Fn.{Mut, CalledAtMut}
 use Rattle.std.specs.Borrow.{MutBor}
 use Rattle.kube_meta.specs.declared.poll.Next.TheVariants.{Item, NotReady, Spent, End}
@@ -8,6 +8,8 @@ use Rattle.kube_watch.specs.declared.event.Event.TheVariants.{Apply, Delete, Ini
 use Rattle.kube_watch.specs.declared.stream.StreamFault.{StreamFault}
 use Rattle.kube_watch.specs.Streams.{Answer}
 use Rattle.kube_reflect.specs.Reflects.{Asked, fault_in}
+use Rattle.kube_streams.specs.Adapts.{Told, all_told}
+use Rattle.kube_streams.specs.InOrder.{Answered, answers_told}
 
 -- a stream S, the closure F that changes the objects, and the fault that is answered from then on
 pub record Modifying (S F : Type 0) : Type 0 where
@@ -45,3 +47,24 @@ module _ {F T : Type 0} (g : Mut F (MutBor T × Unit {0}) (Unit {0} × (MutBor T
     abbrev pub Modified : Option StreamFault → ℕ → ℕ → Modifying S F → Answer (Event T) → Modifying S F → Type 0
     Modified (Some fault) now fuel m answer n = (answer ≡ Err fault) × (n ≡ m)
     Modified None now fuel m answer n = Passed now fuel m answer n
+
+  -- ---- over many polls
+
+  -- a call of f changed the object of what was told, and left f so; an error is as before
+  abbrev pub ToldChanged : F → Told (Event T) → Told (Event T) → F → Type 0
+  ToldChanged f (Ok event) told after = (e : Event T) × IsChanged f event e after × (told ≡ Ok e)
+  ToldChanged f (Err error) told after = (told ≡ Err error) × (after ≡ f)
+
+  -- so each of these in order, by calls that follow one another
+  abbrev pub AllChanged : F → List (Told (Event T)) → List (Told (Event T)) → F → Type 0
+  AllChanged f [] [] after = after ≡ f
+  AllChanged f [] (y ∷ ys) after = ⊥
+  AllChanged f (x ∷ xs) [] after = ⊥
+  AllChanged f (x ∷ xs) (y ∷ ys) after = (m : F) × ToldChanged f x y m × AllChanged m xs ys after
+
+  module _ {S : Type 0} (polls : S → ℕ → ℕ → Answer (Event T) → S → Type 0) where
+    -- what was told is all that the stream's answers tell, in order, each changed
+    pub record ModifiedSoFar (m : Modifying S F) (ps : List (ℕ × ℕ × Answer (Event T))) (n : Modifying S F) : Type 0 where
+      pub answers : List (ℕ × Answer (Event T))
+      pub answered : Answered polls m.stream answers n.stream
+      pub changed : AllChanged m.f (answers_told answers) (all_told ps) n.f

@@ -155,16 +155,6 @@ fn is_fresh(entry: &CacheEntry, ttl: u64, now: Moment) -> bool
     now.0.saturating_sub(entry.last_seen.0) < ttl
 }
 
-/// Whether an object passes that has this value and was seen so before.
-fn is_changed(old: Option<CacheEntry>, value: u64, ttl: u64, now: Moment) -> bool
-    ensures { result ≡ passes ttl now.0 old value }
-{
-    match old {
-        Some(entry) => !(is_fresh(&entry, ttl, now) && entry.hash == value),
-        None => true,
-    }
-}
-
 impl<P> Filter<P> {
     pub(crate) fn new(alloc: Global, predicate: P, config: PredicateConfig) -> Filter<P>
         ensures { result ≡ record { predicate = predicate; kept = []; ttl = config.ttl } }
@@ -177,18 +167,30 @@ impl<P> Filter<P> {
         }
     }
 
+    // Whether an object with this value passes, by its last sight.
+    fn is_changed(&self, now: Moment, key: &PredicateCacheKey, value: u64) -> bool
+        ensures { result ≡ passes self.now.ttl now.0 (sights_in self.now key.now) value }
+    {
+        let ttl = self.ttl;
+        match self.cache.get(key) {
+            Some(entry) => !(is_fresh(&entry, ttl, now) && entry.hash == value),
+            None => true,
+        }
+    }
+
     // Sees an object; whether it passes.
     fn see(&mut self, now: Moment, key: PredicateCacheKey, value: u64) -> Result<bool, NoMemory>
         ensures passes { IfOk result (λ b. b ≡ passes self.old.ttl now.0 (sights_in self.old key) value) }
         ensures seen { OnOk result (SameSights (sights_in self.new) (with_sight (sights_in self.old) key (record { value = value; seen = now.0 }))) }
         ensures settings { KeepsSettings self.old self.new }
     {
+        let passed = self.is_changed(now, &key, value);
         let entry = CacheEntry {
             hash: value,
             last_seen: now,
         };
-        let old = self.cache.insert(key, entry)?;
-        Ok(is_changed(old, value, self.ttl, now))
+        self.cache.insert(key, entry)?;
+        Ok(passed)
     }
 
     // Whether the sight at a place doesn't count.

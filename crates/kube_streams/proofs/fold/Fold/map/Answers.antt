@@ -1,4 +1,4 @@
-use Rattle.std.proofs.Common.{◌≡◌, List, ℕ, length, string_bytes, sym, ap, ◌∙◌, rules}
+use Rattle.std.proofs.Common.{◌≡◌, length, string_bytes, sym, ap, ◌∙◌, rules}
 use Rattle.std.specs.List.{flat_map}
 use Rattle.std.proofs.lemmas.List.Sums.{fold-append}
 use Rattle.kube_meta.specs.Pairs.{pairs_of}

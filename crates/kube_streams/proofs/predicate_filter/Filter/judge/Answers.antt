@@ -1,4 +1,4 @@
-use Rattle.std.proofs.Common.{◌≡◌, Some, None, refl, sym, ap, subst, ◌∙◌}
+use Rattle.std.proofs.Common.{Some, None, refl, ap, subst, ◌∙◌}
 use Rattle.kube_streams.specs.Filters.{Filtering, SameSights, Sight, passes, sights_in, with_sight}
 use Rattle.kube_streams.proofs.predicate_filter.Filter.judge.Goals as goal
 
