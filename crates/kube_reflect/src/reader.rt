@@ -20,7 +20,7 @@ use thiserror::Error;
 
 /// The writer ended before a list was complete.
 #[derive(Clone, Copy, Debug, PartialEq, Eq, Error)]
-#[error("writer ended before its first list was complete")]
+#[error("writer was dropped before store became ready")]
 pub struct WriterDropped;
 
 /// What readers of a writer share.

@@ -261,7 +261,7 @@ fn that_a_writer_was_dropped_is_shown(rt: HostRuntime) -> Result<(), Fail> {
     let shown = format!(in alloc; "{WriterDropped}")?;
     assert_eq!(rt;
         shown.as_str(),
-        "writer ended before its first list was complete"
+        "writer was dropped before store became ready"
     );
     Ok(())
 }
