@@ -148,9 +148,7 @@ impl<T: Copy> DelayedInit<T> {
         requires { note.now.cell ≡ self.old.cell }
         ensures { self.new ≡ learnt self.old note.now.outcome }
     {
-        if self.outcome.is_none() {
-            self.outcome = Some(note.outcome);
-        }
+        self.outcome = self.outcome.or(Some(note.outcome));
     }
 
     /// The outcome, once it is known, and then the same for good.

@@ -1,5 +1,7 @@
 //! A value that is set once.
 
+ghost use Rattle.std.specs.Prelude.{◌≡◌};
+
 use crate::{DelayedInit, InitDropped, Initializer};
 use kube_meta::{NoMemory, Polled};
 use std::process::Abort;
@@ -20,7 +22,9 @@ fn word(answer: &Polled<Result<u32, InitDropped>>) -> &str {
 }
 
 /// Checks what a poll gives.
-fn check_poll<R: Abort + Wait>(rt: &R, delayed: &mut Delayed, wanted: &str) {
+fn check_poll<R: Abort + Wait>(rt: &R, delayed: &mut Delayed, wanted: &str)
+    ensures { delayed.new.cell ≡ delayed.old.cell }
+{
     let answer = delayed.poll_get(rt);
     assert_eq!(rt; word(&answer), wanted);
 }
