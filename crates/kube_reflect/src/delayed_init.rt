@@ -1,8 +1,6 @@
 //! A value that one thread sets once and another one sees (kube-runtime's `utils::delayed_init`).
 
 ghost use Rattle.std.specs.Prelude.{◌≡◌, Ok, Some, None, IfOk, IfSome, IsSome};
-ghost use Rattle.std.specs.Arc.{arc_value};
-ghost use Rattle.once_cell.specs.Once.{cell_name};
 ghost use Rattle.kube_reflect.specs.DelayedInits.{abandoned, answer_of, learnt};
 
 use kube_meta::{NoMemory, Polled};
@@ -12,12 +10,13 @@ use std::marker::Model;
 use std::sync::{Arc, Wait};
 use thiserror::Error;
 
-/// The initializer was abandoned: no value follows.
+/// The initializer was abandoned: no value follows (kube-runtime's `delayed_init::InitDropped`).
 #[derive(Clone, Copy, Debug, PartialEq, Eq, Error)]
 #[error("initializer was dropped")]
 pub struct InitDropped;
 
-/// The side of a delayed value that sets its outcome: a value, or that none follows.
+/// The side of a delayed value that sets its outcome: a value, or that none follows (kube-runtime's
+/// `delayed_init::Initializer`).
 ///
 /// Contracts see it as the name of the cell that it sets. Where it is dropped and sets nothing, the other side never
 /// becomes ready.
@@ -48,7 +47,6 @@ pub struct InitNote<T> {
 
 impl<T> Model for InitNote<T> {
     ghost use Rattle.std.specs.Prelude.{◌≡◌, Some};
-    ghost use Rattle.kube_reflect.specs.declared.delayed_init.InitDropped.{InitDropped};
     ghost use Rattle.kube_reflect.specs.DelayedInits.{Noted};
 
     ghost Value = { Noted T };
@@ -58,7 +56,7 @@ impl<T> Model for InitNote<T> {
     ghost invariant = { λ n. n.note.known ≡ Some n.outcome };
 }
 
-/// The side of a delayed value that sees its outcome.
+/// The side of a delayed value that sees its outcome (kube-runtime's `DelayedInit`).
 ///
 /// Contracts see it as the name of its cell, what its looks found in the cell, and the outcome that it knows, which it
 /// found or learnt from a note.
@@ -126,7 +124,7 @@ impl<T: Copy> InitNote<T> {
 }
 
 impl<T: Copy> DelayedInit<T> {
-    /// The two sides of a value that nothing is known of yet.
+    /// The two sides of a value of which nothing is known yet, or `NoMemory` where memory could not be had.
     pub fn new(alloc: Global) -> Result<(Initializer<T>, DelayedInit<T>), NoMemory>
         ensures cell { IfOk result (λ p. p.1.cell ≡ p.0.cell) }
         ensures unknown { IfOk result (λ p. (p.1.found ≡ None) × (p.1.outcome ≡ None)) }
@@ -151,7 +149,7 @@ impl<T: Copy> DelayedInit<T> {
         self.outcome = self.outcome.or(Some(note.outcome));
     }
 
-    /// The outcome, once it is known, and then the same for good.
+    /// The outcome, once it is known, and then the same for good (`DelayedInit::get`, which waits for it).
     ///
     /// `NotReady` where no note was learnt, no look found an outcome before, and its look in this call finds none. `Err`
     /// is the outcome of an initializer that was abandoned.
