@@ -12,3 +12,4 @@ pub mod Reflects
 pub mod HeldEvents
 pub mod Reflectors
 pub mod Lending
+pub mod DelayedInits

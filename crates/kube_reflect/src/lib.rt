@@ -3,6 +3,7 @@
 #![tactic(auto)]
 
 pub mod cache;
+pub mod delayed_init;
 pub mod dispatcher;
 mod held;
 mod keeper;
@@ -17,6 +18,7 @@ pub mod store;
 mod stored;
 
 pub use cache::Cache;
+pub use delayed_init::{DelayedInit, InitDropped, InitNote, Initializer};
 pub use dispatcher::ReflectHandle;
 pub use kube_meta::{Lookup, ObjectRef};
 pub use reflecting::Reflector;
