@@ -12,7 +12,7 @@ use thiserror::Error;
 
 /// The initializer was abandoned: no value follows (kube-runtime's `delayed_init::InitDropped`).
 #[derive(Clone, Copy, Debug, PartialEq, Eq, Error)]
-#[error("initializer was dropped")]
+#[error("initializer was dropped before value was initialized")]
 pub struct InitDropped;
 
 /// The side of a delayed value that sets its outcome: a value, or that none follows (kube-runtime's

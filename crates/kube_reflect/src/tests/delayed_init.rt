@@ -104,6 +104,9 @@ fn one_thread_sets_what_another_sees(rt: HostRuntime) -> Result<(), Fail> {
 fn the_error_is_shown(rt: HostRuntime) -> Result<(), Fail> {
     let dropped = InitDropped;
     let shown = format!(in rt.alloc(); "{dropped}")?;
-    assert_eq!(rt; shown.as_str(), "initializer was dropped");
+    assert_eq!(rt;
+        shown.as_str(),
+        "initializer was dropped before value was initialized"
+    );
     Ok(())
 }
