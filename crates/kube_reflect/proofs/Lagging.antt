@@ -1,14 +1,14 @@
 -- On the lags of subscribers behind the references of a ring.
-use Rattle.std.proofs.Common.{◌≡◌, ℕ, zero, suc, ◌+◌, ◌-◌, ◌<◌, ◌≤◌, Bool, true, false, ◌&&◌, ◌||◌, nat_le, cond, if◌then◌else◌, List, [], ◌∷◌, ◌++◌, length, get_or, set, take, drop, map, Option, Some, None, refl, sym, ◌∙◌, ap, ap₂, subst, arith, append_assoc}
+use Rattle.std.proofs.Common.{◌≡◌, ℕ, zero, suc, ◌+◌, ◌-◌, ◌<◌, Bool, true, false, ◌&&◌, ◌||◌, nat_le, if◌then◌else◌, List, [], ◌∷◌, ◌++◌, length, get_or, set, take, drop, map, Option, Some, None, refl, sym, ◌∙◌, ap, ap₂, subst, arith, append_assoc}
 use Rattle.std.specs.Prelude.{slice_get, is_some, IfSome}
 use Rattle.std.specs.List.{list_all, list_any}
-use Rattle.std.specs.Option.{option_flatten, option_map}
+use Rattle.std.specs.Option.{option_flatten}
 use Rattle.std.proofs.lemmas.Bool.{leb-true, leb-false, le-leb}
-use Rattle.std.proofs.lemmas.List.{drop_more, drop_all, drop-drop, drop-append-le, length-map, length-drop, length_push, map-append, map-set, take_more_set, drop-set-lt}
+use Rattle.std.proofs.lemmas.List.{drop_more, drop-drop, drop-append-le, length-map, length-drop, length_push, map-append, map-set, take_more_set, drop-set-lt}
 use Rattle.std.proofs.lemmas.List.Folds.{list_all-append}
 use Rattle.kube_meta.specs.Reference.{Reference}
 use Rattle.kube_reflect.specs.Reads.{object_at}
-use Rattle.kube_reflect.specs.Subscribers.{Ring, first_stored, also, lags_by, is_full, offered, subscribed, with_waiting, waiting_for, left}
+use Rattle.kube_reflect.specs.Subscribers.{Ring, first_stored, also, lags_by, subscribed, with_waiting, waiting_for}
 use Rattle.kube_reflect.specs.Lags.{lagging, is_within, reaches, one_more, pushed}
 
 false_true : {P : Type 0} → false ≡ true → P

@@ -4,8 +4,8 @@ use Rattle.kube_meta.specs.declared.metadata.ObjectMeta.{ObjectMeta}
 use Rattle.kube_meta.specs.Reference.{ObjectType, Reference}
 use Rattle.kube_meta.specs.Keys.{key_of}
 use Rattle.kube_watch.specs.declared.event.Event.{Event}
-use Rattle.kube_reflect.specs.Cached.{Kept, applied, nothing, kept_after}
-use Rattle.kube_reflect.specs.Published.{Keeping, IsMade}
+use Rattle.kube_reflect.specs.Cached.{Kept, applied, nothing}
+use Rattle.kube_reflect.specs.Published.{IsMade}
 
 fold-more : {A B : Type 0} (f : B → A → B) (b : B) (xs : List A) (x : A) → fold f b (xs ++ x ∷ []) ≡ f (fold f b xs) x
 fold-more f b [] x = refl

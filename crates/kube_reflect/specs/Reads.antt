@@ -1,6 +1,5 @@
 -- Reads of stored objects, each beside its reference. (Crate: `reflector::Store`.)
 use Rattle.std.specs.Prelude.{◌≡◌, Bool, true, false, ◌⊎◌, List, [], ◌∷◌, map, Option, Some, None, unwrap_or}
-use Rattle.std.specs.List.{filter}
 use Rattle.std.specs.Option.{option_map}
 use Rattle.kube_meta.specs.declared.metadata.ObjectMeta.{ObjectMeta}
 use Rattle.kube_meta.specs.declared.selector.Expression.{Expression}

@@ -1,12 +1,9 @@
 -- A reflector as plain data, and what it is after its writer was lent. K is the type of objects, D that of their dynamic types.
-use Rattle.std.specs.Prelude.{Option}
 use Rattle.std.specs.Option.{option_map}
-use Rattle.std.specs.Borrow.{RattleType, Lends, MutBor, Fml}
 use Rattle.std.specs.declared.sync.Arc.{Arc}
 use Rattle.std.specs.declared.alloc.Global.{Global}
 use Rattle.kube_meta.specs.Reference.{ObjectType}
 use Rattle.kube_reflect.specs.declared.reflecting.Reflector.{Reflector}
-use Rattle.kube_reflect.specs.Writers.{Writing}
 use Rattle.kube_reflect.specs.Reflects.{Reflecting}
 use Rattle.kube_reflect.specs.HeldEvents.{held_of}
 

@@ -1,5 +1,5 @@
 -- What one subscriber has seen, over all that was offered and all its polls. (Crate: `ReflectHandle`.)
-use Rattle.std.specs.Prelude.{List, [], ◌∷◌, ◌++◌, length, take, ◌-◌, Option, Some, None}
+use Rattle.std.specs.Prelude.{List, [], ◌∷◌, ◌++◌, length, take, ◌-◌}
 use Rattle.kube_meta.specs.Reference.{Reference}
 use Rattle.kube_reflect.specs.Subscribers.{first_stored, left}
 

@@ -4,7 +4,6 @@ use Rattle.std.specs.Option.{option_map}
 use Rattle.logbook.specs.Pages.{Book}
 use Rattle.kube_meta.specs.Reference.{ObjectType, Reference}
 use Rattle.kube_meta.specs.declared.poll.Next.{Next}
-use Rattle.kube_meta.specs.declared.poll.Next.TheVariants.{NotReady}
 use Rattle.kube_reflect.specs.Cached.{Kept, nothing}
 use Rattle.kube_reflect.specs.Subscribers.{Ring, is_full, offered, subscribed, with_waiting, waiting_for, closed, first_stored, given, left}
 

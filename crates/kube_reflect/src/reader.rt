@@ -1,11 +1,10 @@
 //! Handles that read what a writer published (kube-runtime's `reflector::Store`).
 
-ghost use Rattle.std.specs.Prelude.{◌≡◌, ◌↔◌, [], IfOk, IsTrue, length, map};
+ghost use Rattle.std.specs.Prelude.{◌≡◌, ◌↔◌, [], IfOk, IsTrue, length, map, option_copied};
 ghost use Rattle.std.specs.List.{filter};
 ghost use Rattle.std.specs.Option.{option_map};
 ghost use Rattle.std.specs.Arc.{arc_value};
 ghost use Rattle.std.specs.Fn.{FnReturnsAt};
-ghost use Rattle.std.specs.Prelude.{option_copied};
 ghost use Rattle.kube_meta.specs.Keys.{reference_of};
 ghost use Rattle.kube_reflect.specs.Reads.{object_at, objects, IsFirst, IsFiltered, is_selected};
 ghost use Rattle.kube_reflect.specs.Published.{Publication, stored_in, readiness};

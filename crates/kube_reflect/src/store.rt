@@ -188,7 +188,8 @@ impl<K: Resource> Writer<K> {
         Some(Store::new(copies, self.sign.again()))
     }
 
-    /// Makes readable what is stored now. The note names it.
+    /// Makes readable what is stored now: handles then read this cache. The note is one of this writer. After want of memory
+    /// handles read what they read before.
     pub fn publish<R: Wait>(&mut self, rt: &R, alloc: Global) -> Result<Published<K>, NoMemory>
         ensures writer { self.new ≡ self.old }
         ensures note { IfOk result (λ n. n.book ≡ self.old.book) }

@@ -1,4 +1,4 @@
-use Rattle.std.proofs.Common.{arith, subst, ◌<◌, length, true, false}
+use Rattle.std.proofs.Common.{arith, subst, ◌<◌, length}
 use Rattle.std.specs.Arc.{arc_value}
 use Rattle.std.specs.Fn.{FnReturnsAt}
 use Rattle.kube_reflect.proofs.Reading.{first_here, first_later, first_none}

@@ -1,4 +1,4 @@
-use Rattle.std.proofs.Common.{arith, map, ap, ◌∙◌, ◌≡◌, subst, ◌<◌, length, true, false, rules}
+use Rattle.std.proofs.Common.{arith, map, ap, subst, ◌<◌, length}
 use Rattle.std.proofs.lemmas.Grind.{common_steps}
 use Rattle.std.specs.Arc.{arc_value}
 use Rattle.std.specs.Fn.{FnReturnsAt}

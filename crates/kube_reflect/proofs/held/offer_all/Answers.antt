@@ -1,4 +1,4 @@
-use Rattle.std.proofs.Common.{◌≡◌, ◌<◌, ◌∙◌, ap, sym, map, length, drop, arith}
+use Rattle.std.proofs.Common.{◌<◌, ◌∙◌, ap, sym, map, length, drop, arith}
 use Rattle.std.proofs.lemmas.List.{length-map, drop-drop}
 use Rattle.kube_meta.specs.Keys.{reference_of}
 use Rattle.kube_reflect.specs.Reflects.{offered_in}

@@ -1,7 +1,6 @@
-use Rattle.std.proofs.Common.{map, subst, inl}
+use Rattle.std.proofs.Common.{subst, inl}
 use Rattle.std.specs.Option.{option_map}
 use Rattle.std.specs.Arc.{arc_value}
-use Rattle.kube_meta.specs.Keys.{reference_of}
 use Rattle.kube_reflect.specs.Reflects.{IsOffered, event_offers}
 use Rattle.kube_reflect.specs.HeldEvents.{held_of}
 use Rattle.kube_reflect.proofs.held.take.Goals as goal

@@ -1,4 +1,4 @@
-use Rattle.std.proofs.Common.{◌≡◌, ◌∙◌, sym, ap, arith, replicate, Ok}
+use Rattle.std.proofs.Common.{◌∙◌, sym, arith, replicate, Ok}
 use Rattle.kube_meta.specs.declared.poll.Next.TheVariants.{Spent}
 use Rattle.kube_reflect.specs.Reflects.{Said}
 use Rattle.kube_reflect.proofs.Polling.{polls-push, polls-idle, gave-nothing, not-spent}

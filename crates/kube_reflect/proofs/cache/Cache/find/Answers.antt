@@ -1,4 +1,4 @@
-use Rattle.std.proofs.Common.{◌≡◌, ap, ◌∙◌, map, subst}
+use Rattle.std.proofs.Common.{ap, ◌∙◌, map, subst}
 use Rattle.std.specs.Option.{option_map, option_copied}
 use Rattle.std.specs.Arc.{arc_value}
 use Rattle.std.specs.Fn.{FnReturnsAt}

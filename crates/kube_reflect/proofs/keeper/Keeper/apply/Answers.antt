@@ -1,4 +1,4 @@
-use Rattle.std.proofs.Common.{refl, sym, ap, ap₂, ◌∙◌, true, []}
+use Rattle.std.proofs.Common.{refl, ap, ap₂, ◌∙◌, true}
 use Rattle.std.specs.Arc.{arc_value}
 use Rattle.kube_watch.specs.declared.event.Event.TheVariants.{Apply, Delete, Init, InitApply, InitDone}
 use Rattle.kube_reflect.specs.Cached.{put_under, drop_under}

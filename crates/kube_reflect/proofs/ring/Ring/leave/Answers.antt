@@ -1,4 +1,4 @@
-use Rattle.std.proofs.Common.{◌∙◌, ap, true, refl, length, None, map}
+use Rattle.std.proofs.Common.{◌∙◌, ap, refl, length, None, map}
 use Rattle.std.specs.List.{list_all}
 use Rattle.kube_meta.specs.Keys.{reference_of}
 use Rattle.kube_reflect.specs.Lags.{is_within}

@@ -1,9 +1,9 @@
-use Rattle.std.proofs.Common.{◌≡◌, ℕ, ◌∙◌, ap, ap₂, true, false, refl, sym, length, map, arith}
+use Rattle.std.proofs.Common.{◌∙◌, ap, ap₂, sym, length, map}
 use Rattle.std.specs.Prelude.{is_some}
 use Rattle.std.specs.List.{list_all, list_any}
 use Rattle.std.proofs.lemmas.List.{length-map, with_items_is}
 use Rattle.kube_meta.specs.Keys.{reference_of}
-use Rattle.kube_reflect.specs.Lags.{is_within, lagging, reaches, one_more, pushed}
+use Rattle.kube_reflect.specs.Lags.{is_within, reaches, one_more}
 use Rattle.kube_reflect.specs.Subscribers.{Ring, is_full, offered}
 use Rattle.kube_reflect.proofs.Lagging.{seen_ring, seen_waiting, any-reaches, none-told, told, within-told, map-pushed}
 use Rattle.kube_reflect.proofs.ring.Ring.offer.Goals as goal

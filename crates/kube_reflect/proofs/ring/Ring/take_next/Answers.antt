@@ -1,4 +1,4 @@
-use Rattle.std.proofs.Common.{◌≡◌, ℕ, ◌-◌, ◌≤◌, ◌∙◌, ap, true, refl, sym, length, drop, None, Some, map, subst, arith}
+use Rattle.std.proofs.Common.{◌≡◌, ◌-◌, ◌≤◌, ◌∙◌, ap, sym, length, drop, Some, map, subst, arith}
 use Rattle.std.specs.Prelude.{slice_get, IfSome}
 use Rattle.std.specs.List.{list_all}
 use Rattle.std.specs.Arc.{arc_value}
@@ -7,8 +7,8 @@ use Rattle.std.proofs.lemmas.List.{length-map, drop_all}
 use Rattle.std.proofs.lemmas.Bool.{le-leb}
 use Rattle.kube_meta.specs.Keys.{reference_of}
 use Rattle.kube_meta.specs.declared.poll.Next.TheVariants.{Item}
-use Rattle.kube_reflect.specs.Lags.{is_within, lagging}
-use Rattle.kube_reflect.specs.Subscribers.{Ring, first_stored, given, left, with_waiting, next_map}
+use Rattle.kube_reflect.specs.Lags.{is_within}
+use Rattle.kube_reflect.specs.Subscribers.{first_stored, given, left, with_waiting, next_map}
 use Rattle.kube_reflect.proofs.Lagging.{within-set, with_lag, for_waiting, seen_ring}
 use Rattle.kube_reflect.proofs.ring.Ring.take_next.Goals as goal
 
