@@ -92,8 +92,8 @@ fn reflect<K: Resource>(
     }
 }
 
-/// The fault of an answer.
-fn fault_of<K: Resource>(answer: &Answer<K>) -> Option<StreamFault>
+/// The fault of an answer of a stream, if it is one.
+pub fn fault_of<I>(answer: &Result<Next<Result<I, Error>>, StreamFault>) -> Option<StreamFault>
     ensures { result ≡ fault_in answer.now }
 {
     match answer {

@@ -3,9 +3,8 @@
 ghost use Rattle.std.specs.Prelude.{◌≡◌, Some, None};
 ghost use Rattle.kube_streams.specs.Completes.{CanCall, IsCalledAt, WasCalled, left_after};
 
-use crate::faults::fault_of;
 use kube_meta::{Moment, Next};
-use kube_reflect::reflecting::ask;
+use kube_reflect::reflecting::{ask, fault_of};
 use kube_watch::{Error, EventStream, StreamFault};
 use std::alloc::Global;
 use std::marker::Model;

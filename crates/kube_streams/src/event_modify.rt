@@ -4,9 +4,8 @@ ghost use Rattle.std.specs.Prelude.{◌≡◌, None};
 ghost use Rattle.std.specs.Fn.{CalledAtMut};
 ghost use Rattle.kube_streams.specs.Modifies.{AnswerChanged, IsChanged};
 
-use crate::faults::fault_of;
 use kube_meta::{Moment, Next};
-use kube_reflect::reflecting::ask;
+use kube_reflect::reflecting::{ask, fault_of};
 use kube_watch::{Error, Event, EventStream, StreamFault};
 use std::alloc::Global;
 use std::marker::Model;

@@ -8,7 +8,6 @@ pub mod complete;
 pub mod event_decode;
 pub mod event_modify;
 pub mod exponential;
-mod faults;
 mod fold;
 pub mod laws;
 pub mod plain_backoffs;

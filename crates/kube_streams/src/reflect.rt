@@ -4,9 +4,8 @@ ghost use Rattle.std.specs.Prelude.{◌≡◌, None};
 ghost use Rattle.std.specs.Arc.{arc_value};
 ghost use Rattle.kube_streams.specs.Applies.{AnswerApplied, IsApplied};
 
-use crate::faults::fault_of;
 use kube_meta::{Moment, Next, Resource};
-use kube_reflect::reflecting::ask;
+use kube_reflect::reflecting::{ask, fault_of};
 use kube_reflect::{WriteError, Writer};
 use kube_watch::{Error, Event, EventStream, StreamFault};
 use std::alloc::Global;
