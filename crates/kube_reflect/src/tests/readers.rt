@@ -1,5 +1,7 @@
 //! Store handles: what they read, and when.
 
+ghost use Rattle.std.specs.Prelude.{◌≡◌};
+
 use super::node::Node;
 use super::objects::{alone, config_maps, labelled, name_of, object, reference};
 use super::share::{Maps, shared, subscriber};
@@ -28,7 +30,9 @@ fn with_handle(rt: &impl Abort, alloc: Global) -> Result<(Reads, Maps), NoMemory
 }
 
 /// An object of this name is applied.
-fn apply(alloc: Global, writer: &mut Maps, name: &str) -> Result<(), Fail> {
+fn apply(alloc: Global, writer: &mut Maps, name: &str) -> Result<(), Fail>
+    ensures { writer.new.book ≡ writer.old.book }
+{
     writer.apply_watcher_event(alloc, &Event::Apply(object(alloc, name, "", "")?))?;
     Ok(())
 }
