@@ -5,6 +5,7 @@ use crate::{WriteError, Writer};
 use kube_meta::{DynamicObject, Expression, ObjectRef, Selector, Text};
 use kube_watch::Event;
 use std::alloc::Global;
+use std::process::Abort;
 use std::test::Fail;
 
 /// The names of the stored objects, each with a comma behind it.
@@ -17,26 +18,47 @@ fn stored(alloc: Global, writer: &Writer<DynamicObject>) -> Result<String, Fail>
     Ok(names)
 }
 
+/// Checks the names of the stored objects.
+fn check_stored(
+    rt: &impl Abort,
+    alloc: Global,
+    writer: &Writer<DynamicObject>,
+    wanted: &str,
+) -> Result<(), Fail> {
+    let names = stored(alloc, writer)?;
+    assert_eq!(rt; names.as_str(), wanted);
+    Ok(())
+}
+
 /// Whether there is an object under this reference.
 fn has(writer: &Writer<DynamicObject>, reference: &ObjectRef<DynamicObject>) -> bool {
     writer.cache().get(reference).is_some()
+}
+
+/// A list of `b` alone, where `a` is stored.
+fn list_b_over_a(
+    rt: &impl Abort,
+    alloc: Global,
+    writer: &mut Writer<DynamicObject>,
+) -> Result<(), Fail> {
+    writer.apply_watcher_event(alloc, &Event::Apply(object(alloc, "a", "", "")?))?;
+    writer.apply_watcher_event(alloc, &Event::Init)?;
+    writer.apply_watcher_event(alloc, &Event::InitApply(object(alloc, "b", "", "")?))?;
+    assert!(rt; has(writer, &reference(alloc, "a")?));
+    assert!(rt; !has(writer, &reference(alloc, "b")?));
+    assert!(rt; !writer.is_ready());
+    writer.apply_watcher_event(alloc, &Event::InitDone)?;
+    assert!(rt; !has(writer, &reference(alloc, "a")?));
+    assert!(rt; has(writer, &reference(alloc, "b")?));
+    assert!(rt; writer.is_ready());
+    Ok(())
 }
 
 #[test]
 fn a_complete_list_replaces_the_store(rt: HostRuntime) -> Result<(), Fail> {
     let alloc = rt.alloc();
     let mut writer = alone(alloc)?;
-    writer.apply_watcher_event(alloc, &Event::Apply(object(alloc, "a", "", "")?))?;
-    writer.apply_watcher_event(alloc, &Event::Init)?;
-    writer.apply_watcher_event(alloc, &Event::InitApply(object(alloc, "b", "", "")?))?;
-    assert!(rt; has(&writer, &reference(alloc, "a")?));
-    assert!(rt; !has(&writer, &reference(alloc, "b")?));
-    assert!(rt; !writer.is_ready());
-    writer.apply_watcher_event(alloc, &Event::InitDone)?;
-    assert!(rt; !has(&writer, &reference(alloc, "a")?));
-    assert!(rt; has(&writer, &reference(alloc, "b")?));
-    assert!(rt; writer.is_ready());
-    Ok(())
+    list_b_over_a(&rt, alloc, &mut writer)
 }
 
 #[test]
@@ -49,14 +71,23 @@ fn a_list_may_end_that_did_not_begin(rt: HostRuntime) -> Result<(), Fail> {
     Ok(())
 }
 
+/// Looks for what is stored within a namespace.
+fn look_within_a_namespace(
+    rt: &impl Abort,
+    alloc: Global,
+    writer: &mut Writer<DynamicObject>,
+) -> Result<(), Fail> {
+    writer.apply_watcher_event(alloc, &Event::Apply(object(alloc, "a", "ns", "")?))?;
+    assert!(rt; !has(writer, &reference(alloc, "a")?));
+    assert!(rt; has(writer, &reference(alloc, "a")?.within(alloc, "ns")?));
+    Ok(())
+}
+
 #[test]
 fn a_namespace_is_part_of_the_reference(rt: HostRuntime) -> Result<(), Fail> {
     let alloc = rt.alloc();
     let mut writer = alone(alloc)?;
-    writer.apply_watcher_event(alloc, &Event::Apply(object(alloc, "a", "ns", "")?))?;
-    assert!(rt; !has(&writer, &reference(alloc, "a")?));
-    assert!(rt; has(&writer, &reference(alloc, "a")?.within(alloc, "ns")?));
-    Ok(())
+    look_within_a_namespace(&rt, alloc, &mut writer)
 }
 
 #[test]
@@ -68,21 +99,27 @@ fn a_cluster_scoped_object_is_found_within_a_namespace(rt: HostRuntime) -> Resul
     Ok(())
 }
 
+/// Applies two objects, changes one and deletes it.
+fn change_and_delete(
+    rt: &impl Abort,
+    alloc: Global,
+    writer: &mut Writer<DynamicObject>,
+) -> Result<(), Fail> {
+    writer.apply_watcher_event(alloc, &Event::Apply(object(alloc, "a", "", "1")?))?;
+    writer.apply_watcher_event(alloc, &Event::Apply(object(alloc, "b", "", "1")?))?;
+    writer.apply_watcher_event(alloc, &Event::Apply(object(alloc, "a", "", "2")?))?;
+    check_stored(rt, alloc, writer, "a,b,")?;
+    let found = writer.cache().get(&reference(alloc, "a")?);
+    assert_eq!(rt; found.map(|object| version_of(&**object)), Some("2"));
+    writer.apply_watcher_event(alloc, &Event::Delete(object(alloc, "a", "", "2")?))?;
+    check_stored(rt, alloc, writer, "b,")
+}
+
 #[test]
 fn objects_are_applied_changed_and_deleted(rt: HostRuntime) -> Result<(), Fail> {
     let alloc = rt.alloc();
     let mut writer = alone(alloc)?;
-    writer.apply_watcher_event(alloc, &Event::Apply(object(alloc, "a", "", "1")?))?;
-    writer.apply_watcher_event(alloc, &Event::Apply(object(alloc, "b", "", "1")?))?;
-    writer.apply_watcher_event(alloc, &Event::Apply(object(alloc, "a", "", "2")?))?;
-    let names = stored(alloc, &writer)?;
-    assert_eq!(rt; names.as_str(), "a,b,");
-    let found = writer.cache().get(&reference(alloc, "a")?);
-    assert_eq!(rt; found.map(|object| version_of(&**object)), Some("2"));
-    writer.apply_watcher_event(alloc, &Event::Delete(object(alloc, "a", "", "2")?))?;
-    let names = stored(alloc, &writer)?;
-    assert_eq!(rt; names.as_str(), "b,");
-    Ok(())
+    change_and_delete(&rt, alloc, &mut writer)
 }
 
 #[test]
@@ -95,10 +132,12 @@ fn an_object_without_a_name_is_refused(rt: HostRuntime) -> Result<(), Fail> {
     Ok(())
 }
 
-#[test]
-fn objects_are_filtered(rt: HostRuntime) -> Result<(), Fail> {
-    let alloc = rt.alloc();
-    let mut writer = alone(alloc)?;
+/// Filters two objects by name and by label.
+fn filter_by_name_and_label(
+    rt: &impl Abort,
+    alloc: Global,
+    writer: &mut Writer<DynamicObject>,
+) -> Result<(), Fail> {
     writer.apply_watcher_event(alloc, &Event::Apply(labelled(alloc, "cm1", "nginx")?))?;
     writer.apply_watcher_event(alloc, &Event::Apply(labelled(alloc, "cm2", "postgres")?))?;
     let chosen = writer
@@ -121,9 +160,18 @@ fn objects_are_filtered(rt: HostRuntime) -> Result<(), Fail> {
 }
 
 #[test]
-fn an_object_is_found_by_what_it_has(rt: HostRuntime) -> Result<(), Fail> {
+fn objects_are_filtered(rt: HostRuntime) -> Result<(), Fail> {
     let alloc = rt.alloc();
     let mut writer = alone(alloc)?;
+    filter_by_name_and_label(&rt, alloc, &mut writer)
+}
+
+/// Looks for an object by its version, before and after it is applied.
+fn find_by_version(
+    rt: &impl Abort,
+    alloc: Global,
+    writer: &mut Writer<DynamicObject>,
+) -> Result<(), Fail> {
     assert!(rt; writer.cache().is_empty());
     writer.apply_watcher_event(alloc, &Event::Apply(object(alloc, "a", "", "")?))?;
     let found = writer.cache().find(|object| version_of(object) == "1234");
@@ -136,22 +184,41 @@ fn an_object_is_found_by_what_it_has(rt: HostRuntime) -> Result<(), Fail> {
 }
 
 #[test]
-fn a_reference_is_of_one_kind(rt: HostRuntime) -> Result<(), Fail> {
+fn an_object_is_found_by_what_it_has(rt: HostRuntime) -> Result<(), Fail> {
     let alloc = rt.alloc();
     let mut writer = alone(alloc)?;
-    writer.apply_watcher_event(alloc, &Event::Apply(object(alloc, "a", "", "")?))?;
-    let other = ObjectRef::new_with(alloc, "a", kind(alloc, "Pod", "pods")?)?;
-    assert!(rt; !has(&writer, &other));
-    let mut pods = Writer::new(alloc, kind(alloc, "Pod", "pods")?, 1)?;
-    pods.apply_watcher_event(alloc, &Event::Apply(object(alloc, "a", "", "")?))?;
-    assert!(rt; has(&pods, &other));
-    assert!(rt;
-        !has(
-            &pods,
-            &ObjectRef::new_with(alloc, "a", config_maps(alloc)?)?
-        )
-    );
+    find_by_version(&rt, alloc, &mut writer)
+}
+
+/// An object of this name is applied.
+fn apply_named(alloc: Global, writer: &mut Writer<DynamicObject>, name: &str) -> Result<(), Fail> {
+    writer.apply_watcher_event(alloc, &Event::Apply(object(alloc, name, "", "")?))?;
     Ok(())
+}
+
+/// Looks for a pod among config maps, and the other way round.
+fn look_under_two_kinds(
+    rt: &impl Abort,
+    alloc: Global,
+    maps: &Writer<DynamicObject>,
+    pods: &Writer<DynamicObject>,
+) -> Result<(), Fail> {
+    let pod = ObjectRef::new_with(alloc, "a", kind(alloc, "Pod", "pods")?)?;
+    assert!(rt; !has(maps, &pod));
+    assert!(rt; has(pods, &pod));
+    let map = ObjectRef::new_with(alloc, "a", config_maps(alloc)?)?;
+    assert!(rt; !has(pods, &map));
+    Ok(())
+}
+
+#[test]
+fn a_reference_is_of_one_kind(rt: HostRuntime) -> Result<(), Fail> {
+    let alloc = rt.alloc();
+    let mut maps = alone(alloc)?;
+    apply_named(alloc, &mut maps, "a")?;
+    let mut pods = Writer::new(alloc, kind(alloc, "Pod", "pods")?, 1)?;
+    apply_named(alloc, &mut pods, "a")?;
+    look_under_two_kinds(&rt, alloc, &maps, &pods)
 }
 
 /// The next of numbers that look like chance.
@@ -190,16 +257,25 @@ fn doubled(alloc: Global, writer: &Writer<DynamicObject>) -> Result<usize, Fail>
     Ok(count)
 }
 
+/// Applies many events of a hundred objects.
+fn apply_many(
+    rt: &impl Abort,
+    alloc: Global,
+    writer: &mut Writer<DynamicObject>,
+) -> Result<(), Fail> {
+    let mut state = 1;
+    for _ in 0..100_000 {
+        state = next_number(state);
+        apply_any(alloc, writer, state)?;
+    }
+    assert_eq!(rt; doubled(alloc, writer)?, 0);
+    assert!(rt; writer.cache().len() > 10);
+    Ok(())
+}
+
 #[test]
 fn no_name_is_stored_twice(rt: HostRuntime) -> Result<(), Fail> {
     let alloc = rt.alloc();
     let mut writer = alone(alloc)?;
-    let mut state = 1;
-    for _ in 0..100_000 {
-        state = next_number(state);
-        apply_any(alloc, &mut writer, state)?;
-    }
-    assert_eq!(rt; doubled(alloc, &writer)?, 0);
-    assert!(rt; writer.cache().len() > 10);
-    Ok(())
+    apply_many(&rt, alloc, &mut writer)
 }

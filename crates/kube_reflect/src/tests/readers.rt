@@ -89,15 +89,39 @@ fn a_subscription_hands_out_reader_places(rt: HostRuntime) -> Result<(), Fail> {
     Ok(())
 }
 
+/// Asks whether a handle is ready, before and after a list is published.
+fn publish_a_list<R: Abort + Wait>(
+    rt: &R,
+    alloc: Global,
+    reads: &mut Reads,
+    writer: &mut Maps,
+) -> Result<(), Fail> {
+    assert_eq!(rt; word(reads.poll_ready(rt)), "not ready");
+    writer.apply_watcher_event(alloc, &Event::InitDone)?;
+    assert_eq!(rt; word(reads.poll_ready(rt)), "not ready");
+    writer.publish(rt, alloc)?;
+    assert_eq!(rt; word(reads.poll_ready(rt)), "ready");
+    Ok(())
+}
+
 #[test]
 fn a_handle_is_ready_once_a_list_is_published(rt: HostRuntime) -> Result<(), Fail> {
     let alloc = rt.alloc();
     let (mut reads, mut writer) = with_handle(&rt, alloc)?;
-    assert_eq!(rt; word(reads.poll_ready(&rt)), "not ready");
-    writer.apply_watcher_event(alloc, &Event::InitDone)?;
-    assert_eq!(rt; word(reads.poll_ready(&rt)), "not ready");
-    writer.publish(&rt, alloc)?;
-    assert_eq!(rt; word(reads.poll_ready(&rt)), "ready");
+    publish_a_list(&rt, alloc, &mut reads, &mut writer)
+}
+
+/// Publishes an object before any list.
+fn publish_without_a_list<R: Abort + Wait>(
+    rt: &R,
+    alloc: Global,
+    reads: &mut Reads,
+    writer: &mut Maps,
+) -> Result<(), Fail> {
+    apply(alloc, writer, "a")?;
+    writer.publish(rt, alloc)?;
+    assert_eq!(rt; word(reads.poll_ready(rt)), "not ready");
+    assert_eq!(rt; reads.len(rt), 1);
     Ok(())
 }
 
@@ -105,11 +129,7 @@ fn a_handle_is_ready_once_a_list_is_published(rt: HostRuntime) -> Result<(), Fai
 fn a_writer_may_publish_before_its_first_list(rt: HostRuntime) -> Result<(), Fail> {
     let alloc = rt.alloc();
     let (mut reads, mut writer) = with_handle(&rt, alloc)?;
-    apply(alloc, &mut writer, "a")?;
-    writer.publish(&rt, alloc)?;
-    assert_eq!(rt; word(reads.poll_ready(&rt)), "not ready");
-    assert_eq!(rt; reads.len(&rt), 1);
-    Ok(())
+    publish_without_a_list(&rt, alloc, &mut reads, &mut writer)
 }
 
 #[test]
@@ -135,18 +155,43 @@ fn a_writer_that_ends_after_its_list_leaves_it_ready(rt: HostRuntime) -> Result<
     Ok(())
 }
 
+/// Reads before and after each of two publishes.
+fn read_between_publishes<R: Abort + Wait>(
+    rt: &R,
+    alloc: Global,
+    reads: &mut Reads,
+    writer: &mut Maps,
+) -> Result<(), Fail> {
+    apply(alloc, writer, "a")?;
+    assert!(rt; reads.is_empty(rt));
+    writer.publish(rt, alloc)?;
+    assert!(rt; !reads.is_empty(rt));
+    apply(alloc, writer, "b")?;
+    assert_eq!(rt; names(alloc, &reads.state(rt, alloc)?)?.as_str(), "a,");
+    writer.publish(rt, alloc)?;
+    assert_eq!(rt; names(alloc, &reads.state(rt, alloc)?)?.as_str(), "a,b,");
+    Ok(())
+}
+
 #[test]
 fn a_read_gives_what_was_published(rt: HostRuntime) -> Result<(), Fail> {
     let alloc = rt.alloc();
     let (mut reads, mut writer) = with_handle(&rt, alloc)?;
-    apply(alloc, &mut writer, "a")?;
-    assert!(rt; reads.is_empty(&rt));
-    writer.publish(&rt, alloc)?;
-    assert!(rt; !reads.is_empty(&rt));
-    apply(alloc, &mut writer, "b")?;
-    assert_eq!(rt; names(alloc, &reads.state(&rt, alloc)?)?.as_str(), "a,");
-    writer.publish(&rt, alloc)?;
-    assert_eq!(rt; names(alloc, &reads.state(&rt, alloc)?)?.as_str(), "a,b,");
+    read_between_publishes(&rt, alloc, &mut reads, &mut writer)
+}
+
+/// Reads the keys after an object was deleted.
+fn read_after_a_delete<R: Abort + Wait>(
+    rt: &R,
+    alloc: Global,
+    reads: &mut Reads,
+    writer: &mut Maps,
+) -> Result<(), Fail> {
+    apply(alloc, writer, "a")?;
+    apply(alloc, writer, "b")?;
+    writer.apply_watcher_event(alloc, &Event::Delete(object(alloc, "a", "", "")?))?;
+    writer.publish(rt, alloc)?;
+    assert_eq!(rt; keys(alloc, &reads.keys(rt, alloc)?)?.as_str(), "b,");
     Ok(())
 }
 
@@ -154,11 +199,22 @@ fn a_read_gives_what_was_published(rt: HostRuntime) -> Result<(), Fail> {
 fn what_is_deleted_is_no_longer_read(rt: HostRuntime) -> Result<(), Fail> {
     let alloc = rt.alloc();
     let (mut reads, mut writer) = with_handle(&rt, alloc)?;
-    apply(alloc, &mut writer, "a")?;
-    apply(alloc, &mut writer, "b")?;
-    writer.apply_watcher_event(alloc, &Event::Delete(object(alloc, "a", "", "")?))?;
-    writer.publish(&rt, alloc)?;
-    assert_eq!(rt; keys(alloc, &reads.keys(&rt, alloc)?)?.as_str(), "b,");
+    read_after_a_delete(&rt, alloc, &mut reads, &mut writer)
+}
+
+/// Gets an object, one that is not there, and one within a namespace.
+fn get_each<R: Abort + Wait>(
+    rt: &R,
+    alloc: Global,
+    reads: &mut Reads,
+    writer: &mut Maps,
+) -> Result<(), Fail> {
+    apply(alloc, writer, "a")?;
+    writer.publish(rt, alloc)?;
+    assert!(rt; reads.get(rt, alloc, &reference(alloc, "a")?)?.is_some());
+    assert!(rt; reads.get(rt, alloc, &reference(alloc, "b")?)?.is_none());
+    let within = reference(alloc, "a")?.within(alloc, "ns")?;
+    assert!(rt; reads.get(rt, alloc, &within)?.is_some());
     Ok(())
 }
 
@@ -166,12 +222,23 @@ fn what_is_deleted_is_no_longer_read(rt: HostRuntime) -> Result<(), Fail> {
 fn an_object_is_read_by_its_reference(rt: HostRuntime) -> Result<(), Fail> {
     let alloc = rt.alloc();
     let (mut reads, mut writer) = with_handle(&rt, alloc)?;
-    apply(alloc, &mut writer, "a")?;
-    writer.publish(&rt, alloc)?;
-    assert!(rt; reads.get(&rt, alloc, &reference(alloc, "a")?)?.is_some());
-    assert!(rt; reads.get(&rt, alloc, &reference(alloc, "b")?)?.is_none());
-    let within = reference(alloc, "a")?.within(alloc, "ns")?;
-    assert!(rt; reads.get(&rt, alloc, &within)?.is_some());
+    get_each(&rt, alloc, &mut reads, &mut writer)
+}
+
+/// Finds an object, and one that is not there.
+fn find_each<R: Abort + Wait>(
+    rt: &R,
+    alloc: Global,
+    reads: &mut Reads,
+    writer: &mut Maps,
+) -> Result<(), Fail> {
+    apply(alloc, writer, "a")?;
+    apply(alloc, writer, "b")?;
+    writer.publish(rt, alloc)?;
+    let found = reads.find(rt, alloc, |o: &DynamicObject| -> bool { name_of(o) == "b" })?;
+    assert_eq!(rt; found.as_ref().map(|o| name_of(&**o)), Some("b"));
+    let none = reads.find(rt, alloc, |o: &DynamicObject| -> bool { name_of(o) == "c" })?;
+    assert!(rt; none.is_none());
     Ok(())
 }
 
@@ -179,17 +246,21 @@ fn an_object_is_read_by_its_reference(rt: HostRuntime) -> Result<(), Fail> {
 fn the_first_object_that_passes_is_found(rt: HostRuntime) -> Result<(), Fail> {
     let alloc = rt.alloc();
     let (mut reads, mut writer) = with_handle(&rt, alloc)?;
-    apply(alloc, &mut writer, "a")?;
-    apply(alloc, &mut writer, "b")?;
-    writer.publish(&rt, alloc)?;
-    let found = reads.find(&rt, alloc, |o: &DynamicObject| -> bool {
-        name_of(o) == "b"
-    })?;
-    assert_eq!(rt; found.as_ref().map(|o| name_of(&**o)), Some("b"));
-    let none = reads.find(&rt, alloc, |o: &DynamicObject| -> bool {
-        name_of(o) == "c"
-    })?;
-    assert!(rt; none.is_none());
+    find_each(&rt, alloc, &mut reads, &mut writer)
+}
+
+/// Reads all objects but one.
+fn filter_out_a<R: Abort + Wait>(
+    rt: &R,
+    alloc: Global,
+    reads: &mut Reads,
+    writer: &mut Maps,
+) -> Result<(), Fail> {
+    apply(alloc, writer, "a")?;
+    apply(alloc, writer, "b")?;
+    writer.publish(rt, alloc)?;
+    let passed = reads.state_filter(rt, alloc, |o: &DynamicObject| -> bool { name_of(o) != "a" })?;
+    assert_eq!(rt; names(alloc, &passed)?.as_str(), "b,");
     Ok(())
 }
 
@@ -197,13 +268,23 @@ fn the_first_object_that_passes_is_found(rt: HostRuntime) -> Result<(), Fail> {
 fn objects_are_read_that_pass(rt: HostRuntime) -> Result<(), Fail> {
     let alloc = rt.alloc();
     let (mut reads, mut writer) = with_handle(&rt, alloc)?;
-    apply(alloc, &mut writer, "a")?;
-    apply(alloc, &mut writer, "b")?;
-    writer.publish(&rt, alloc)?;
-    let passed = reads.state_filter(&rt, alloc, |o: &DynamicObject| -> bool {
-        name_of(o) != "a"
-    })?;
-    assert_eq!(rt; names(alloc, &passed)?.as_str(), "b,");
+    filter_out_a(&rt, alloc, &mut reads, &mut writer)
+}
+
+/// Reads the objects with a label.
+fn select_web<R: Abort + Wait>(
+    rt: &R,
+    alloc: Global,
+    reads: &mut Reads,
+    writer: &mut Maps,
+) -> Result<(), Fail> {
+    apply(alloc, writer, "a")?;
+    writer.apply_watcher_event(alloc, &Event::Apply(labelled(alloc, "b", "web")?))?;
+    writer.publish(rt, alloc)?;
+    let mut selector = Selector::new(alloc);
+    selector.push(Expression::Equal(Text::new(alloc, "app")?, Text::new(alloc, "web")?))?;
+    let selected = reads.state_filter_selector(rt, alloc, &selector)?;
+    assert_eq!(rt; names(alloc, &selected)?.as_str(), "b,");
     Ok(())
 }
 
@@ -211,13 +292,27 @@ fn objects_are_read_that_pass(rt: HostRuntime) -> Result<(), Fail> {
 fn objects_are_read_that_a_selector_selects(rt: HostRuntime) -> Result<(), Fail> {
     let alloc = rt.alloc();
     let (mut reads, mut writer) = with_handle(&rt, alloc)?;
-    apply(alloc, &mut writer, "a")?;
-    writer.apply_watcher_event(alloc, &Event::Apply(labelled(alloc, "b", "web")?))?;
-    writer.publish(&rt, alloc)?;
-    let mut selector = Selector::new(alloc);
-    selector.push(Expression::Equal(Text::new(alloc, "app")?, Text::new(alloc, "web")?))?;
-    let selected = reads.state_filter_selector(&rt, alloc, &selector)?;
-    assert_eq!(rt; names(alloc, &selected)?.as_str(), "b,");
+    select_web(&rt, alloc, &mut reads, &mut writer)
+}
+
+/// Both handles learn what is published, and one of them twice.
+fn learn_thrice<R: Abort + Wait>(
+    rt: &R,
+    alloc: Global,
+    first: &mut Reads,
+    second: &mut Reads,
+    writer: &mut Maps,
+) -> Result<(), Fail>
+    requires first { first.old.book ≡ writer.old.book }
+    requires second { second.old.book ≡ writer.old.book }
+{
+    apply(alloc, writer, "a")?;
+    let mut note = writer.publish(rt, alloc)?;
+    first.learn(&mut note);
+    second.learn(&mut note);
+    first.learn(&mut note);
+    assert_eq!(rt; first.len(rt), 1);
+    assert_eq!(rt; second.len(rt), 1);
     Ok(())
 }
 
@@ -227,14 +322,7 @@ fn a_note_is_learnt_by_each_handle(rt: HostRuntime) -> Result<(), Fail> {
     let mut writer = with_places(alloc, 2)?;
     let mut first = writer.as_reader().expect(&rt, "a place is left");
     let mut second = writer.as_reader().expect(&rt, "a place is left");
-    apply(alloc, &mut writer, "a")?;
-    let mut note = writer.publish(&rt, alloc)?;
-    first.learn(&mut note);
-    second.learn(&mut note);
-    first.learn(&mut note);
-    assert_eq!(rt; first.len(&rt), 1);
-    assert_eq!(rt; second.len(&rt), 1);
-    Ok(())
+    learn_thrice(&rt, alloc, &mut first, &mut second, &mut writer)
 }
 
 #[test]

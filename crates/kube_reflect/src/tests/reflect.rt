@@ -128,17 +128,22 @@ fn changes(alloc: Global) -> Result<Script, Fail> {
     )
 }
 
+/// Checks what is given of the changes.
+fn check_changes(rt: &impl Abort, alloc: Global, reflected: &mut Reflected) -> Result<(), Fail> {
+    check_stored(rt, alloc, reflected, "Apply(foo)", 1)?;
+    check_stored(rt, alloc, reflected, "error", 1)?;
+    check_stored(rt, alloc, reflected, "Init", 1)?;
+    check_stored(rt, alloc, reflected, "InitApply(foo)", 1)?;
+    check_stored(rt, alloc, reflected, "InitApply(bar)", 1)?;
+    check_stored(rt, alloc, reflected, "InitDone", 2)?;
+    check_stored(rt, alloc, reflected, "end", 2)
+}
+
 #[test]
 fn a_reflector_gives_what_it_applies(rt: HostRuntime) -> Result<(), Fail> {
     let alloc = rt.alloc();
     let mut reflected = reflector(alone(alloc)?, changes(alloc)?);
-    check_stored(&rt, alloc, &mut reflected, "Apply(foo)", 1)?;
-    check_stored(&rt, alloc, &mut reflected, "error", 1)?;
-    check_stored(&rt, alloc, &mut reflected, "Init", 1)?;
-    check_stored(&rt, alloc, &mut reflected, "InitApply(foo)", 1)?;
-    check_stored(&rt, alloc, &mut reflected, "InitApply(bar)", 1)?;
-    check_stored(&rt, alloc, &mut reflected, "InitDone", 2)?;
-    check_stored(&rt, alloc, &mut reflected, "end", 2)?;
+    check_changes(&rt, alloc, &mut reflected)?;
     let writer = reflected.into_writer();
     assert!(rt; writer.is_ready());
     Ok(())
@@ -148,13 +153,15 @@ fn a_reflector_gives_what_it_applies(rt: HostRuntime) -> Result<(), Fail> {
 fn a_shared_reflector_gives_what_it_applies(rt: HostRuntime) -> Result<(), Fail> {
     let alloc = rt.alloc();
     let mut reflected = reflector(shared(alloc, 10)?, changes(alloc)?);
-    check_stored(&rt, alloc, &mut reflected, "Apply(foo)", 1)?;
-    check_stored(&rt, alloc, &mut reflected, "error", 1)?;
-    check_stored(&rt, alloc, &mut reflected, "Init", 1)?;
-    check_stored(&rt, alloc, &mut reflected, "InitApply(foo)", 1)?;
-    check_stored(&rt, alloc, &mut reflected, "InitApply(bar)", 1)?;
-    check_stored(&rt, alloc, &mut reflected, "InitDone", 2)?;
-    check_stored(&rt, alloc, &mut reflected, "end", 2)
+    check_changes(&rt, alloc, &mut reflected)
+}
+
+/// Checks what is given where some answers give nothing.
+fn check_counted(rt: &impl Abort, alloc: Global, reflected: &mut Reflected) -> Result<(), Fail> {
+    check_poll(rt, alloc, reflected, "spent")?;
+    check_poll(rt, alloc, reflected, "not ready")?;
+    check_poll(rt, alloc, reflected, "Apply(a)")?;
+    check_poll(rt, alloc, reflected, "end")
 }
 
 #[test]
@@ -172,10 +179,7 @@ fn answers_that_give_nothing_are_counted(rt: HostRuntime) -> Result<(), Fail> {
         ],
     )?;
     let mut reflected = reflector(alone(alloc)?, script);
-    check_poll(&rt, alloc, &mut reflected, "spent")?;
-    check_poll(&rt, alloc, &mut reflected, "not ready")?;
-    check_poll(&rt, alloc, &mut reflected, "Apply(a)")?;
-    check_poll(&rt, alloc, &mut reflected, "end")
+    check_counted(&rt, alloc, &mut reflected)
 }
 
 #[test]
@@ -218,6 +222,33 @@ fn check_shared(
     Ok(())
 }
 
+/// Checks what is given where two subscribers have room for one offer.
+fn check_slow(
+    rt: &impl Abort,
+    alloc: Global,
+    fast: &mut Handle,
+    slow: &mut Handle,
+    reflected: &mut Reflected,
+) -> Result<(), Fail>
+    requires fast { is_live reflected.old.writer fast.old.number ≡ true }
+    requires slow { is_live reflected.old.writer slow.old.number ≡ true }
+{
+    check_shared(rt, alloc, reflected, "Apply(foo)")?;
+    check_shared(rt, alloc, reflected, "not ready")?;
+    check_taken(rt, alloc, fast, reflected, "foo")?;
+    check_shared(rt, alloc, reflected, "not ready")?;
+    check_taken(rt, alloc, slow, reflected, "foo")?;
+    check_shared(rt, alloc, reflected, "Apply(bar)")?;
+    check_taken(rt, alloc, fast, reflected, "bar")?;
+    check_taken(rt, alloc, slow, reflected, "bar")?;
+    check_shared(rt, alloc, reflected, "Apply(foo)")?;
+    check_shared(rt, alloc, reflected, "end")?;
+    check_taken(rt, alloc, fast, reflected, "foo")?;
+    check_taken(rt, alloc, slow, reflected, "foo")?;
+    check_taken(rt, alloc, fast, reflected, "end")?;
+    check_taken(rt, alloc, slow, reflected, "end")
+}
+
 #[test]
 fn a_slow_subscriber_holds_a_reflector(rt: HostRuntime) -> Result<(), Fail> {
     let alloc = rt.alloc();
@@ -233,20 +264,32 @@ fn a_slow_subscriber_holds_a_reflector(rt: HostRuntime) -> Result<(), Fail> {
         ],
     )?;
     let mut reflected = reflector(writer, script);
-    check_shared(&rt, alloc, &mut reflected, "Apply(foo)")?;
-    check_shared(&rt, alloc, &mut reflected, "not ready")?;
-    check_taken(&rt, alloc, &mut fast, &mut reflected, "foo")?;
-    check_shared(&rt, alloc, &mut reflected, "not ready")?;
-    check_taken(&rt, alloc, &mut slow, &mut reflected, "foo")?;
-    check_shared(&rt, alloc, &mut reflected, "Apply(bar)")?;
-    check_taken(&rt, alloc, &mut fast, &mut reflected, "bar")?;
-    check_taken(&rt, alloc, &mut slow, &mut reflected, "bar")?;
-    check_shared(&rt, alloc, &mut reflected, "Apply(foo)")?;
-    check_shared(&rt, alloc, &mut reflected, "end")?;
-    check_taken(&rt, alloc, &mut fast, &mut reflected, "foo")?;
-    check_taken(&rt, alloc, &mut slow, &mut reflected, "foo")?;
-    check_taken(&rt, alloc, &mut fast, &mut reflected, "end")?;
-    check_taken(&rt, alloc, &mut slow, &mut reflected, "end")
+    check_slow(&rt, alloc, &mut fast, &mut slow, &mut reflected)
+}
+
+/// Checks what is given, and what a subscriber takes.
+fn check_told(
+    rt: &impl Abort,
+    alloc: Global,
+    handle: &mut Handle,
+    reflected: &mut Reflected,
+) -> Result<(), Fail>
+    requires { is_live reflected.old.writer handle.old.number ≡ true }
+{
+    check_shared(rt, alloc, reflected, "Delete(foo)")?;
+    check_taken(rt, alloc, handle, reflected, "not ready")?;
+    check_shared(rt, alloc, reflected, "Apply(foo)")?;
+    check_taken(rt, alloc, handle, reflected, "foo")?;
+    check_shared(rt, alloc, reflected, "error")?;
+    check_shared(rt, alloc, reflected, "Init")?;
+    check_shared(rt, alloc, reflected, "InitApply(foo)")?;
+    check_shared(rt, alloc, reflected, "InitApply(bar)")?;
+    check_taken(rt, alloc, handle, reflected, "not ready")?;
+    check_shared(rt, alloc, reflected, "InitDone")?;
+    check_taken(rt, alloc, handle, reflected, "foo")?;
+    check_taken(rt, alloc, handle, reflected, "bar")?;
+    check_shared(rt, alloc, reflected, "end")?;
+    check_taken(rt, alloc, handle, reflected, "end")
 }
 
 #[test]
@@ -267,18 +310,5 @@ fn a_subscriber_is_told_of_changes_and_lists(rt: HostRuntime) -> Result<(), Fail
         ],
     )?;
     let mut reflected = reflector(writer, script);
-    check_shared(&rt, alloc, &mut reflected, "Delete(foo)")?;
-    check_taken(&rt, alloc, &mut handle, &mut reflected, "not ready")?;
-    check_shared(&rt, alloc, &mut reflected, "Apply(foo)")?;
-    check_taken(&rt, alloc, &mut handle, &mut reflected, "foo")?;
-    check_shared(&rt, alloc, &mut reflected, "error")?;
-    check_shared(&rt, alloc, &mut reflected, "Init")?;
-    check_shared(&rt, alloc, &mut reflected, "InitApply(foo)")?;
-    check_shared(&rt, alloc, &mut reflected, "InitApply(bar)")?;
-    check_taken(&rt, alloc, &mut handle, &mut reflected, "not ready")?;
-    check_shared(&rt, alloc, &mut reflected, "InitDone")?;
-    check_taken(&rt, alloc, &mut handle, &mut reflected, "foo")?;
-    check_taken(&rt, alloc, &mut handle, &mut reflected, "bar")?;
-    check_shared(&rt, alloc, &mut reflected, "end")?;
-    check_taken(&rt, alloc, &mut handle, &mut reflected, "end")
+    check_told(&rt, alloc, &mut handle, &mut reflected)
 }

@@ -56,20 +56,43 @@ pub fn check_next(
     Ok(())
 }
 
+/// Offers two objects, and deletes one before it is taken.
+fn offer_two_and_delete_one(rt: &impl Abort, alloc: Global, writer: &mut Maps) -> Result<(), Fail> {
+    writer.apply_watcher_event(alloc, &Event::Apply(object(alloc, "a", "", "")?))?;
+    writer.apply_watcher_event(alloc, &Event::Apply(object(alloc, "b", "", "")?))?;
+    let mut handle = subscriber(rt, alloc, writer)?;
+    writer.offer(alloc, reference(alloc, "a")?)?;
+    writer.offer(alloc, reference(alloc, "b")?)?;
+    writer.apply_watcher_event(alloc, &Event::Delete(object(alloc, "b", "", "")?))?;
+    check_next(rt, alloc, &mut handle, writer, "a")?;
+    check_next(rt, alloc, &mut handle, writer, "not ready")?;
+    writer.close_subscribers();
+    check_next(rt, alloc, &mut handle, writer, "end")?;
+    Ok(())
+}
+
 #[test]
 fn what_is_no_longer_stored_is_passed_over(rt: HostRuntime) -> Result<(), Fail> {
     let alloc = rt.alloc();
     let mut writer = shared(alloc, 10)?;
+    offer_two_and_delete_one(&rt, alloc, &mut writer)
+}
+
+/// Fills the ring, empties it, and leaves.
+fn fill_and_empty(rt: &impl Abort, alloc: Global, writer: &mut Maps) -> Result<(), Fail> {
     writer.apply_watcher_event(alloc, &Event::Apply(object(alloc, "a", "", "")?))?;
-    writer.apply_watcher_event(alloc, &Event::Apply(object(alloc, "b", "", "")?))?;
-    let mut handle = subscriber(&rt, alloc, &mut writer)?;
+    let mut handle = subscriber(rt, alloc, writer)?;
     writer.offer(alloc, reference(alloc, "a")?)?;
-    writer.offer(alloc, reference(alloc, "b")?)?;
-    writer.apply_watcher_event(alloc, &Event::Delete(object(alloc, "b", "", "")?))?;
-    check_next(&rt, alloc, &mut handle, &mut writer, "a")?;
-    check_next(&rt, alloc, &mut handle, &mut writer, "not ready")?;
-    writer.close_subscribers();
-    check_next(&rt, alloc, &mut handle, &mut writer, "end")?;
+    assert_eq!(rt;
+        writer.offer(alloc, reference(alloc, "a")?),
+        Err(OfferError::Full)
+    );
+    check_next(rt, alloc, &mut handle, writer, "a")?;
+    check_next(rt, alloc, &mut handle, writer, "not ready")?;
+    writer.offer(alloc, reference(alloc, "a")?)?;
+    handle.leave(writer);
+    writer.offer(alloc, reference(alloc, "a")?)?;
+    writer.offer(alloc, reference(alloc, "a")?)?;
     Ok(())
 }
 
@@ -77,19 +100,21 @@ fn what_is_no_longer_stored_is_passed_over(rt: HostRuntime) -> Result<(), Fail> 
 fn a_full_ring_takes_no_offer(rt: HostRuntime) -> Result<(), Fail> {
     let alloc = rt.alloc();
     let mut writer = shared(alloc, 1)?;
+    fill_and_empty(&rt, alloc, &mut writer)
+}
+
+/// Clones a handle that has taken one of two.
+fn clone_after_one(rt: &impl Abort, alloc: Global, writer: &mut Maps) -> Result<(), Fail> {
     writer.apply_watcher_event(alloc, &Event::Apply(object(alloc, "a", "", "")?))?;
-    let mut handle = subscriber(&rt, alloc, &mut writer)?;
+    writer.apply_watcher_event(alloc, &Event::Apply(object(alloc, "b", "", "")?))?;
+    let mut handle = subscriber(rt, alloc, writer)?;
     writer.offer(alloc, reference(alloc, "a")?)?;
-    assert_eq!(rt;
-        writer.offer(alloc, reference(alloc, "a")?),
-        Err(OfferError::Full)
-    );
-    check_next(&rt, alloc, &mut handle, &mut writer, "a")?;
-    check_next(&rt, alloc, &mut handle, &mut writer, "not ready")?;
-    writer.offer(alloc, reference(alloc, "a")?)?;
-    handle.leave(&mut writer);
-    writer.offer(alloc, reference(alloc, "a")?)?;
-    writer.offer(alloc, reference(alloc, "a")?)?;
+    writer.offer(alloc, reference(alloc, "b")?)?;
+    check_next(rt, alloc, &mut handle, writer, "a")?;
+    let mut other = handle.clone(alloc, writer)?;
+    check_next(rt, alloc, &mut other, writer, "b")?;
+    check_next(rt, alloc, &mut other, writer, "not ready")?;
+    check_next(rt, alloc, &mut handle, writer, "b")?;
     Ok(())
 }
 
@@ -97,16 +122,21 @@ fn a_full_ring_takes_no_offer(rt: HostRuntime) -> Result<(), Fail> {
 fn a_clone_begins_at_the_place_of_its_handle(rt: HostRuntime) -> Result<(), Fail> {
     let alloc = rt.alloc();
     let mut writer = shared(alloc, 3)?;
-    writer.apply_watcher_event(alloc, &Event::Apply(object(alloc, "a", "", "")?))?;
-    writer.apply_watcher_event(alloc, &Event::Apply(object(alloc, "b", "", "")?))?;
-    let mut handle = subscriber(&rt, alloc, &mut writer)?;
+    clone_after_one(&rt, alloc, &mut writer)
+}
+
+/// Offers to a subscriber whose handle was dropped.
+fn offer_to_one_that_is_gone(
+    rt: &impl Abort,
+    alloc: Global,
+    writer: &mut Maps,
+) -> Result<(), Fail> {
+    drop(subscriber(rt, alloc, writer)?);
     writer.offer(alloc, reference(alloc, "a")?)?;
-    writer.offer(alloc, reference(alloc, "b")?)?;
-    check_next(&rt, alloc, &mut handle, &mut writer, "a")?;
-    let mut other = handle.clone(alloc, &mut writer)?;
-    check_next(&rt, alloc, &mut other, &mut writer, "b")?;
-    check_next(&rt, alloc, &mut other, &mut writer, "not ready")?;
-    check_next(&rt, alloc, &mut handle, &mut writer, "b")?;
+    assert_eq!(rt;
+        writer.offer(alloc, reference(alloc, "a")?),
+        Err(OfferError::Full)
+    );
     Ok(())
 }
 
@@ -114,11 +144,5 @@ fn a_clone_begins_at_the_place_of_its_handle(rt: HostRuntime) -> Result<(), Fail
 fn a_handle_that_is_dropped_still_lags(rt: HostRuntime) -> Result<(), Fail> {
     let alloc = rt.alloc();
     let mut writer = shared(alloc, 1)?;
-    drop(subscriber(&rt, alloc, &mut writer)?);
-    writer.offer(alloc, reference(alloc, "a")?)?;
-    assert_eq!(rt;
-        writer.offer(alloc, reference(alloc, "a")?),
-        Err(OfferError::Full)
-    );
-    Ok(())
+    offer_to_one_that_is_gone(&rt, alloc, &mut writer)
 }
