@@ -10,3 +10,8 @@ pub mod SettledSteps
 pub mod Waits
 pub mod Numbers
 pub mod Joins
+pub mod ShapeLemmas
+pub mod Fronts
+pub mod SameExchanges
+pub mod OneTrace
+pub mod Rooms

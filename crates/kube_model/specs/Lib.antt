@@ -11,6 +11,8 @@ pub mod Owed
 pub mod Store
 pub mod Fits
 pub mod Recorded
+pub mod Mapping
+pub mod Shapes
 pub mod Queue
 pub mod Pause
 pub mod Shutdowns
@@ -21,6 +23,7 @@ pub mod Asks
 pub mod Turns
 pub mod Traces
 pub mod Named
+pub mod Told
 pub mod Settled
 pub mod Plays
 pub mod Rows

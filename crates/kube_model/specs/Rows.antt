@@ -1,16 +1,21 @@
 -- Worked rows: what comes in each turn.
-use Rattle.std.specs.Prelude.{ℕ, ◌+◌, ◌*◌, ◌-◌, ◌^◌, true, List, [], ◌∷◌, map, Option, Some, None, codes}
+use Rattle.std.specs.Prelude.{ℕ, ◌+◌, ◌*◌, ◌-◌, ◌^◌, true, false, List, [], ◌∷◌, map, Option, Some, None, codes}
 use Rattle.kube_meta.specs.Reference.{Reference}
 use Rattle.kube_model.specs.declared.call.Call.{Call}
-use Rattle.kube_model.specs.declared.call.Answer.TheVariants.{Page, Opened, Added, Modified, Deleted, Bookmark, ErrorItem, End, NotReady, Idle}
+use Rattle.kube_model.specs.declared.call.Answer.TheVariants.{Page, Opened, Added, Modified, Deleted, Bookmark, ErrorItem, End, NotReady, Idle, Item}
 use Rattle.kube_model.specs.declared.error.Status.{Status}
-use Rattle.kube_model.specs.declared.turn.Shutdown.TheVariants.{Graceful}
+use Rattle.kube_model.specs.declared.turn.Shutdown.TheVariants.{Graceful, Forced}
+use Rattle.kube_model.specs.declared.error.RunnerError.TheVariants.{Readiness}
 use Rattle.kube_model.specs.declared.turn.Stop.{Stop}
-use Rattle.kube_model.specs.Reason.{RelatedObjectUpdated}
-use Rattle.kube_model.specs.World.{World, Watched, default_settings}
-use Rattle.kube_model.specs.History.{Message, Succeeded, Turn}
-use Rattle.kube_model.specs.Traces.{Made}
-use Rattle.kube_model.specs.Plays.{Thing, Came, came, thing, reference_to, turn_at, world_with}
+use Rattle.kube_meta.specs.Reference.{ObjectType}
+use Rattle.kube_meta.specs.Resources.{no_metadata}
+use Rattle.kube_model.specs.Reason.{Reason, RelatedObjectUpdated, Unknown}
+use Rattle.kube_model.specs.World.{World, Watched, Streamed, Queued, default_settings}
+use Rattle.kube_model.specs.Reads.{IsNotYet, IsReady, HasFailed, nothing_read}
+use Rattle.kube_model.specs.Mapping.{mapped_requests, labelled_by}
+use Rattle.kube_model.specs.History.{Message, Finish, Step, Succeeded, Turn}
+use Rattle.kube_model.specs.Traces.{Made, step}
+use Rattle.kube_model.specs.Plays.{Thing, Came, Play, came, config_map, key_of_thing, made_by, plain_world, thing, reference_to, turn_at, watched, world_with}
 
 abbrev pub second : ℕ
 second = 1000000000
@@ -176,11 +181,20 @@ abbrev pub owned_pod : List (Turn × List Came)
 owned_pod =
     (turn_at 0 (1 ∷ 1 ∷ []), page_of_a ∷ record (came (Page None (Some (codes "1"))) []) { mapped = by_pod a_in_ns ∷ [] } ∷ []) ∷ []
 
--- c, a and b are stored, b in a namespace: see the order of a reload
+abbrev pub ends_of : Reference → Finish
+ends_of r = record { reference = r; outcome = Succeeded None }
+
+abbrev pub finish_of : List ℕ → Finish
+finish_of name = ends_of (reference_to name)
+
+-- c without a namespace, b in the namespace n, a in m and d without are stored; then all are asked for again
+abbrev pub in_namespace : List ℕ → List ℕ → Thing
+in_namespace namespace name = record (thing name (codes "1")) { namespace = Some namespace }
+
 abbrev pub reloaded : List (Turn × List Came)
 reloaded =
-    (turn_at 0 (1 ∷ []), page (codes "1") (thing (codes "c") (codes "1") ∷ thing a (codes "1") ∷ []) ∷ [])
-    ∷ (record (ending 1 [] ((a, None) ∷ (codes "c", None) ∷ [])) { reload = true }, []) ∷ []
+    (turn_at 0 (1 ∷ []), page (codes "1") (thing (codes "c") (codes "1") ∷ in_namespace (codes "n") (codes "b") ∷ in_namespace (codes "m") a ∷ thing (codes "d") (codes "1") ∷ []) ∷ [])
+    ∷ (record (turn_at 1 []) { finishes = map ends_of (reference_to (codes "c") ∷ key_of_thing (in_namespace (codes "n") (codes "b")) ∷ key_of_thing (in_namespace (codes "m") a) ∷ reference_to (codes "d") ∷ []); reload = true }, []) ∷ []
 
 -- a graceful shutdown while a runs, and a's end
 abbrev pub shut_down : List (Turn × List Came)
@@ -188,3 +202,83 @@ shut_down =
     (turn_at 0 (1 ∷ []), page_of_a ∷ [])
     ∷ (record (turn_at 1 (1 ∷ [])) { shutdown = Graceful }, [])
     ∷ (ending 2 (1 ∷ []) ((a, Some 0) ∷ []), []) ∷ []
+
+-- a forced shutdown while a runs
+abbrev pub forced : List (Turn × List Came)
+forced =
+    (turn_at 0 (1 ∷ []), page_of_a ∷ [])
+    ∷ (record (turn_at 1 (1 ∷ [])) { shutdown = Forced }, []) ∷ []
+
+-- a turn that ends what doesn't run, one that names a finish twice, and one before the last
+abbrev pub after_a : List (Step Thing)
+after_a = step (turn_at 5 (1 ∷ [])) (made_by plain_world [] (watched (turn_at 5 (1 ∷ []), page_of_a ∷ []))) ∷ []
+
+-- a backoff that gives up at its second error
+abbrev pub one_delay : World Thing (List (Option ℕ))
+one_delay = record plain_world {
+  backoff = Some second ∷ None ∷ [];
+  next = λ b at. elim b [ [] ↦ (None, []) | d ∷ ds ↦ (d, ds) ];
+  reset = λ b. Some (2 * second) ∷ None ∷ [];
+}
+
+-- a list without a version, again after the delay: then it has given up
+abbrev pub given_up : List (Turn × List Came)
+given_up =
+    (turn_at 0 (2 ∷ []), came (Page None None) [] ∷ [])
+    ∷ (turn_at second (2 ∷ []), came (Page None None) [] ∷ []) ∷ []
+
+-- a list without a version; after the delay a list with a, which begins the backoff anew; and a watch that fails: the delay is the first one again
+abbrev pub begun_anew : List (Turn × List Came)
+begun_anew =
+    (turn_at 0 (1 ∷ []), came (Page None None) [] ∷ [])
+    ∷ (turn_at second (3 ∷ []), page_of_a ∷ opened ∷ came (ErrorItem gone) [] ∷ [])
+    ∷ (turn_at (3 * second - 1) (1 ∷ []), [])
+    ∷ (turn_at (3 * second) (1 ∷ []), page_of_a ∷ []) ∷ []
+
+-- a root that is a stream: its reader is not ready in the first turn and is in the second, where a is found and b is not
+abbrev pub streaming_root : World Thing (List (Option ℕ))
+streaming_root = world_with (Streamed ∷ []) 0 0
+
+abbrev pub item : Thing → Came
+item o = came Item (o ∷ [])
+
+abbrev pub fed_by_a_stream : List Play
+fed_by_a_stream =
+    record { turn = record (turn_at 0 (3 ∷ [])) { show = false }; came = item (thing a (codes "1")) ∷ item (thing (codes "b") (codes "1")) ∷ came NotReady [] ∷ []; reads = record nothing_read { readiness = Some IsNotYet } }
+    ∷ record {
+      turn = turn_at 1 (1 ∷ []);
+      came = came End [] ∷ [];
+      reads = record { readiness = Some IsReady; reloaded = None; looked_up = Some (thing a (codes "2")) ∷ None ∷ []; shown = Some (thing a (codes "2") ∷ []) };
+    }
+    ∷ record { turn = record (turn_at 2 (1 ∷ [])) { show = false }; came = []; reads = nothing_read } ∷ []
+
+-- an applier: a request for a, and the end of its queue
+abbrev pub applier_world : World Thing (List (Option ℕ))
+applier_world = world_with (Queued ∷ []) 0 0
+
+abbrev pub fed_by_a_queue : List Play
+fed_by_a_queue =
+    record {
+      turn = record (turn_at 0 (2 ∷ [])) { show = false };
+      came = record (came Item []) { mapped = record { reference = reference_to a; reason = Unknown } ∷ [] } ∷ came NotReady [] ∷ [];
+      reads = record { readiness = Some IsReady; reloaded = None; looked_up = Some (thing a (codes "1")) ∷ []; shown = None };
+    }
+    ∷ record { turn = record (turn_at 1 (2 ∷ [])) { show = false; finishes = record { reference = reference_to a; outcome = Succeeded None } ∷ [] }; came = came End [] ∷ []; reads = nothing_read } ∷ []
+
+-- its reader fails before it was ready
+abbrev pub failed_reader : List Play
+failed_reader =
+    record { turn = record (turn_at 0 []) { show = false }; came = []; reads = record nothing_read { readiness = Some (HasFailed (Readiness (record {}))) } } ∷ []
+
+abbrev pub pods : ObjectType
+pods = record { group = []; version = codes "v1"; kind = codes "Pod"; plural = codes "pods" }
+
+-- a related page with p, whose label app is a
+abbrev pub by_label : List Message
+by_label = mapped_requests pods (record no_metadata { name = Some (codes "p") }) (labelled_by config_map (codes "app") ((codes "app", a) ∷ []) None)
+
+abbrev pub by_pod_p : Reason
+by_pod_p = RelatedObjectUpdated (record { kind = pods; name = codes "p"; namespace = None })
+
+abbrev pub labelled_pod : List (Turn × List Came)
+labelled_pod = (turn_at 0 (1 ∷ 1 ∷ []), page_of_a ∷ record (came (Page None (Some (codes "1"))) []) { mapped = by_label } ∷ []) ∷ []

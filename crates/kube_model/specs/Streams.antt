@@ -56,3 +56,17 @@ pub record IsQueued {O : Type 0} (came : StreamAnswer Message) (x : Exchange O) 
   pub items : x.items ≡ []
   pub error : x.error ≡ error_given came
   pub requests : x.requests ≡ given came
+
+-- Lists of what a stream answered, as the raw forms of a stream-fed source: one for each exchange, in order.
+
+-- of a root
+abbrev pub AreStreamed : {V : Type 0} → List (StreamAnswer V) → List (Exchange V) → Type 0
+AreStreamed came xs = AllZip IsStreamed came xs
+
+-- of a related source
+abbrev pub AreStreamedMapped : {O V : Type 0} → (V → List Message → Type 0) → List (StreamAnswer V) → List (Exchange O) → Type 0
+AreStreamedMapped is_mapped came xs = AllZip (IsStreamedMapped is_mapped) came xs
+
+-- of an applier's queue
+abbrev pub AreQueued : {O : Type 0} → List (StreamAnswer Message) → List (Exchange O) → Type 0
+AreQueued came xs = AllZip IsQueued came xs

@@ -2,21 +2,25 @@
 //!
 //! `O` is any type of objects, `B` any type of a backoff's states and `M` any type of messages.
 
-ghost use Rattle.std.specs.Prelude.{◌≡◌, ℕ, ◌+◌, Bool, List, Option, ◌++◌, [], length, true, false};
-ghost use Rattle.std.specs.List.{fold, list_any};
+ghost use Rattle.std.specs.Prelude.{◌≡◌, ℕ, ◌+◌, ◌≤◌, Bool, List, Option, Some, ◌++◌, ◌∷◌, [], if◌then◌else◌, is_some, length, map, take, true, false};
+ghost use Rattle.std.specs.List.{count_by, fold, list_any};
 ghost use Rattle.std.specs.Cmp.{IsEquivalence};
 ghost use Rattle.kube_model.specs.World.{World, Settings, Watched, feed_of};
-ghost use Rattle.kube_model.specs.History.{Message, same_message, Exchange, Turn, Finished, Step, exchanges};
-ghost use Rattle.kube_model.specs.Owed.{is_initial};
+ghost use Rattle.kube_model.specs.History.{Message, same_message, Exchange, Dated, Turn, Finished, Taken, Step, exchanges, exchanges_of};
+ghost use Rattle.kube_model.specs.Owed.{is_initial, owed, seen};
+ghost use Rattle.kube_model.specs.Fits.{silent_since};
+ghost use Rattle.kube_model.specs.Shapes.{shapes, dated_shapes};
 ghost use Rattle.kube_model.specs.SecondForms.{initial_after, running_after};
-ghost use Rattle.kube_model.specs.Takes.{running};
+ghost use Rattle.kube_model.specs.Takes.{running, found_with, has_room, within_room};
 ghost use Rattle.kube_model.specs.Queue.{QueueEvent, entry, waiting};
 ghost use Rattle.kube_model.specs.WaitingOnce.{HasEachOnce, is_among, is_frozen};
 ghost use Rattle.kube_model.specs.Reads.{Reads};
 ghost use Rattle.kube_model.specs.Requests.{waiting_in};
 ghost use Rattle.kube_model.specs.Shutdowns.{is_shut};
 ghost use Rattle.kube_model.specs.Pause.{gave_up};
-ghost use Rattle.kube_model.specs.Traces.{IsTrace, Made, steps};
+ghost use Rattle.kube_model.specs.Traces.{IsRecord, IsTrace, Made, step, steps};
+ghost use Rattle.kube_model.specs.Told.{told_in};
+ghost use Rattle.kube_model.specs.Store.{changed, listed, put, since};
 ghost use Rattle.kube_model.specs.Settled.{IsSettled};
 
 /// To which watch a `Next` belongs is one bit, which each exchange changes.
@@ -45,6 +49,42 @@ pub fn each_message_waits_once<O, B>()
 pub fn joined_turns_join_traces<O, B>()
     ensures { (w : World O B) (policies : ℕ → ℕ → O → Option ℕ) (h : List (Step O)) (ts us : List Turn) (ms ns : List (Made O))
         → IsTrace w policies h ts ms → IsTrace w (λ n. policies (length ts + n)) (h ++ steps ts ms) us ns → IsTrace w policies h (ts ++ us) (ms ++ ns) }
+{}
+
+/// A front of a trace is the trace of its turns: so what holds after the last turn of every trace holds after each.
+pub fn front_of_a_trace_is_a_trace<O, B>()
+    ensures { (w : World O B) (policies : ℕ → ℕ → O → Option ℕ) (h : List (Step O)) (ts : List Turn) (ms : List (Made O)) (n : ℕ) → n ≤ length ms
+        → IsTrace w policies h ts ms → IsTrace w policies h (take n ts) (take n ms) }
+{}
+
+/// There is one trace: turns that are told the same, with the same answers of the error policy, make the same records.
+pub fn what_is_told_determines_the_trace<O, B>()
+    ensures { (w : World O B) (policies : ℕ → ℕ → O → Option ℕ) (h : List (Step O)) (ts : List Turn) (ms ns : List (Made O))
+        → IsTrace w policies h ts ms → IsTrace w policies h ts ns → map (told_in w) ms ≡ map (told_in w) ns → ms ≡ ns }
+{}
+
+/// Of the candidates exactly those are taken before which fewer than the room are found.
+pub fn taken_where_there_is_room<O>()
+    ensures { (limit running : ℕ) (before after : List (Taken O)) (t : Taken O)
+        → within_room limit running 0 (before ++ t ∷ after)
+        ≡ within_room limit running 0 before
+        ++ ((if has_room limit running (count_by (λ u. is_some u.object) before) then t ∷ [] else [])
+        ++ within_room limit running (found_with (count_by (λ u. is_some u.object) before) t.object) after) }
+{}
+
+/// What a record shows is the last complete list of the root, changed by the items of later watches since.
+pub fn store_is_the_last_list_changed_since<O, B>()
+    ensures { (w : World O B) (settings : Settings) → feed_of w 0 ≡ Watched settings → (policies : ℕ → O → Option ℕ) (h : List (Step O)) (t : Turn) (m : Made O) → IsRecord w policies h t m
+        → t.show ≡ true → (xs : List (Exchange O)) → xs ≡ exchanges_of 0 (exchanges (h ++ step t m ∷ [])) → m.0.store ≡ Some (fold (changed w.key) (fold (put w.key) [] (listed xs)) (since xs)) }
+{}
+
+/// To which watch a `Next` belongs, the version that was seen, the call that is owed and the silence look at calls and
+/// answers alone, whatever the objects' type.
+pub fn watchers_look_at_calls_and_answers<O, V>()
+    ensures initial { (xs : List (Exchange O)) → is_initial (shapes {V = V} xs) ≡ is_initial xs }
+    ensures seen { (xs : List (Exchange O)) → seen (shapes {V = V} xs) ≡ seen xs }
+    ensures owed { (settings : Settings) (xs : List (Exchange O)) → owed (Watched settings) (shapes {V = V} xs) ≡ owed (Watched settings) xs }
+    ensures silence { (ds : List (Dated O)) → silent_since (dated_shapes {V = V} ds) ≡ silent_since ds }
 {}
 
 /// Nothing stays unreconciled: where the root lists and watches, after each turn of each trace, until shutdown is

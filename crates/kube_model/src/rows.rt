@@ -3,13 +3,13 @@
 //! Each function's contract says that the records are the trace of the turns in which these answers come, and what
 //! they took. The functions do nothing.
 
-ghost use Rattle.std.specs.Prelude.{◌≡◌, ◌∷◌, ◌++◌, [], Some, None, codes, map, true, false};
+ghost use Rattle.std.specs.Prelude.{◌≡◌, ◌^◌, ◌∷◌, ◌++◌, [], Some, None, codes, map, true, false};
 ghost use Rattle.kube_model.specs.declared.call.Call.TheVariants.{List as ListCall, Watch, Next};
 ghost use Rattle.kube_model.specs.declared.turn.Stop.TheVariants as stops;
 ghost use Rattle.kube_model.specs.Reason.{ReconcilerRequestedRetry, Unknown, ObjectUpdated, BulkReconcile};
-ghost use Rattle.kube_model.specs.Plays.{plain_world, play, took_in, waits_for_change};
-ghost use Rattle.kube_model.specs.Traces.{IsTrace};
-ghost use Rattle.kube_model.specs.Rows.{a, turns_of, calls_of, requests_of, stops_of, names_stored, first_trace, twice, two_pages, unversioned_page, relist, changed_while_running, one_after_another, limited, debounced, named_early, named_when_due, requeued_at_the_end, resumed, streamed, streaming_world, silent_watch, patient_world, patient_watch, related_world, owned_pod, reloaded, shut_down};
+ghost use Rattle.kube_model.specs.Plays.{plain_world, play, played, took_in, turn_at, waits_for_change};
+ghost use Rattle.kube_model.specs.Traces.{IsTrace, refusal, Moment, NotRunning, Twice};
+ghost use Rattle.kube_model.specs.Rows.{a, finish_of, by_pod_p, after_a, forced, one_delay, given_up, begun_anew, streaming_root, fed_by_a_stream, applier_world, fed_by_a_queue, failed_reader, labelled_pod, turns_of, calls_of, requests_of, stops_of, names_stored, first_trace, twice, two_pages, unversioned_page, relist, changed_while_running, one_after_another, limited, debounced, named_early, named_when_due, requeued_at_the_end, resumed, streamed, streaming_world, silent_watch, patient_world, patient_watch, related_world, owned_pod, reloaded, shut_down};
 
 /// One page, a watch that opens, and nothing yet: the object is requested, stored and taken.
 pub fn first_trace_takes_a()
@@ -116,11 +116,13 @@ pub fn owned_pod_requests_both_names()
     ensures namespaces { map (λ m. map (λ t. t.message.reference.namespace) m.0.taken) (play related_world [] owned_pod) ≡ (None ∷ Some (codes "ns") ∷ []) ∷ [] }
 {}
 
-/// A reload requests what is stored in the order of the names, whatever the order of the store.
-pub fn reload_goes_by_name()
+/// A reload requests what is stored, without a namespace first, then by namespace and by name, whatever the order of the
+/// store.
+pub fn reload_goes_by_namespace_and_name()
     ensures trace { IsTrace plain_world waits_for_change [] (turns_of reloaded) (play plain_world [] reloaded) }
     ensures taken { map took_in (play plain_world [] reloaded)
-        ≡ ((codes "c", Some (codes "1")) ∷ (a, Some (codes "1")) ∷ []) ∷ ((a, Some (codes "1")) ∷ (codes "c", Some (codes "1")) ∷ []) ∷ [] }
+        ≡ ((codes "c", Some (codes "1")) ∷ (codes "b", Some (codes "1")) ∷ (a, Some (codes "1")) ∷ (codes "d", Some (codes "1")) ∷ [])
+        ∷ ((codes "c", Some (codes "1")) ∷ (codes "d", Some (codes "1")) ∷ (a, Some (codes "1")) ∷ (codes "b", Some (codes "1")) ∷ []) ∷ [] }
 {}
 
 /// A graceful shutdown waits for what runs, and then nothing is taken.
@@ -129,4 +131,60 @@ pub fn graceful_shutdown_waits_for_running()
     ensures ended { map (λ m. m.0.ended) (play plain_world [] shut_down) ≡ false ∷ false ∷ true ∷ [] }
     ensures stops { map stops_of (play plain_world [] shut_down) ≡ (stops.Budget ∷ []) ∷ (stops.Shutdown ∷ []) ∷ (stops.Shutdown ∷ []) ∷ [] }
     ensures taken { map took_in (play plain_world [] shut_down) ≡ ((a, Some (codes "1")) ∷ []) ∷ [] ∷ [] ∷ [] }
+{}
+
+/// A forced turn is the last, also where something runs.
+pub fn forced_shutdown_ends_at_once()
+    ensures trace { IsTrace plain_world waits_for_change [] (turns_of forced) (play plain_world [] forced) }
+    ensures ended { map (λ m. m.0.ended) (play plain_world [] forced) ≡ false ∷ true ∷ [] }
+{}
+
+/// A turn is refused by its moment first, then by the first finish that names what doesn't run, or names it again.
+pub fn turns_are_refused_in_this_order()
+    ensures moment { refusal after_a (record (turn_at 4 []) { finishes = (finish_of (codes "b")) ∷ [] }) ≡ Some (Moment 4 5) }
+    ensures too_late { refusal after_a (turn_at (2 ^ 63) []) ≡ Some (Moment (2 ^ 63) 5) }
+    ensures not_running { refusal after_a (record (turn_at 5 []) { finishes = finish_of (codes "b") ∷ finish_of a ∷ [] }) ≡ Some (NotRunning 0) }
+    ensures twice { refusal after_a (record (turn_at 5 []) { finishes = finish_of a ∷ finish_of a ∷ [] }) ≡ Some (Twice 1) }
+    ensures valid { refusal after_a (record (turn_at 5 []) { finishes = finish_of a ∷ [] }) ≡ None }
+{}
+
+/// Where the backoff gives up, the turn asks and takes nothing more, and the trace ends where nothing runs.
+pub fn giving_up_ends_the_trace()
+    ensures trace { IsTrace one_delay waits_for_change [] (turns_of given_up) (play one_delay [] given_up) }
+    ensures stops { map stops_of (play one_delay [] given_up) ≡ (stops.Paused ∷ []) ∷ (stops.Shutdown ∷ []) ∷ [] }
+    ensures ended { map (λ m. m.0.ended) (play one_delay [] given_up) ≡ false ∷ true ∷ [] }
+{}
+
+/// A request begins the backoff anew, and the next error pauses for its first delay again.
+pub fn requests_begin_the_backoff_anew()
+    ensures trace { IsTrace one_delay waits_for_change [] (turns_of begun_anew) (play one_delay [] begun_anew) }
+    ensures stops { map stops_of (play one_delay [] begun_anew) ≡ (stops.Budget ∷ []) ∷ (stops.Budget ∷ []) ∷ (stops.Paused ∷ []) ∷ (stops.Budget ∷ []) ∷ [] }
+{}
+
+/// A root that is a stream requests its objects as they come, takes nothing until its reader is ready, and is asked no
+/// more after its end. What its reader answers is handed over.
+pub fn stream_waits_for_its_reader()
+    ensures trace { IsTrace streaming_root waits_for_change [] (map (λ p. p.turn) fed_by_a_stream) (played streaming_root [] fed_by_a_stream) }
+    ensures taken { map took_in (played streaming_root [] fed_by_a_stream) ≡ [] ∷ ((a, Some (codes "2")) ∷ (codes "b", None) ∷ []) ∷ [] ∷ [] }
+    ensures stops { map stops_of (played streaming_root [] fed_by_a_stream) ≡ (stops.NotReady ∷ []) ∷ (stops.NotReady ∷ []) ∷ (stops.NotReady ∷ []) ∷ [] }
+{}
+
+/// An applier takes what its queue requests, and its queue's end counts as giving up.
+pub fn queue_ends_as_a_shutdown()
+    ensures trace { IsTrace applier_world waits_for_change [] (map (λ p. p.turn) fed_by_a_queue) (played applier_world [] fed_by_a_queue) }
+    ensures taken { map took_in (played applier_world [] fed_by_a_queue) ≡ ((a, Some (codes "1")) ∷ []) ∷ [] ∷ [] }
+    ensures ended { map (λ m. m.0.ended) (played applier_world [] fed_by_a_queue) ≡ false ∷ true ∷ [] }
+{}
+
+/// Where the reader's writer was dropped before it was ready, the record has that error and is the last.
+pub fn reader_that_fails_ends_the_trace()
+    ensures trace { IsTrace applier_world waits_for_change [] (map (λ p. p.turn) failed_reader) (played applier_world [] failed_reader) }
+    ensures ended { map (λ m. m.0.ended) (played applier_world [] failed_reader) ≡ true ∷ [] }
+{}
+
+/// A related list that is mapped by a label requests the object that the label names; the latest reason stands.
+pub fn label_names_what_is_requested()
+    ensures trace { IsTrace related_world waits_for_change [] (turns_of labelled_pod) (play related_world [] labelled_pod) }
+    ensures taken { map took_in (play related_world [] labelled_pod) ≡ ((a, Some (codes "1")) ∷ []) ∷ [] }
+    ensures reason { map (λ m. map (λ t. t.message.reason) m.0.taken) (play related_world [] labelled_pod) ≡ (by_pod_p ∷ []) ∷ [] }
 {}
