@@ -1,0 +1,7 @@
+-- the definitions that the contracts cite
+pub mod CoreWorld
+pub mod CoreEvents
+pub mod Legal
+pub mod InTurn
+pub mod TurnEvents
+pub mod Agrees
