@@ -15,3 +15,6 @@ pub mod OpenTurn
 pub mod OneTurn
 pub mod Calls
 pub mod BrokenTurn
+pub mod OneAtATime
+pub mod Endings
+pub mod PoolEntries

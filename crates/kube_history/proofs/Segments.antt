@@ -75,7 +75,7 @@ module _ {O : Type 0} where
   running-shut true at rs = refl
   running-shut false at rs = refl
 
-  onto : (o : Option (Running O)) (rs us : List (Running O)) → (rs ++ cons_option o []) ++ us ≡ rs ++ cons_option o us
+  pub onto : (o : Option (Running O)) (rs us : List (Running O)) → (rs ++ cons_option o []) ++ us ≡ rs ++ cons_option o us
   onto None rs us = ap (λ vs. vs ++ us) (append-nil rs)
   onto (Some p) rs us = append_assoc rs (p ∷ []) us
 

@@ -5,3 +5,5 @@ pub mod Legal
 pub mod InTurn
 pub mod TurnEvents
 pub mod Agrees
+pub mod PoolHistory
+pub mod Running

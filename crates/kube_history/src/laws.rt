@@ -2,7 +2,7 @@
 //!
 //! `O` is any type of objects, and `B` any type of a backoff's states.
 
-ghost use Rattle.std.specs.Prelude.{◌≡◌, ◌==◌, ◌++◌, ◌∷◌, [], ℕ, List, length, true, false, None};
+ghost use Rattle.std.specs.Prelude.{◌≡◌, ◌↔◌, ◌==◌, ◌++◌, ◌∷◌, [], ℕ, List, length, true, false, None};
 ghost use Rattle.std.specs.List.{AllZip};
 ghost use Rattle.kube_meta.specs.Reference.{Reference};
 ghost use Rattle.kube_model.specs.World.{World, Settings, Watched, feed_of};
@@ -11,16 +11,18 @@ ghost use Rattle.kube_model.specs.Owed.{owed};
 ghost use Rattle.kube_model.specs.Store.{under_way};
 ghost use Rattle.kube_model.specs.Queue.{Frozen};
 ghost use Rattle.kube_model.specs.Requests.{is_closed, is_shut};
-ghost use Rattle.kube_model.specs.Takes.{Running, taken_of};
+ghost use Rattle.kube_model.specs.Takes.{Running, running, taken_of};
 ghost use Rattle.kube_model.specs.Turns.{is_idle_after, next_source, record_with};
 ghost use Rattle.kube_model.specs.Traces.{EachIsNamed, EachIsNext, IsFinishOf, IsRecord, IsTrace, IsUnnamedAt, IsValid, step, steps};
 ghost use Rattle.kube_model.specs.WaitingOnce.{HasEachOnce};
-ghost use Rattle.kube_history.specs.CoreWorld.{core_world};
+ghost use Rattle.kube_history.specs.CoreWorld.{core_world, CoreWorld};
 ghost use Rattle.kube_history.specs.CoreEvents.{CoreEvent, answers_in, listing_of, root_answers, running_of};
 ghost use Rattle.kube_history.specs.InTurn.{AreTaken};
 ghost use Rattle.kube_history.specs.Legal.{AreLegal};
 ghost use Rattle.kube_history.specs.TurnEvents.{asks, before_takes, core_events, core_of, takes};
 ghost use Rattle.kube_history.specs.Agrees.{Agrees, AgreesSoFar, AreNamedTurns};
+ghost use Rattle.kube_history.specs.PoolHistory.{PoolEntry, entry_events, events_in, IsOfPass, IsPoolHistory};
+ghost use Rattle.kube_history.specs.Running.{EachShutsDown, MayRun};
 
 /// One more turn: where a core's events agree with a history, they and the events of a named turn with its record
 /// agree with the history and the turn.
@@ -88,4 +90,38 @@ pub fn listing_is_of_any_settings<O>()
 pub fn takes_one_after_another<O>()
     ensures { (key : O → Reference) (limit : ℕ) (look : ℕ → List O) (ts : List (Taken O)) (rs : List (Running O)) (ws : List (Frozen Message))
         → HasEachOnce same_message ws → AreTaken key limit look 0 ws rs ts → ts ≡ taken_of key limit look rs ws }
+{}
+
+/// In a legal list no two equal references run at once, and at most as many as the limit (0: any).
+pub fn no_two_run_at_once<O>()
+    ensures { (core : CoreWorld O) (es : List (CoreEvent O)) → AreLegal core [] es → MayRun core.limit (running_of es) }
+{}
+
+/// After each trace, and so after each turn of it, no two equal references run at once, and at most as many as the
+/// limit (0: any), however the root is fed.
+pub fn no_two_run_at_once_in_a_trace<O, B>()
+    ensures { (w : World O B) (ts : List Turn) (rs : List (TurnRecord O)) → IsTrace w [] ts rs → MayRun w.limit (running (steps ts rs)) }
+{}
+
+/// After shutdown nothing is taken; and no record follows a forced turn's, the first one from the shutdown on in which
+/// nothing runs, or any that has ended.
+pub fn nothing_follows_a_shutdown<O, B>()
+    ensures { (w : World O B) (ts : List Turn) (rs : List (TurnRecord O)) → IsTrace w [] ts rs → EachShutsDown w [] (steps ts rs) }
+{}
+
+/// A pool's history grows by one entry exactly where its events are legal and are what its pass may do.
+pub fn pool_history_grows<O>()
+    ensures { (core : CoreWorld O) (opening : List (CoreEvent O)) (entries : List (PoolEntry O)) (e : PoolEntry O)
+        → IsPoolHistory core opening (entries ++ e ∷ []) ↔ IsPoolHistory core opening entries × AreLegal core (opening ++ events_in entries) (entry_events e) × IsOfPass entries e }
+{}
+
+/// Each front of a pool's history is one.
+pub fn front_of_a_pool_history<O>()
+    ensures { (core : CoreWorld O) (opening : List (CoreEvent O)) (front rest : List (PoolEntry O)) → IsPoolHistory core opening (front ++ rest) → IsPoolHistory core opening front }
+{}
+
+/// After a legal opening list a pool's events are legal.
+pub fn pool_events_are_legal<O>()
+    ensures { (core : CoreWorld O) (opening : List (CoreEvent O)) (entries : List (PoolEntry O)) → AreLegal core [] opening → IsPoolHistory core opening entries
+        → AreLegal core [] (opening ++ events_in entries) }
 {}
