@@ -1,5 +1,5 @@
 -- What a turn hands over is what is stored.
-use Rattle.std.proofs.Common.{◌≡◌, ℕ, ◌+◌, Bool, true, false, ◌||◌, List, [], ◌∷◌, ◌++◌, length, Option, Some, None, if◌then◌else◌, is_some, refl, sym, ap, subst, ◌∙◌, ◌⊎◌, inl, inr}
+use Rattle.std.proofs.Common.{◌≡◌, ℕ, Bool, true, false, ◌||◌, List, [], ◌∷◌, ◌++◌, map, length, Option, Some, None, if◌then◌else◌, is_some, refl, sym, ap, subst, ◌∙◌, ◌⊎◌, inl, inr}
 use Rattle.std.specs.List.{filter_map, cons_option, list_any, last_or, AllByRecursion}
 use Rattle.std.specs.Option.{option_or}
 use Rattle.std.proofs.lemmas.Bool.{false≢true}
@@ -9,7 +9,7 @@ use Rattle.kube_model.specs.World.{World}
 use Rattle.kube_model.specs.History.{Message, same_message, Taken}
 use Rattle.kube_model.specs.Queue.{Frozen}
 use Rattle.kube_model.specs.Store.{found, stored_under}
-use Rattle.kube_model.specs.Takes.{Running, taken_from, taken_of, candidates, has_room}
+use Rattle.kube_model.specs.Takes.{Running, found_in, found_with, within_room, taken_of, candidates, has_room}
 use Rattle.kube_model.specs.Settled.{if_keyed, about}
 use Rattle.kube_model.proofs.Alls.{all-append, find-all, find-same}
 use Rattle.kube_model.proofs.Stores.{alike, IsFoundIn}
@@ -27,17 +27,19 @@ module _ {O B : Type 0} (w : World O B) (store : List O) where
   if-look true t h = (h, tt)
   if-look false t h = tt
 
-  taken_from-looks : (room : ℕ → Bool) (n k : ℕ) (es : List (Frozen Message)) → AllByRecursion IsLookUp (taken_from w.key room (λ n. store) n k es)
-  taken_from-looks room n k [] = tt
-  taken_from-looks room n k (e ∷ es) =
-      all-append IsLookUp
-      (if room n then record { message = e.entry.message; object = found w.key store e.entry.message.reference } ∷ [] else [])
-      (taken_from w.key room (λ n. store) (n + (if is_some (found w.key store e.entry.message.reference) then 1 else 0)) (k + 1) es)
-      (if-look (room n) (record { message = e.entry.message; object = found w.key store e.entry.message.reference }) refl)
-      (taken_from-looks room (n + (if is_some (found w.key store e.entry.message.reference) then 1 else 0)) (k + 1) es)
+  found_in-looks : (ms : List Message) → AllByRecursion IsLookUp (found_in w.key store ms)
+  found_in-looks [] = tt
+  found_in-looks (m ∷ ms) = (refl, found_in-looks ms)
 
-  pub taken-looks : (limit : ℕ) (running : List (Running O)) (waiting : List (Frozen Message)) → AllByRecursion IsLookUp (taken_of w.key limit (λ n. store) running waiting)
-  taken-looks limit running waiting = taken_from-looks (has_room limit (length running)) 0 0 (candidates running waiting)
+  within-looks : (limit running n : ℕ) (ts : List (Taken O)) → AllByRecursion IsLookUp ts → AllByRecursion IsLookUp (within_room limit running n ts)
+  within-looks limit running n [] h = tt
+  within-looks limit running n (t ∷ ts) h =
+      all-append IsLookUp (if has_room limit running n then t ∷ [] else []) (within_room limit running (found_with n t.object) ts)
+      (if-look (has_room limit running n) t h.0) (within-looks limit running (found_with n t.object) ts h.1)
+
+  pub taken-looks : (limit : ℕ) (running : List (Running O)) (waiting : List (Frozen Message)) → AllByRecursion IsLookUp (taken_of limit (found_in w.key store) running waiting)
+  taken-looks limit running waiting =
+      within-looks limit (length running) 0 (found_in w.key store (map (λ e. e.entry.message) (candidates running waiting))) (found_in-looks (map (λ e. e.entry.message) (candidates running waiting)))
 
   module _ (found_all : AllByRecursion (IsFoundIn w.key store) store) (o : O) (found_o : IsFoundIn w.key store o) where
     abbrev pub keyed : Taken O → Option O

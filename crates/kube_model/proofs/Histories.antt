@@ -9,13 +9,14 @@ use Rattle.std.proofs.lemmas.Grind.{flat_map-append}
 use Rattle.std.proofs.lemmas.List.{map-append}
 use Rattle.kube_meta.specs.Reference.{same_reference}
 use Rattle.kube_model.specs.World.{World, Feed, Watched, Streamed, Queued, feed_of}
-use Rattle.kube_model.specs.History.{Message, Exchange, Dated, Turn, TurnRecord, Step, Finish, dated, exchanges, exchanges_with, dated_of, exchanges_of}
+use Rattle.kube_model.specs.History.{Message, Exchange, Dated, Turn, Step, Finish, dated, exchanges, exchanges_with, dated_of, exchanges_of}
 use Rattle.kube_model.specs.Queue.{QueueEvent}
 use Rattle.kube_model.specs.Pause.{Pause, pause_of, pause_after, pause_by, pause_reset, pause_failed, pause_asked, gave_up, has_requests}
 use Rattle.kube_model.specs.Owed.{is_end}
-use Rattle.kube_model.specs.Requests.{is_shut, events_of, events_after, turn_events, took}
+use Rattle.kube_model.specs.Shutdowns.{is_shut}
+use Rattle.kube_model.specs.Requests.{events_of, events_after, turn_events, took}
 use Rattle.kube_model.specs.Takes.{Running, running, unfinished, started, is_finished}
-use Rattle.kube_model.specs.Traces.{step}
+use Rattle.kube_model.specs.Traces.{Made, step}
 use Rattle.kube_model.specs.SecondForms.{running_after}
 use Rattle.kube_model.proofs.Alls.{or-left, or-right}
 
@@ -24,10 +25,10 @@ not-or true b = refl
 not-or false b = refl
 
 module _ {O : Type 0} where
-  pub exchanges-push : (h : List (Step O)) (t : Turn) (r : TurnRecord O) → exchanges (h ++ step t r ∷ []) ≡ exchanges_with h t r.exchanges
-  exchanges-push h t r =
-      flat_map-append (λ s. dated s.turn.at s.made.exchanges) h (step t r ∷ [])
-      ∙ ap (λ ds. exchanges h ++ ds) (append-nil (dated t.at r.exchanges))
+  pub exchanges-push : (h : List (Step O)) (t : Turn) (m : Made O) → exchanges (h ++ step t m ∷ []) ≡ exchanges_with h t m.0.exchanges
+  exchanges-push h t m =
+      flat_map-append (λ s. dated s.turn.at s.made.exchanges) h (step t m ∷ [])
+      ∙ ap (λ ds. exchanges h ++ ds) (append-nil (dated t.at m.0.exchanges))
 
   pub exchanges_with-push : (h : List (Step O)) (t : Turn) (before : List (Exchange O)) (x : Exchange O)
       → exchanges_with h t (before ++ x ∷ []) ≡ exchanges_with h t before ++ record { at = t.at; exchange = x } ∷ []
@@ -133,14 +134,14 @@ module _ {O B : Type 0} (w : World O B) where
   -- what happened to the queue, with one more turn
   pub events_after-push : (before : List (Step O)) (events : List (QueueEvent Message)) (h : List (Step O)) (s : Step O)
       → events_after w before events (h ++ s ∷ [])
-      ≡ events_after w before events h ++ turn_events w (before ++ h) (events_after w before events h) s.turn s.made.finished s.made.exchanges ++ took s.made.taken
+      ≡ events_after w before events h ++ turn_events w (before ++ h) (events_after w before events h) s.turn s.reads s.made.finished s.made.exchanges ++ took s.made.taken
   events_after-push before events [] s =
-      ap (λ g. events ++ turn_events w g events s.turn s.made.finished s.made.exchanges ++ took s.made.taken) (sym (append-nil before))
+      ap (λ g. events ++ turn_events w g events s.turn s.reads s.made.finished s.made.exchanges ++ took s.made.taken) (sym (append-nil before))
   events_after-push before events (u ∷ h) s =
-      events_after-push (before ++ u ∷ []) (events ++ turn_events w before events u.turn u.made.finished u.made.exchanges ++ took u.made.taken) h s
-      ∙ ap (λ g. events_after w before events (u ∷ h) ++ turn_events w g (events_after w before events (u ∷ h)) s.turn s.made.finished s.made.exchanges ++ took s.made.taken)
+      events_after-push (before ++ u ∷ []) (events ++ turn_events w before events u.turn u.reads u.made.finished u.made.exchanges ++ took u.made.taken) h s
+      ∙ ap (λ g. events_after w before events (u ∷ h) ++ turn_events w g (events_after w before events (u ∷ h)) s.turn s.reads s.made.finished s.made.exchanges ++ took s.made.taken)
       (append_assoc before (u ∷ []) h)
 
   pub events-push : (h : List (Step O)) (s : Step O)
-      → events_of w (h ++ s ∷ []) ≡ events_of w h ++ turn_events w h (events_of w h) s.turn s.made.finished s.made.exchanges ++ took s.made.taken
+      → events_of w (h ++ s ∷ []) ≡ events_of w h ++ turn_events w h (events_of w h) s.turn s.reads s.made.finished s.made.exchanges ++ took s.made.taken
   events-push h s = events_after-push [] [] h s

@@ -1,23 +1,26 @@
 -- Nothing stays unreconciled: one more turn, and a whole trace.
-use Rattle.std.proofs.Common.{◌≡◌, ℕ, Bool, true, false, not, ◌&&◌, ◌||◌, ◌==◌, List, [], ◌∷◌, ◌++◌, map, Some, None, if◌then◌else◌, is_some, refl, sym, ap, subst, ◌∙◌, ◌⊎◌, inl, inr, append_assoc, append-nil}
+use Rattle.std.proofs.Common.{◌≡◌, ℕ, ◌+◌, Bool, true, false, not, ◌&&◌, ◌||◌, ◌==◌, List, [], ◌∷◌, ◌++◌, map, Option, Some, None, if◌then◌else◌, is_some, refl, sym, ap, subst, ◌∙◌, ◌⊎◌, inl, inr, append_assoc, append-nil}
 use Rattle.std.specs.List.{filter_map, flat_map, list_any, last_or, AllByRecursion, count_by}
 use Rattle.std.proofs.lemmas.List.Elements.{filter_map-append}
 use Rattle.std.proofs.lemmas.List.Folds.{list_any-append}
 use Rattle.std.proofs.lemmas.Grind.{flat_map-append}
 use Rattle.std.proofs.Math.Bool.{or-true}
+use Rattle.std.proofs.lemmas.Bool.{eqb-true}
 use Rattle.std.specs.Cmp.{on_equiv}
 use Rattle.kube_meta.specs.ReferenceLaws.{same_reference_equiv}
 use Rattle.kube_model.specs.World.{World, Settings, Watched, feed_of}
 use Rattle.kube_model.specs.History.{Message, same_message, Exchange, Turn, TurnRecord, Step, Taken, dated, exchanges, exchanges_with, exchanges_of}
 use Rattle.kube_model.specs.Owed.{mark}
 use Rattle.kube_model.specs.Store.{completes, listed, store_of, changes_of}
-use Rattle.kube_model.specs.Fits.{ContentFits, RootRequestsFit, requests_of_watch, updated, put_of}
+use Rattle.kube_model.specs.Fits.{IsOfRoot, IsOfSource, requests_of_watch, updated, put_of}
 use Rattle.kube_model.specs.Queue.{QueueEvent, is_request, is_settle}
-use Rattle.kube_model.specs.Requests.{is_over, Timed, requested_at, requests_of_exchanges, requests_of_turn, requested_and_settled, is_closed, is_shut, asks_shutdown, turn_events, events_of, took, store_after, reads_of, reads_by, entry_in, waiting_in, requests_of_finish, reload_requests, named_requests}
-use Rattle.kube_model.specs.Takes.{taken_of}
+use Rattle.kube_model.specs.Shutdowns.{is_over, is_closed, is_shut, asks_shutdown}
+use Rattle.kube_model.specs.Stored.{store_after, stored_in, stored_by}
+use Rattle.kube_model.specs.Requests.{Timed, requested_at, requests_of_exchanges, requests_of_turn, requested_and_settled, turn_events, events_of, took, entry_in, waiting_in, requests_of_finish, reload_requests, named_requests}
+use Rattle.kube_model.specs.Takes.{found_in, taken_of}
 use Rattle.kube_model.specs.Pause.{gave_up}
 use Rattle.kube_model.specs.Turns.{running_in, record_with}
-use Rattle.kube_model.specs.Traces.{step, steps, EachIsNext, IsRecord, IsTrace}
+use Rattle.kube_model.specs.Traces.{Made, step, steps, EachIsNext, IsRecord, IsTrace}
 use Rattle.kube_model.specs.Settled.{about, if_keyed, last_handed, IsSettledAt, IsSettled}
 use Rattle.kube_model.proofs.Alls.{all-both, all-map, all-left, all-right, all-of_map}
 use Rattle.kube_model.proofs.Stores.{IsFoundIn, each-found, distinct-store, requested, all-store}
@@ -63,8 +66,11 @@ module _ {O B : Type 0} (w : World O B) (settings : Settings) (watched : feed_of
         (subst (λ ds. AllByRecursion P (store_of w.key (exchanges_of 0 ds))) (sym (exchanges_with-push h t before x)) (go (x.source == 0) refl))
         (all-right Q x.requests (flat_map (λ x. x.requests) xs) q))
       where
-        fits : RootRequestsFit w (feed_of w 0) (exchanges_of 0 (exchanges_with h t before)) x → x.requests ≡ requests_of_watch w (exchanges_of 0 (exchanges_with h t before)) x
-        fits k = subst (λ feed. RootRequestsFit w feed (exchanges_of 0 (exchanges_with h t before)) x) watched k
+        fits : (x.source == 0) ≡ true → x.requests ≡ requests_of_watch w (exchanges_of 0 (exchanges_with h t before)) x
+        fits e =
+            let own : IsOfRoot w (feed_of w 0) (exchanges_of 0 (exchanges_with h t before)) x =
+            subst (λ source. IsOfSource w source (exchanges_of source (exchanges_with h t before)) x) (eqb-true x.source 0 e) n.0.fits.content in
+            (subst (λ feed. IsOfRoot w feed (exchanges_of 0 (exchanges_with h t before)) x) watched own).requests
 
         go : (b : Bool) → (x.source == 0) ≡ b → AllByRecursion P (store_of w.key (exchanges_of 0 (exchanges_with h t before ++ record { at = t.at; exchange = x } ∷ [])))
         go true e =
@@ -72,16 +78,19 @@ module _ {O B : Type 0} (w : World O B) (settings : Settings) (watched : feed_of
             (all-store w.key P (exchanges_of 0 (exchanges_with h t before)) x p
             (all-map (λ o. Q (updated w o)) P f (requested w.key (exchanges_of 0 (exchanges_with h t before)) x)
             (all-of_map Q (updated w) (requested w.key (exchanges_of 0 (exchanges_with h t before)) x)
-            (subst (AllByRecursion Q) (fits (subst (λ b. ContentFits w b (exchanges_with h t before) x) e n.0.fits.content).1 ∙ requests-brought (exchanges_of 0 (exchanges_with h t before)) x)
+            (subst (AllByRecursion Q) (fits e ∙ requests-brought (exchanges_of 0 (exchanges_with h t before)) x)
             (all-left Q x.requests (flat_map (λ x. x.requests) xs) q)))))
         go false e = subst (λ ys. AllByRecursion P (store_of w.key ys)) (sym (exchanges_of-other 0 (exchanges_with h t before) (record { at = t.at; exchange = x }) e)) p
 
-  module _ (h : List (Step O)) (t : Turn) (r : TurnRecord O) (unshut : is_shut (h ++ step t r ∷ []) ≡ false) (going : gave_up w (exchanges (h ++ step t r ∷ [])) ≡ false) where
+  module _ (h : List (Step O)) (t : Turn) (made : Made O) (unshut : is_shut (h ++ step t made ∷ []) ≡ false) (going : gave_up w (exchanges (h ++ step t made ∷ [])) ≡ false) where
+    abbrev r : TurnRecord O
+    r = made.0
+
     open-turn : is_closed w h t ≡ false
     open-turn =
-        or-three (is_shut h) (asks_shutdown t.shutdown) (gave_up w (exchanges h)) (shut-before h (step t r ∷ []) unshut)
-        (asked (asks_shutdown t.shutdown) (shut-after h (step t r ∷ []) unshut))
-        (gave_up-before w (exchanges h) (dated t.at r.exchanges) (ap (gave_up w) (sym (exchanges-push h t r)) ∙ going))
+        or-three (is_shut h) (asks_shutdown t.shutdown) (gave_up w (exchanges h)) (shut-before h (step t made ∷ []) unshut)
+        (asked (asks_shutdown t.shutdown) (shut-after h (step t made ∷ []) unshut))
+        (gave_up-before w (exchanges h) (dated t.at r.exchanges) (ap (gave_up w) (sym (exchanges-push h t made)) ∙ going))
       where
         asked : (b : Bool) → b || false ≡ false → b ≡ false
         asked true e = e
@@ -89,10 +98,10 @@ module _ {O B : Type 0} (w : World O B) (settings : Settings) (watched : feed_of
 
     -- the queue before the turn's takes, and the turn's requests
     abbrev queue : List (QueueEvent Message)
-    queue = events_of w h ++ turn_events w h (events_of w h) t r.finished r.exchanges
+    queue = events_of w h ++ turn_events w h (events_of w h) t made.1 r.finished r.exchanges
 
     abbrev turn_requests : List Timed
-    turn_requests = requests_of_turn w (reads_of w h t r.exchanges).reloaded t r.finished r.exchanges
+    turn_requests = requests_of_turn w (stored_in w h t made.1 r.exchanges).reloaded t r.finished r.exchanges
 
     queue-is : (m : Message) → entry_by w.debounce queue m ≡ on_from w.debounce m (entry_by w.debounce (events_of w h) m) (requested_and_settled (events_of w h) t.at turn_requests)
     queue-is m =
@@ -117,7 +126,7 @@ module _ {O B : Type 0} (w : World O B) (settings : Settings) (watched : feed_of
     each-waits =
         all-map (λ m. list_any (λ q. same_message q.message m) (requests_of_exchanges t.at r.exchanges) ≡ true) Waits
         (λ m e. asked-now m (any-last (λ q. same_message q.message m)
-        (flat_map (requests_of_finish t.at) r.finished ++ reload_requests w (reads_of w h t r.exchanges).reloaded t ++ named_requests t)
+        (flat_map (requests_of_finish t.at) r.finished ++ reload_requests w (stored_in w h t made.1 r.exchanges).reloaded t ++ named_requests t)
         (requests_of_exchanges t.at r.exchanges) e))
         (flat_map (λ x. x.requests) r.exchanges) (each-asked t.at (flat_map (λ x. x.requests) r.exchanges))
 
@@ -145,63 +154,63 @@ module _ {O B : Type 0} (w : World O B) (settings : Settings) (watched : feed_of
     if-looks false ts k = tt
 
     -- what is taken is looked up in the store as it is after the exchanges
-    each-looked-up : r ≡ record_with w h t r.finished r.exchanges → AllByRecursion (IsLookUp w stored) r.taken
+    each-looked-up : r ≡ record_with w h t made.1 r.finished r.exchanges → AllByRecursion (IsLookUp w stored) r.taken
     each-looked-up e =
         subst (AllByRecursion (IsLookUp w stored)) (sym (ap (λ (q : TurnRecord O). q.taken) e))
         (subst (λ feed. AllByRecursion (IsLookUp w stored)
-        (if (reads_by w feed h t r.exchanges).is_ready && not (is_over w h t r.exchanges)
-        then taken_of w.key w.limit (reads_by w feed h t r.exchanges).looked_up (running_in w h t) (waiting_in w h t r.finished r.exchanges)
+        (if (stored_by w feed h t made.1 r.exchanges).is_ready && not (is_over w h t r.exchanges)
+        then taken_of w.limit (stored_by w feed h t made.1 r.exchanges).found_of (running_in w h t) (waiting_in w h t made.1 r.finished r.exchanges)
         else []))
         (sym watched)
-        (if-looks ((reads_by w (Watched settings) h t r.exchanges).is_ready && not (is_over w h t r.exchanges))
-        (taken_of w.key w.limit (λ n. stored) (running_in w h t) (waiting_in w h t r.finished r.exchanges))
-        (taken-looks w stored w.limit (running_in w h t) (waiting_in w h t r.finished r.exchanges))))
+        (if-looks ((stored_by w (Watched settings) h t made.1 r.exchanges).is_ready && not (is_over w h t r.exchanges))
+        (taken_of w.limit (found_in w.key stored) (running_in w h t) (waiting_in w h t made.1 r.finished r.exchanges))
+        (taken-looks w stored w.limit (running_in w h t) (waiting_in w h t made.1 r.finished r.exchanges))))
 
-    last-push : (o : O) → last_handed w (h ++ step t r ∷ []) (w.key o) ≡ last_or (last_handed w h (w.key o)) (filter_map (λ u. if_keyed w (w.key o) u.object) r.taken)
+    last-push : (o : O) → last_handed w (h ++ step t made ∷ []) (w.key o) ≡ last_or (last_handed w h (w.key o)) (filter_map (λ u. if_keyed w (w.key o) u.object) r.taken)
     last-push o =
-        ap (λ us. last_or None (filter_map (λ u. if_keyed w (w.key o) u.object) us)) (flat_map-append (λ s. s.made.taken) h (step t r ∷ []) ∙ ap (λ us. flat_map (λ s. s.made.taken) h ++ us) (append-nil r.taken))
+        ap (λ us. last_or None (filter_map (λ u. if_keyed w (w.key o) u.object) us)) (flat_map-append (λ s. s.made.taken) h (step t made ∷ []) ∙ ap (λ us. flat_map (λ s. s.made.taken) h ++ us) (append-nil r.taken))
         ∙ ap (last_or None) (filter_map-append (λ u. if_keyed w (w.key o) u.object) (flat_map (λ s. s.made.taken) h) r.taken)
         ∙ last_or-append None (filter_map (λ u. if_keyed w (w.key o) u.object) (flat_map (λ s. s.made.taken) h)) (filter_map (λ u. if_keyed w (w.key o) u.object) r.taken)
 
-    entry-now : (m : Message) → entry_in w (h ++ step t r ∷ []) m ≡ on_from w.debounce m (entry_by w.debounce queue m) (took r.taken)
-    entry-now m = ap (λ es. entry_by w.debounce es m) (events-push w h (step t r)) ∙ entry-append w.debounce queue (took r.taken) m
+    entry-now : (m : Message) → entry_in w (h ++ step t made ∷ []) m ≡ on_from w.debounce m (entry_by w.debounce queue m) (took r.taken)
+    entry-now m = ap (λ es. entry_by w.debounce es m) (events-push w h (step t made)) ∙ entry-append w.debounce queue (took r.taken) m
 
     settled-one : AllByRecursion (IsLookUp w stored) r.taken → AllByRecursion (IsFoundIn w.key stored) stored → (o : O) → IsDue o → IsFoundIn w.key stored o
-        → IsSettledAt w (h ++ step t r ∷ []) o
+        → IsSettledAt w (h ++ step t made ∷ []) o
     settled-one looks all o due found = go (list_any (λ u. same_message u.message (about (w.key o))) r.taken) refl due
       where
-        go : (b : Bool) → list_any (λ u. same_message u.message (about (w.key o))) r.taken ≡ b → IsDue o → IsSettledAt w (h ++ step t r ∷ []) o
+        go : (b : Bool) → list_any (λ u. same_message u.message (about (w.key o))) r.taken ≡ b → IsDue o → IsSettledAt w (h ++ step t made ∷ []) o
         go true e due = inl (last-push o ∙ last-taken w stored all o found (last_handed w h (w.key o)) r.taken looks e)
         go false e (inl k) =
             inl (last-push o ∙ ap (λ z. last_or z (filter_map (λ u. if_keyed w (w.key o) u.object) r.taken)) k ∙ last-stays w stored all o found r.taken looks)
         go false e (inr k) = inr (ap is_some (entry-now (about (w.key o)) ∙ kept-takes w.debounce (about (w.key o)) (entry_by w.debounce queue (about (w.key o))) r.taken e) ∙ k)
 
     -- one more turn
-    pub settled-turn : IsRecord w h t r → IsSettled w h → IsSettled w (h ++ step t r ∷ [])
-    settled-turn k s =
-        subst (λ ds. AllByRecursion (IsSettledAt w (h ++ step t r ∷ [])) (store_of w.key (exchanges_of 0 ds))) (sym (exchanges-push h t r))
-        (all-both IsDue (IsFoundIn w.key stored) (IsSettledAt w (h ++ step t r ∷ []))
+    pub settled-turn : (policies : ℕ → O → Option ℕ) → IsRecord w policies h t made → IsSettled w h → IsSettled w (h ++ step t made ∷ [])
+    settled-turn policies k s =
+        subst (λ ds. AllByRecursion (IsSettledAt w (h ++ step t made ∷ [])) (store_of w.key (exchanges_of 0 ds))) (sym (exchanges-push h t made))
+        (all-both IsDue (IsFoundIn w.key stored) (IsSettledAt w (h ++ step t made ∷ []))
         (settled-one (each-looked-up k.determined) (each-found w.key stored (distinct-store w.key (exchanges_of 0 (exchanges_with h t r.exchanges)))))
         stored (each-due k.asked s) (each-found w.key stored (distinct-store w.key (exchanges_of 0 (exchanges_with h t r.exchanges)))))
 
   exchanges-append : (g h : List (Step O)) → exchanges (g ++ h) ≡ exchanges g ++ exchanges h
   exchanges-append g h = flat_map-append (λ s. dated s.turn.at s.made.exchanges) g h
 
-  pub settled-steps : (h : List (Step O)) (ts : List Turn) (rs : List (TurnRecord O)) → IsTrace w h ts rs → IsSettled w h
-      → is_shut (h ++ steps ts rs) ≡ false → gave_up w (exchanges (h ++ steps ts rs)) ≡ false → IsSettled w (h ++ steps ts rs)
-  settled-steps h [] rs k s u g = subst (IsSettled w) (sym (append-nil h)) s
-  settled-steps h (t ∷ ts) [] k s u g = subst (IsSettled w) (sym (append-nil h)) s
-  settled-steps h (t ∷ ts) (r ∷ rs) k s u g =
-      let assoc : h ++ step t r ∷ steps ts rs ≡ (h ++ step t r ∷ []) ++ steps ts rs = sym (append_assoc h (step t r ∷ []) (steps ts rs)) in
-      let unshut : is_shut ((h ++ step t r ∷ []) ++ steps ts rs) ≡ false = ap is_shut (sym assoc) ∙ u in
-      let going : gave_up w (exchanges ((h ++ step t r ∷ []) ++ steps ts rs)) ≡ false = ap (λ z. gave_up w (exchanges z)) (sym assoc) ∙ g in
+  pub settled-steps : (policies : ℕ → ℕ → O → Option ℕ) (h : List (Step O)) (ts : List Turn) (ms : List (Made O)) → IsTrace w policies h ts ms → IsSettled w h
+      → is_shut (h ++ steps ts ms) ≡ false → gave_up w (exchanges (h ++ steps ts ms)) ≡ false → IsSettled w (h ++ steps ts ms)
+  settled-steps policies h [] ms k s u g = subst (IsSettled w) (sym (append-nil h)) s
+  settled-steps policies h (t ∷ ts) [] k s u g = subst (IsSettled w) (sym (append-nil h)) s
+  settled-steps policies h (t ∷ ts) (m ∷ ms) k s u g =
+      let assoc : h ++ step t m ∷ steps ts ms ≡ (h ++ step t m ∷ []) ++ steps ts ms = sym (append_assoc h (step t m ∷ []) (steps ts ms)) in
+      let unshut : is_shut ((h ++ step t m ∷ []) ++ steps ts ms) ≡ false = ap is_shut (sym assoc) ∙ u in
+      let going : gave_up w (exchanges ((h ++ step t m ∷ []) ++ steps ts ms)) ≡ false = ap (λ z. gave_up w (exchanges z)) (sym assoc) ∙ g in
       subst (IsSettled w) (sym assoc)
-      (settled-steps (h ++ step t r ∷ []) ts rs k.2
-      (settled-turn h t r (shut-before (h ++ step t r ∷ []) (steps ts rs) unshut)
-      (gave_up-before w (exchanges (h ++ step t r ∷ [])) (exchanges (steps ts rs)) (ap (gave_up w) (sym (exchanges-append (h ++ step t r ∷ []) (steps ts rs))) ∙ going)) k.1 s)
+      (settled-steps (λ n. policies (n + 1)) (h ++ step t m ∷ []) ts ms k.2
+      (settled-turn h t m (shut-before (h ++ step t m ∷ []) (steps ts ms) unshut)
+      (gave_up-before w (exchanges (h ++ step t m ∷ [])) (exchanges (steps ts ms)) (ap (gave_up w) (sym (exchanges-append (h ++ step t m ∷ []) (steps ts ms))) ∙ going)) (policies 0) k.1 s)
       unshut going)
 
   -- in every trace until shutdown
-  pub settled-trace : (ts : List Turn) (rs : List (TurnRecord O)) → IsTrace w [] ts rs
-      → is_shut (steps ts rs) ≡ false → gave_up w (exchanges (steps ts rs)) ≡ false → IsSettled w (steps ts rs)
-  settled-trace ts rs k u g = settled-steps [] ts rs k tt u g
+  pub settled-trace : (policies : ℕ → ℕ → O → Option ℕ) (ts : List Turn) (ms : List (Made O)) → IsTrace w policies [] ts ms
+      → is_shut (steps ts ms) ≡ false → gave_up w (exchanges (steps ts ms)) ≡ false → IsSettled w (steps ts ms)
+  settled-trace policies ts ms k u g = settled-steps policies [] ts ms k tt u g

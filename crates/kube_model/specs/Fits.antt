@@ -1,5 +1,5 @@
 -- When a recorded exchange is one that may be: it makes the owed call, and its answer, texts, objects, error and requests fit. (Tables of Kubernetes API concepts "list", "watch", "bookmarks"; crate: `watcher`.)
-use Rattle.std.specs.Prelude.{◌≡◌, ◌⊎◌, ℕ, ◌+◌, nat_le, Bool, true, false, not, ◌&&◌, ◌||◌, ◌==◌, List, [], ◌∷◌, ◌++◌, map, length, Option, Some, None, if◌then◌else◌, is_some, IsTrue}
+use Rattle.std.specs.Prelude.{◌≡◌, ◌⊎◌, ℕ, zero, suc, ◌+◌, nat_le, Bool, true, false, not, ◌&&◌, ◌||◌, ◌==◌, List, [], ◌∷◌, ◌++◌, map, length, Option, Some, None, if◌then◌else◌, is_some, IsTrue}
 use Rattle.std.specs.List.{find, flat_map}
 use Rattle.std.specs.List.{AllByRecursion}
 use Rattle.std.specs.Option.{option_map}
@@ -104,17 +104,20 @@ ErrorFits m = (m.exchange.answer ≡ Item) ⊎ (m.exchange.error ≡ error_of m)
 
 -- Items and requests.
 
--- whether its items must become references: those of a page that has a token or a version, of an Added or Modified of an initial watch, of a versioned item of a later watch, and of a stream's item that is no error
-abbrev pub has_references : {O : Type 0} → Marked O → Bool
-has_references m =
-    elim (m.exchange.answer) [
+-- whether what an answer brings must become references: the items of a page that has a token or a version, an Added or Modified of an initial watch, a versioned item of a later watch, and a stream's item that is no error
+abbrev pub brings_references : Bool → Bool → Answer → Bool
+brings_references initial failed answer =
+    elim answer [
       | Page token version ↦ is_some token || is_some version
-      | Added version ↦ m.initial || is_some version
-      | Modified version ↦ m.initial || is_some version
-      | Deleted version ↦ not m.initial && is_some version
-      | Item ↦ not (is_some m.exchange.error)
+      | Added version ↦ initial || is_some version
+      | Modified version ↦ initial || is_some version
+      | Deleted version ↦ not initial && is_some version
+      | Item ↦ not failed
       | _ ↦ false
     ]
+
+abbrev pub has_references : {O : Type 0} → Marked O → Bool
+has_references m = brings_references m.initial (is_some m.exchange.error) m.exchange.answer
 
 abbrev pub put_of : {O : Type 0} → Change O → List O
 put_of (Put o) = o ∷ []
@@ -129,6 +132,32 @@ abbrev pub RelatedRequestsFit : Bool → List Message → Type 0
 RelatedRequestsFit false requests = requests ≡ []
 RelatedRequestsFit true requests = AllByRecursion (λ m. IsTrue (is_related m.reason)) requests
 
+-- what every exchange has beside its call: an answer to it, without empty texts, and the answer's error
+pub record IsAnswered {O : Type 0} (own : List (Exchange O)) (x : Exchange O) : Type 0 where
+  pub answered : IsTrue (answers x.call x.answer)
+  pub texts : TextsFit x.answer
+  pub error : ErrorFits (mark own x)
+
+-- an exchange of a related source keeps no objects
+pub record IsOfRelated {O : Type 0} (own : List (Exchange O)) (x : Exchange O) : Type 0 where
+  pub items : x.items ≡ []
+  pub requests : RelatedRequestsFit (has_references (mark own x)) x.requests
+
+-- the request that came on a queue
+abbrev pub QueuedRequestsFit : Bool → Answer → List Message → Type 0
+QueuedRequestsFit failed Item requests = length requests ≡ (if failed then 0 else 1)
+QueuedRequestsFit failed _ requests = requests ≡ []
+
+-- one of a queue brings a request and no object
+pub record IsOfQueue {O : Type 0} (x : Exchange O) : Type 0 where
+  pub items : x.items ≡ []
+  pub requests : QueuedRequestsFit (is_some x.error) x.answer x.requests
+
+-- the object of an item of a stream, where it is no error
+abbrev pub StreamItemsFit : {O : Type 0} → Bool → Answer → List O → Type 0
+StreamItemsFit failed Item items = length items ≡ (if failed then 0 else 1)
+StreamItemsFit failed _ items = items ≡ []
+
 module _ {O B : Type 0} (w : World O B) where
   -- one object of this version came
   abbrev pub IsOneOf : Option (List ℕ) → List O → Type 0
@@ -136,20 +165,13 @@ module _ {O B : Type 0} (w : World O B) where
   IsOneOf version (o ∷ []) = version ≡ nonempty (w.version o)
   IsOneOf version (o ∷ p ∷ os) = ⊥
 
-  -- the objects that are recorded beside an answer of the root: the object of an item of a stream comes where it has no error
-  abbrev pub RootItemsFit : Bool → Answer → List O → Type 0
-  RootItemsFit failed (Page token version) items = Unit {0}
-  RootItemsFit failed (Added version) items = IsOneOf version items
-  RootItemsFit failed (Modified version) items = IsOneOf version items
-  RootItemsFit failed (Deleted version) items = IsOneOf version items
-  RootItemsFit failed Item items = length items ≡ (if failed then 0 else 1)
-  RootItemsFit failed _ items = items ≡ []
-
-  -- an item of a queue is a request and no object
-  abbrev pub ItemsFit : Feed → Bool → Answer → List O → Type 0
-  ItemsFit (Watched settings) failed answer items = RootItemsFit failed answer items
-  ItemsFit Streamed failed answer items = RootItemsFit failed answer items
-  ItemsFit Queued failed answer items = items ≡ []
+  -- the objects that come with an answer of a watched root
+  abbrev pub WatchItemsFit : Answer → List O → Type 0
+  WatchItemsFit (Page token version) items = Unit {0}
+  WatchItemsFit (Added version) items = IsOneOf version items
+  WatchItemsFit (Modified version) items = IsOneOf version items
+  WatchItemsFit (Deleted version) items = IsOneOf version items
+  WatchItemsFit _ items = items ≡ []
 
   abbrev pub updated : O → Message
   updated o = record { reference = w.key o; reason = ObjectUpdated }
@@ -160,31 +182,28 @@ module _ {O B : Type 0} (w : World O B) where
       if completes (mark before x) then map updated (listed (before ++ x ∷ []))
       else map updated (flat_map put_of (changes_of (mark before x)))
 
-  -- the request that came on a queue
-  abbrev pub QueuedRequestsFit : Bool → Answer → List Message → Type 0
-  QueuedRequestsFit failed Item requests = length requests ≡ (if failed then 0 else 1)
-  QueuedRequestsFit failed _ requests = requests ≡ []
+  pub record IsOfWatch (own : List (Exchange O)) (x : Exchange O) : Type 0 where
+    pub items : WatchItemsFit x.answer x.items
+    pub requests : x.requests ≡ requests_of_watch own x
 
   -- a stream's object is requested as it comes
-  abbrev pub RootRequestsFit : Feed → List (Exchange O) → Exchange O → Type 0
-  RootRequestsFit (Watched settings) before x = x.requests ≡ requests_of_watch before x
-  RootRequestsFit Streamed before x = x.requests ≡ map updated x.items
-  RootRequestsFit Queued before x = QueuedRequestsFit (is_some x.error) x.answer x.requests
+  pub record IsOfStream (x : Exchange O) : Type 0 where
+    pub items : StreamItemsFit (is_some x.error) x.answer x.items
+    pub requests : x.requests ≡ map updated x.items
 
-  -- the objects and requests of an exchange of the root, or of a related source, which keeps no objects
-  abbrev pub ContentFits : Bool → List (Dated O) → Exchange O → Type 0
-  ContentFits true before x = ItemsFit (feed_of w 0) (is_some x.error) x.answer x.items × RootRequestsFit (feed_of w 0) (exchanges_of 0 before) x
-  ContentFits false before x = (x.items ≡ []) × RelatedRequestsFit (has_references (mark (exchanges_of x.source before) x)) x.requests
+  abbrev pub IsOfRoot : Feed → List (Exchange O) → Exchange O → Type 0
+  IsOfRoot (Watched settings) own x = IsOfWatch own x
+  IsOfRoot Streamed own x = IsOfStream x
+  IsOfRoot Queued own x = IsOfQueue x
 
-  -- the exchange is one that its source may have after these, at this moment
+  -- the objects and requests of an exchange of this source, the root or a related one
+  abbrev pub IsOfSource : ℕ → List (Exchange O) → Exchange O → Type 0
+  IsOfSource zero own x = IsOfRoot (feed_of w 0) own x
+  IsOfSource (suc place) own x = IsOfRelated own x
+
+  -- the exchange is one that its source may have after these, at this moment: its call is owed, it is idle exactly where its window is over, and the rest is of its answer
   pub record IsFitting (before : List (Dated O)) (at : ℕ) (x : Exchange O) : Type 0 where
     pub owes : x.call ≡ owed (feed_of w x.source) (exchanges_of x.source before)
-    pub answered : IsTrue (answers x.call x.answer)
-    pub texts : TextsFit x.answer
     pub idle : IsTrue (is_next x.call) → IsTrue (idle_fits (is_window_over (window_of (feed_of w x.source)) (silent_since (dated_of x.source before)) at) x.answer)
-    pub error : ErrorFits (mark (exchanges_of x.source before) x)
-    pub content : ContentFits (x.source == 0) before x
-
-  -- each recorded item that must become a reference has a name
-  abbrev pub AreNamed : List (Dated O) → Exchange O → Type 0
-  AreNamed before x = IsTrue (has_references (mark (exchanges_of x.source before) x)) → AllByRecursion (λ o. IsTrue (w.is_named o)) x.items
+    pub answer : IsAnswered (exchanges_of x.source before) x
+    pub content : IsOfSource x.source (exchanges_of x.source before) x

@@ -9,6 +9,7 @@ use Rattle.kube_model.specs.declared.error.RunnerError.{RunnerError}
 use Rattle.kube_model.specs.declared.turn.Shutdown.{Shutdown}
 use Rattle.kube_model.specs.declared.turn.Stop.{Stop}
 use Rattle.kube_model.specs.Reason.{Reason}
+use Rattle.kube_model.specs.Reads.{Reads}
 
 -- what is asked to be reconciled, and why
 pub record Message : Type 0 where
@@ -71,10 +72,11 @@ pub record TurnRecord (O : Type 0) : Type 0 where
   pub runner : Option RunnerError
   pub ended : Bool
 
--- a turn with its record. A history is a list of these
+-- a turn with its record, and what the reader answered in it, where the root is a stream or a queue. A history is a list of these
 pub record Step (O : Type 0) : Type 0 where
   pub turn : Turn
   pub made : TurnRecord O
+  pub reads : Reads O
 
 -- exchanges at one moment
 abbrev pub dated : {O : Type 0} → ℕ → List (Exchange O) → List (Dated O)

@@ -4,6 +4,7 @@ pub mod Raw
 pub mod Reason
 pub mod ReasonView
 pub mod World
+pub mod Reads
 pub mod History
 pub mod Cuts
 pub mod Owed
@@ -12,10 +13,14 @@ pub mod Fits
 pub mod Recorded
 pub mod Queue
 pub mod Pause
-pub mod Requests
+pub mod Shutdowns
 pub mod Takes
+pub mod Stored
+pub mod Requests
+pub mod Asks
 pub mod Turns
 pub mod Traces
+pub mod Named
 pub mod Settled
 pub mod Plays
 pub mod Rows

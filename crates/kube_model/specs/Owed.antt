@@ -4,7 +4,7 @@ use Rattle.std.specs.List.{filter, filter_map, list_any}
 use Rattle.kube_model.specs.declared.call.Call.{Call}
 use Rattle.kube_model.specs.declared.call.Call.TheVariants.{List as ListCall, Watch, Next, Stream}
 use Rattle.kube_model.specs.declared.call.Answer.{Answer}
-use Rattle.kube_model.specs.declared.call.Answer.TheVariants.{Page, Opened, Added, Modified, Deleted, Bookmark, ErrorItem, Fault, End, NotReady, Idle, Item, Spent}
+use Rattle.kube_model.specs.declared.call.Answer.TheVariants.{Page, Opened, Added, Modified, Deleted, Bookmark, ErrorItem, Fault, End, NotReady, Idle}
 use Rattle.kube_model.specs.World.{Settings, Feed, Watched, Streamed, Queued, start_by}
 use Rattle.kube_model.specs.History.{Exchange}
 use Rattle.kube_model.specs.Cuts.{last, after_last}
@@ -75,42 +75,20 @@ version_seen m =
 abbrev pub seen : {O : Type 0} → List (Exchange O) → List ℕ
 seen xs = unwrap_or (last (filter_map version_seen (marks xs))) []
 
--- what is owed after an item of a watch: an item without version in a later watch starts anew
-abbrev pub owed_after_item : Settings → Bool → Option (List ℕ) → Call
-owed_after_item settings initial version = if initial || is_some version then Next else start_by settings
-
--- what is owed as a watch is over: an initial one starts anew, a later one goes on from what was seen
-abbrev pub owed_after_watch : Settings → Bool → List ℕ → Call
-owed_after_watch settings initial seen = if initial then start_by settings else Watch seen false
-
-abbrev pub owed_after_page : Settings → Option (List ℕ) → Option (List ℕ) → Call
-owed_after_page settings (Some token) version = ListCall (Some token)
-owed_after_page settings None (Some version) = Watch version false
-owed_after_page settings None None = start_by settings
-
-abbrev pub owed_after_fault : Settings → List ℕ → Call → Call
-owed_after_fault settings seen (ListCall token) = start_by settings
-owed_after_fault settings seen (Watch version initial) = owed_after_watch settings initial seen
-owed_after_fault settings seen Next = Next
-owed_after_fault settings seen Stream = Stream
-
--- what a watcher owes after an answer other than not ready; initial says whether a `Next` there belongs to an initial watch. The last three lines are never reached: they are no such answers of a watcher
+-- what a watcher owes after an exchange that was answered; initial says whether a `Next` there belongs to an initial watch. The list that a token goes on, or the watch from a page's version; a start where there is neither; after an unversioned item of a later watch and after an error of code 410 a start; where a later watch ended, or its call failed, the watch from the version that was seen, and a start where an initial one did or a list failed; else the next event
 abbrev pub owed_after : {O : Type 0} → Settings → Bool → List ℕ → Exchange O → Call
 owed_after settings initial seen x =
     elim (x.answer) [
-      | Page token version ↦ owed_after_page settings token version
-      | Opened ↦ Next
-      | Added version ↦ owed_after_item settings initial version
-      | Modified version ↦ owed_after_item settings initial version
-      | Deleted version ↦ owed_after_item settings initial version
-      | Bookmark version ending ↦ Next
+      | Page token version ↦ if is_some token then ListCall token else elim version [ Some v ↦ Watch v false | None ↦ start_by settings ]
+      | Added version ↦ if initial || is_some version then Next else start_by settings
+      | Modified version ↦ if initial || is_some version then Next else start_by settings
+      | Deleted version ↦ if initial || is_some version then Next else start_by settings
       | ErrorItem status ↦ if status.code == 410 then start_by settings else Next
-      | Fault error ↦ owed_after_fault settings seen x.call
-      | End ↦ owed_after_watch settings initial seen
-      | Idle ↦ owed_after_watch settings initial seen
-      | NotReady ↦ x.call
-      | Item ↦ x.call
-      | Spent ↦ x.call
+      | End ↦ if initial then start_by settings else Watch seen false
+      | Idle ↦ if initial then start_by settings else Watch seen false
+      | Fault error ↦
+          elim (x.call) [ Watch version first ↦ if first then start_by settings else Watch seen false | ListCall token ↦ start_by settings | _ ↦ Next ]
+      | _ ↦ Next
     ]
 
 abbrev pub answered : {O : Type 0} → List (Exchange O) → List (Exchange O)

@@ -5,7 +5,10 @@ use Rattle.kube_model.specs.declared.call.Call.TheVariants.{List as ListCall, Wa
 use Rattle.kube_model.specs.declared.call.Answer.{Answer}
 use Rattle.kube_model.specs.declared.call.Answer.TheVariants.{Page, Opened, Modified, NotReady}
 use Rattle.kube_model.specs.Reason.{ObjectUpdated}
-use Rattle.kube_model.specs.World.{World}
+use Rattle.kube_model.specs.World.{World, default_settings, list_params}
+use Rattle.kube_model.specs.Raw.{ListAsked, GivesPage}
+use Rattle.kube_model.specs.Takes.{Running}
+use Rattle.kube_model.specs.Named.{Form, OfCall}
 use Rattle.kube_model.specs.History.{Message, Exchange, Dated, dated}
 use Rattle.kube_model.specs.Fits.{IsFitting}
 use Rattle.kube_model.specs.Plays.{Thing, thing, reference_to, plain_world}
@@ -48,3 +51,18 @@ IsRefusedAt at x = IsFitting plain_world before at x → ⊥
 -- a first exchange may not be
 abbrev pub IsRefusedFirst : World Thing (List (Option ℕ)) → Exchange Thing → Type 0
 IsRefusedFirst w x = IsFitting w [] 0 x → ⊥
+
+-- a runs, as it was handed over
+abbrev pub a_runs : List (Running Thing)
+a_runs = record { reference = reference_to a; object = thing a (codes "1") } ∷ []
+
+-- what came before is taken to have its names
+abbrev pub each_came_named : ℕ → List (Exchange Thing) → Exchange Thing → Type 0
+each_came_named source own x = Unit {0}
+
+abbrev pub empty_page : Exchange Thing
+empty_page = exchange 0 (ListCall None) (Page None (Some (codes "1"))) []
+
+-- a page of a related source, with one object
+abbrev pub related_page : Form Thing
+related_page = OfCall (record { call = ListAsked (list_params default_settings None); answer = GivesPage (thing a (codes "1") ∷ []) None (Some (codes "1")) })

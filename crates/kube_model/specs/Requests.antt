@@ -1,30 +1,14 @@
 -- All requests of a turn, and what happens to the queue over a history.
-use Rattle.std.specs.Prelude.{ℕ, ◌+◌, Bool, true, false, not, ◌&&◌, ◌||◌, List, [], ◌∷◌, ◌++◌, map, length, Option, Some, None, if◌then◌else◌, slice_get, unwrap_or, take}
-use Rattle.std.specs.List.{flat_map, list_any, count_by}
+use Rattle.std.specs.Prelude.{ℕ, ◌+◌, List, [], ◌∷◌, ◌++◌, map, Option, Some, None, if◌then◌else◌}
+use Rattle.std.specs.List.{flat_map, count_by}
 use Rattle.kube_meta.specs.Reference.{reference_before}
-use Rattle.kube_model.specs.declared.error.RunnerError.{RunnerError}
-use Rattle.kube_model.specs.declared.turn.Shutdown.{Shutdown}
-use Rattle.kube_model.specs.declared.turn.Shutdown.TheVariants.{No, Graceful, Forced}
 use Rattle.kube_model.specs.Reason.{Reason, Unknown, ReconcilerRequestedRetry, ErrorPolicyRequestedRetry, BulkReconcile}
-use Rattle.kube_model.specs.World.{World, Reads, Waits, IsReady, Fails, Feed, Watched, Streamed, Queued, feed_of}
-use Rattle.kube_model.specs.History.{Message, same_message, Exchange, Outcome, Succeeded, Failed, Turn, Finished, Step, Taken, exchanges, exchanges_with, exchanges_of}
-use Rattle.kube_model.specs.Store.{is_ready, store_of}
-use Rattle.kube_model.specs.Pause.{gave_up}
+use Rattle.kube_model.specs.World.{World}
+use Rattle.kube_model.specs.Reads.{Reads}
+use Rattle.kube_model.specs.History.{Message, same_message, Exchange, Outcome, Succeeded, Failed, Turn, Finished, Step, Taken}
 use Rattle.kube_model.specs.Queue.{QueueEvent, Requested, Settled, Took, is_request, is_settle, plus, sorted_by, Entry, Frozen, entry, waiting}
-
-abbrev pub asks_shutdown : Shutdown → Bool
-asks_shutdown No = false
-asks_shutdown Graceful = true
-asks_shutdown Forced = true
-
-abbrev pub is_forced : Shutdown → Bool
-is_forced No = false
-is_forced Graceful = false
-is_forced Forced = true
-
--- whether shutdown was asked
-abbrev pub is_shut : {O : Type 0} → List (Step O) → Bool
-is_shut h = list_any (λ s. asks_shutdown s.turn.shutdown) h
+use Rattle.kube_model.specs.Shutdowns.{is_closed}
+use Rattle.kube_model.specs.Stored.{stored_in}
 
 -- a message with the moment from which it counts
 pub record Timed : Type 0 where
@@ -67,66 +51,7 @@ requested_and_settled events now qs = numbered (count_by is_request events) now 
 abbrev pub took : {O : Type 0} → List (Taken O) → List (QueueEvent Message)
 took taken = map (λ t. Took t.message) taken
 
-abbrev pub no_reads : {O : Type 0} → Reads O
-no_reads = record { readiness = Waits; reloaded = []; looked_up = λ n. []; shown = [] }
-
-abbrev pub told_ready : {O : Type 0} → Reads O → Bool
-told_ready r = elim (r.readiness) [ Waits ↦ false | IsReady ↦ true | Fails error ↦ false ]
-
-abbrev pub failure_told : {O : Type 0} → Reads O → Option RunnerError
-failure_told r = elim (r.readiness) [ Waits ↦ None | IsReady ↦ None | Fails error ↦ Some error ]
-
--- what a turn reads of the store
-pub record Seen (O : Type 0) : Type 0 where
-  pub is_ready : Bool
-  pub reloaded : List O
-  pub looked_up : ℕ → List O
-  pub shown : List O
-  pub failure : Option RunnerError
-
 module _ {O B : Type 0} (w : World O B) where
-  -- the root's store after these exchanges
-  abbrev pub store_after : List (Step O) → List O
-  store_after h = store_of w.key (exchanges_of 0 (exchanges h))
-
-  -- whether shutdown was asked or given up by now
-  abbrev pub is_over : List (Step O) → Turn → List (Exchange O) → Bool
-  is_over h t xs = is_shut h || asks_shutdown t.shutdown || gave_up w (exchanges_with h t xs)
-
-  -- what the reader answered in the turn after these
-  abbrev pub read_after : List (Step O) → Reads O
-  read_after h = unwrap_or (slice_get w.reads (length h)) no_reads
-
-  -- whether the reader told in a turn of these that the store is ready
-  abbrev pub was_ready : List (Step O) → Bool
-  was_ready h = list_any told_ready (take (length h) w.reads)
-
-  -- a reader is polled in each turn until it has told that the store is ready, and not after shutdown was asked or given up
-  abbrev pub seen_by_reader : Bool → Bool → Reads O → Seen O
-  seen_by_reader over ready r = record {
-    is_ready = ready || not over && told_ready r;
-    reloaded = r.reloaded;
-    looked_up = r.looked_up;
-    shown = r.shown;
-    failure = if over || ready then None else failure_told r;
-  }
-
-  -- a watched root's store is that of its exchanges, wherever it is read; a stream's or a queue's is what the reader answered
-  abbrev pub reads_by : Feed → List (Step O) → Turn → List (Exchange O) → Seen O
-  reads_by (Watched settings) h t xs = record {
-    is_ready = is_ready (exchanges_of 0 (exchanges_with h t xs));
-    reloaded = store_after h;
-    looked_up = λ n. store_of w.key (exchanges_of 0 (exchanges_with h t xs));
-    shown = store_of w.key (exchanges_of 0 (exchanges_with h t xs));
-    failure = None;
-  }
-  reads_by Streamed h t xs = seen_by_reader (is_over h t xs) (was_ready h) (read_after h)
-  reads_by Queued h t xs = seen_by_reader (is_over h t xs) (was_ready h) (read_after h)
-
-  -- what is read of the store in a turn after a history
-  abbrev pub reads_of : List (Step O) → Turn → List (Exchange O) → Seen O
-  reads_of h t xs = reads_by (feed_of w 0) h t xs
-
   -- a reload requests the stored keys, by namespace with none first, then by name
   abbrev pub reload_requests : List O → Turn → List Timed
   reload_requests store t =
@@ -139,21 +64,17 @@ module _ {O B : Type 0} (w : World O B) where
   requests_of_turn store t finished xs =
       flat_map (requests_of_finish t.at) finished ++ reload_requests store t ++ named_requests t ++ requests_of_exchanges t.at xs
 
-  -- whether a turn makes no requests and asks nothing: shutdown is asked, or was asked or given up before
-  abbrev pub is_closed : List (Step O) → Turn → Bool
-  is_closed h t = is_shut h || asks_shutdown t.shutdown || gave_up w (exchanges h)
-
   -- what a turn does to the queue before it takes, after these events
-  abbrev pub turn_events : List (Step O) → List (QueueEvent Message) → Turn → List Finished → List (Exchange O) → List (QueueEvent Message)
-  turn_events h events t finished xs =
-      if is_closed h t then []
-      else requested_and_settled events t.at (requests_of_turn (reads_of h t xs).reloaded t finished xs)
+  abbrev pub turn_events : List (Step O) → List (QueueEvent Message) → Turn → Reads O → List Finished → List (Exchange O) → List (QueueEvent Message)
+  turn_events h events t r finished xs =
+      if is_closed w h t then []
+      else requested_and_settled events t.at (requests_of_turn (stored_in w h t r xs).reloaded t finished xs)
 
   -- what happened to the queue in these turns, after the turns and the events before them
   abbrev pub events_after : List (Step O) → List (QueueEvent Message) → List (Step O) → List (QueueEvent Message)
   events_after before events [] = events
   events_after before events (s ∷ h) =
-      events_after (before ++ s ∷ []) (events ++ turn_events before events s.turn s.made.finished s.made.exchanges ++ took s.made.taken) h
+      events_after (before ++ s ∷ []) (events ++ turn_events before events s.turn s.reads s.made.finished s.made.exchanges ++ took s.made.taken) h
 
   -- all that happened to the queue
   abbrev pub events_of : List (Step O) → List (QueueEvent Message)
@@ -164,5 +85,5 @@ module _ {O B : Type 0} (w : World O B) where
   entry_in h m = entry same_message w.debounce (events_of h) m
 
   -- the messages that wait in a turn after its settle
-  abbrev pub waiting_in : List (Step O) → Turn → List Finished → List (Exchange O) → List (Frozen Message)
-  waiting_in h t finished xs = waiting same_message w.debounce (events_of h ++ turn_events h (events_of h) t finished xs)
+  abbrev pub waiting_in : List (Step O) → Turn → Reads O → List Finished → List (Exchange O) → List (Frozen Message)
+  waiting_in h t r finished xs = waiting same_message w.debounce (events_of h ++ turn_events h (events_of h) t r finished xs)

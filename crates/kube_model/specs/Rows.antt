@@ -8,7 +8,8 @@ use Rattle.kube_model.specs.declared.turn.Shutdown.TheVariants.{Graceful}
 use Rattle.kube_model.specs.declared.turn.Stop.{Stop}
 use Rattle.kube_model.specs.Reason.{RelatedObjectUpdated}
 use Rattle.kube_model.specs.World.{World, Watched, default_settings}
-use Rattle.kube_model.specs.History.{Message, Succeeded, Turn, TurnRecord}
+use Rattle.kube_model.specs.History.{Message, Succeeded, Turn}
+use Rattle.kube_model.specs.Traces.{Made}
 use Rattle.kube_model.specs.Plays.{Thing, Came, came, thing, reference_to, turn_at, world_with}
 
 abbrev pub second : ℕ
@@ -37,17 +38,17 @@ gone = record { code = 410; reason = []; message = []; uid = None }
 abbrev pub turns_of : List (Turn × List Came) → List Turn
 turns_of row = map (λ p. p.0) row
 
-abbrev pub calls_of : TurnRecord Thing → List Call
-calls_of r = map (λ x. x.call) r.exchanges
+abbrev pub calls_of : Made Thing → List Call
+calls_of m = map (λ x. x.call) m.0.exchanges
 
-abbrev pub requests_of : TurnRecord Thing → List (List (List ℕ))
-requests_of r = map (λ x. map (λ m. m.reference.name) x.requests) r.exchanges
+abbrev pub requests_of : Made Thing → List (List (List ℕ))
+requests_of m = map (λ x. map (λ q. q.reference.name) x.requests) m.0.exchanges
 
-abbrev pub stops_of : TurnRecord Thing → List Stop
-stops_of r = r.stops
+abbrev pub stops_of : Made Thing → List Stop
+stops_of m = m.0.stops
 
-abbrev pub names_stored : TurnRecord Thing → Option (List (List ℕ))
-names_stored r = elim (r.store) [ None ↦ None | Some store ↦ Some (map (λ o. o.name) store) ]
+abbrev pub names_stored : Made Thing → Option (List (List ℕ))
+names_stored m = elim (m.0.store) [ None ↦ None | Some store ↦ Some (map (λ o. o.name) store) ]
 
 -- a turn that names references
 abbrev pub naming : ℕ → List ℕ → List (List ℕ) → Turn
@@ -138,7 +139,7 @@ resumed =
 abbrev pub streamed : List (Turn × List Came)
 streamed = (
   turn_at 0 (6 ∷ []),
-  opened ∷ came (Added (Some (codes "3"))) (thing a (codes "3") ∷ []) ∷ came (Deleted None) (record { name = codes "z"; version = None } ∷ [])
+  opened ∷ came (Added (Some (codes "3"))) (thing a (codes "3") ∷ []) ∷ came (Deleted None) (record { name = codes "z"; namespace = None; version = None } ∷ [])
       ∷ came (Bookmark [] true) [] ∷ came End [] ∷ opened ∷ [],
 ) ∷ []
 
@@ -173,7 +174,7 @@ by_pod r = record { reference = r; reason = RelatedObjectUpdated (record { kind 
 
 abbrev pub owned_pod : List (Turn × List Came)
 owned_pod =
-    (turn_at 0 (1 ∷ 1 ∷ []), page_of_a ∷ record { answer = Page None (Some (codes "1")); items = []; mapped = by_pod a_in_ns ∷ [] } ∷ []) ∷ []
+    (turn_at 0 (1 ∷ 1 ∷ []), page_of_a ∷ record (came (Page None (Some (codes "1"))) []) { mapped = by_pod a_in_ns ∷ [] } ∷ []) ∷ []
 
 -- c, a and b are stored, b in a namespace: see the order of a reload
 abbrev pub reloaded : List (Turn × List Came)

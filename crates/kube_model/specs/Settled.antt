@@ -6,7 +6,8 @@ use Rattle.kube_model.specs.Reason.{Unknown}
 use Rattle.kube_model.specs.World.{World}
 use Rattle.kube_model.specs.History.{Message, Step}
 use Rattle.kube_model.specs.Cuts.{last}
-use Rattle.kube_model.specs.Requests.{store_after, entry_in}
+use Rattle.kube_model.specs.Stored.{store_after}
+use Rattle.kube_model.specs.Requests.{entry_in}
 
 -- entries are found by the reference alone, so any reason will do
 abbrev pub about : Reference → Message

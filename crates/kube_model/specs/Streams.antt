@@ -11,7 +11,7 @@ use Rattle.kube_model.specs.History.{Exchange, Message}
 pub data StreamAnswer (V : Type 0) : Type 0 where
   Gives : (item : V) → StreamAnswer V
   GivesError : (error : Error) → StreamAnswer V
-  Waits : StreamAnswer V
+  IsWaiting : StreamAnswer V
   GivesNothing : StreamAnswer V
   Ends : StreamAnswer V
   Unnamed : StreamAnswer V  -- an item of its own had no name: no exchange is recorded
@@ -19,7 +19,7 @@ pub data StreamAnswer (V : Type 0) : Type 0 where
 abbrev pub recorded : {V : Type 0} → StreamAnswer V → Option Answer
 recorded (Gives item) = Some Item
 recorded (GivesError error) = Some Item
-recorded Waits = Some NotReady
+recorded IsWaiting = Some NotReady
 recorded GivesNothing = Some Spent
 recorded Ends = Some End
 recorded Unnamed = None

@@ -1,6 +1,6 @@
 -- Which references run, and which of the waiting messages a turn takes. (Crate: `Runner`, `applier`.)
-use Rattle.std.specs.Prelude.{ℕ, ◌+◌, ◌-◌, Bool, not, ◌||◌, ◌==◌, nat_lt, List, [], ◌∷◌, ◌++◌, length, Option, if◌then◌else◌, is_some}
-use Rattle.std.specs.List.{filter, filter_map, flat_map, list_any}
+use Rattle.std.specs.Prelude.{ℕ, ◌+◌, ◌-◌, Bool, not, ◌||◌, ◌==◌, nat_lt, List, [], ◌∷◌, ◌++◌, map, length, Option, if◌then◌else◌, is_some}
+use Rattle.std.specs.List.{filter, filter_map, flat_map, list_any, zip}
 use Rattle.std.specs.Option.{option_map}
 use Rattle.kube_meta.specs.Reference.{Reference, same_reference}
 use Rattle.kube_model.specs.History.{Message, Taken, Finish, Step}
@@ -35,19 +35,27 @@ runs running r = list_any (λ p. same_reference p.reference r) running
 abbrev pub candidates : {O : Type 0} → List (Running O) → List (Frozen Message) → List (Frozen Message)
 candidates running waiting = filter (λ e. not (runs running e.entry.message.reference)) waiting
 
--- whether fewer candidates than the room were found before: the room is the limit less what runs, or unbounded where the limit is 0
+-- messages, each with what this store has of it
+abbrev pub found_in : {O : Type 0} → (O → Reference) → List O → List Message → List (Taken O)
+found_in key store messages = map (λ m. record { message = m; object = found key store m.reference }) messages
+
+-- messages, each with what a look-up of it answered
+abbrev pub found_so : {O : Type 0} → List (Option O) → List Message → List (Taken O)
+found_so answers messages = map (λ p. record { message = p.0; object = p.1 }) (zip messages answers)
+
+-- whether one more may be taken: the room is the limit less what runs, or unbounded where the limit is 0, and of the candidates before n were found
 abbrev pub has_room : ℕ → ℕ → ℕ → Bool
 has_room limit running n = (limit == 0) || nat_lt n (limit - running)
 
-module _ {O : Type 0} (key : O → Reference) where
-  -- which of these candidates are taken, where k candidates stand before them, of which n are found
-  abbrev pub taken_from : (ℕ → Bool) → (ℕ → List O) → ℕ → ℕ → List (Frozen Message) → List (Taken O)
-  taken_from room look n k [] = []
-  taken_from room look n k (e ∷ es) =
-      let object = found key (look k) e.entry.message.reference in
-      (if room n then record { message = e.entry.message; object = object } ∷ [] else [])
-      ++ taken_from room look (n + (if is_some object then 1 else 0)) (k + 1) es
+-- one more is found, or not
+abbrev pub found_with : {O : Type 0} → ℕ → Option O → ℕ
+found_with n object = n + (if is_some object then 1 else 0)
 
-  -- of the candidates those are taken before which fewer than the room are found; each is looked up in the store as it is then
-  abbrev pub taken_of : ℕ → (ℕ → List O) → List (Running O) → List (Frozen Message) → List (Taken O)
-  taken_of limit look running waiting = taken_from (has_room limit (length running)) look 0 0 (candidates running waiting)
+-- those before which fewer than the room are found, where n were found before these
+abbrev pub within_room : {O : Type 0} → ℕ → ℕ → ℕ → List (Taken O) → List (Taken O)
+within_room limit running n [] = []
+within_room limit running n (t ∷ ts) = (if has_room limit running n then t ∷ [] else []) ++ within_room limit running (found_with n t.object) ts
+
+-- of the candidates, each with what is found of it, those before which fewer than the room are found
+abbrev pub taken_of : {O : Type 0} → ℕ → (List Message → List (Taken O)) → List (Running O) → List (Frozen Message) → List (Taken O)
+taken_of limit found_of running waiting = within_room limit (length running) 0 (found_of (map (λ e. e.entry.message) (candidates running waiting)))

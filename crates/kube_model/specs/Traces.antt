@@ -1,14 +1,15 @@
 -- Valid turns and their refusals, what a record of a turn is, and what a trace is.
 use Rattle.std.specs.Prelude.{◌≡◌, ℕ, ◌+◌, ◌^◌, Bool, true, false, not, ◌||◌, nat_le, nat_lt, List, [], ◌∷◌, ◌++◌, Option, Some, None, if◌then◌else◌}
-use Rattle.std.specs.List.{list_any, AllZip}
-use Rattle.std.specs.Option.{option_map_or}
+use Rattle.std.specs.List.{find, list_any}
+use Rattle.std.specs.Option.{option_map, option_map_or}
 use Rattle.kube_meta.specs.Reference.{Reference, same_reference}
-use Rattle.kube_model.specs.World.{World}
+use Rattle.kube_model.specs.World.{World, feed_of}
+use Rattle.kube_model.specs.Reads.{Reads, nothing_read}
 use Rattle.kube_model.specs.History.{Exchange, Outcome, Succeeded, Failed, Finish, Finished, Turn, TurnRecord, Step, exchanges_with}
 use Rattle.kube_model.specs.Cuts.{last}
-use Rattle.kube_model.specs.Fits.{IsFitting, AreNamed}
+use Rattle.kube_model.specs.Fits.{IsFitting}
 use Rattle.kube_model.specs.Takes.{Running, running, runs}
-use Rattle.kube_model.specs.Turns.{next_source, record_with}
+use Rattle.kube_model.specs.Turns.{next_source, record_with, ReadsFit}
 
 -- Valid turns.
 
@@ -41,33 +42,52 @@ IsValid h t = refusal h t ≡ None
 
 -- Records.
 
--- an outcome's own action is the one taken; for a fault any: what the error policy answered is said by the run, over its own type of faults
-abbrev pub IsActionOf : Outcome → Option ℕ → Type 0
-IsActionOf (Succeeded own) action = action ≡ own
-IsActionOf Failed action = Unit {0}
+-- the object that was handed over of a reference that runs
+abbrev pub handed_over : {O : Type 0} → List (Running O) → Reference → Option O
+handed_over running r = option_map (λ p. p.object) (find (λ p. same_reference p.reference r) running)
 
-pub record IsFinishOf (f : Finish) (g : Finished) : Type 0 where
+-- an outcome's own action is the one taken; for a fault what the error policy answers for the object that was handed over
+abbrev pub IsActionOf : {O : Type 0} → (O → Option ℕ) → Option O → Outcome → Option ℕ → Type 0
+IsActionOf policy object (Succeeded own) action = action ≡ own
+IsActionOf policy None Failed action = ⊥
+IsActionOf policy (Some o) Failed action = action ≡ policy o
+
+pub record IsFinishOf {O : Type 0} (policy : O → Option ℕ) (running : List (Running O)) (f : Finish) (g : Finished) : Type 0 where
   pub finish : g.finish ≡ f
-  pub action : IsActionOf f.outcome g.action
+  pub action : IsActionOf policy (handed_over running f.reference) f.outcome g.action
+
+-- each finish of a turn with its action; policies has, for the n-th of them, what the error policy answers of its fault for an object
+abbrev pub AreFinishesOf : {O : Type 0} → (ℕ → O → Option ℕ) → List (Running O) → List Finish → List Finished → Type 0
+AreFinishesOf policies running [] gs = gs ≡ []
+AreFinishesOf policies running (f ∷ fs) [] = ⊥
+AreFinishesOf policies running (f ∷ fs) (g ∷ gs) = IsFinishOf (policies 0) running f g × AreFinishesOf (λ n. policies (n + 1)) running fs gs
 
 abbrev pub has_ended : {O : Type 0} → List (Step O) → Bool
 has_ended h = list_any (λ s. s.made.ended) h
 
--- a turn with its record
-abbrev pub step : {O : Type 0} → Turn → TurnRecord O → Step O
-step t r = record { turn = t; made = r }
+-- what a turn made: its record, with what the reader answered in it
+abbrev pub Made : Type 0 → Type 0
+Made O = TurnRecord O × Reads O
 
--- turns with their records
-abbrev pub steps : {O : Type 0} → List Turn → List (TurnRecord O) → List (Step O)
-steps [] rs = []
+-- of a watched root, which reads nothing of a reader
+abbrev pub unread : {O : Type 0} → TurnRecord O → Made O
+unread r = (r, nothing_read)
+
+-- a turn with what it made
+abbrev pub step : {O : Type 0} → Turn → Made O → Step O
+step t m = record { turn = t; made = m.0; reads = m.1 }
+
+-- turns with what they made
+abbrev pub steps : {O : Type 0} → List Turn → List (Made O) → List (Step O)
+steps [] ms = []
 steps (t ∷ ts) [] = []
-steps (t ∷ ts) (r ∷ rs) = step t r ∷ steps ts rs
+steps (t ∷ ts) (m ∷ ms) = step t m ∷ steps ts ms
 
--- turns with these records after a history are valid where each one up to the first record that has ended is; so is the first that has no record yet, if none has ended
-abbrev pub AreValid : {O : Type 0} → List (Step O) → List Turn → List (TurnRecord O) → Type 0
-AreValid h [] rs = Unit {0}
+-- turns that made these after a history are valid where each one up to the first record that has ended is; so is the first that has no record yet, if none has ended
+abbrev pub AreValid : {O : Type 0} → List (Step O) → List Turn → List (Made O) → Type 0
+AreValid h [] ms = Unit {0}
 AreValid h (t ∷ ts) [] = has_ended h ≡ false → IsValid h t
-AreValid h (t ∷ ts) (r ∷ rs) = IsValid h t × AreValid (h ++ step t r ∷ []) ts rs
+AreValid h (t ∷ ts) (m ∷ ms) = IsValid h t × AreValid (h ++ step t m ∷ []) ts ms
 
 module _ {O B : Type 0} (w : World O B) where
   -- the exchange is the next of a turn after those before it
@@ -80,37 +100,25 @@ module _ {O B : Type 0} (w : World O B) where
   EachIsNext h t before [] = Unit {0}
   EachIsNext h t before (x ∷ xs) = IsNext h t before x × EachIsNext h t (before ++ x ∷ []) xs
 
-  -- the record is that of a turn after a history: the turn is valid, each exchange is the next one, none is left to make, and the rest is what they determine
-  pub record IsRecord (h : List (Step O)) (t : Turn) (r : TurnRecord O) : Type 0 where
+  -- this is what a turn made after a history: the turn is valid, each action is that of its finish, each exchange is the next one, none is left to make, the reads are those of such a turn, and the rest is what all these determine
+  pub record IsRecord (policies : ℕ → O → Option ℕ) (h : List (Step O)) (t : Turn) (m : Made O) : Type 0 where
     pub valid : IsValid h t
-    pub finishes : AllZip IsFinishOf t.finishes r.finished
-    pub asked : EachIsNext h t [] r.exchanges
-    pub done : next_source w h t r.exchanges ≡ None
-    pub determined : r ≡ record_with w h t r.finished r.exchanges
-
-  -- each recorded item of these that must become a reference has a name
-  abbrev pub EachIsNamed : List (Step O) → Turn → List (Exchange O) → List (Exchange O) → Type 0
-  EachIsNamed h t before [] = Unit {0}
-  EachIsNamed h t before (x ∷ xs) = AreNamed w (exchanges_with h t before) x × EachIsNamed h t (before ++ x ∷ []) xs
-
-  -- a turn after a history is broken off at this exchange: it comes next after those before it, and is the first of which an item that must become a reference has no name
-  pub record IsUnnamedAt (h : List (Step O)) (t : Turn) (before : List (Exchange O)) (x : Exchange O) : Type 0 where
-    pub valid : IsValid h t
-    pub made : EachIsNext h t [] before
-    pub named : EachIsNamed h t [] before
-    pub next : IsNext h t before x
-    pub unnamed : AreNamed w (exchanges_with h t before) x → ⊥
+    pub finishes : AreFinishesOf policies (running h) t.finishes m.0.finished
+    pub asked : EachIsNext h t [] m.0.exchanges
+    pub done : next_source w h t m.0.exchanges ≡ None
+    pub reads : ReadsFit w (feed_of w 0) h t m.1 m.0.finished m.0.exchanges
+    pub determined : m.0 ≡ record_with w h t m.1 m.0.finished m.0.exchanges
 
   -- The trace.
 
-  -- the records are the trace of turns after a history: each is its turn's after the history and the records before it, and the last is that of the last turn or the first that has ended
-  abbrev pub IsTrace : List (Step O) → List Turn → List (TurnRecord O) → Type 0
-  IsTrace h [] rs = rs ≡ []
-  IsTrace h (t ∷ ts) [] = has_ended h ≡ true
-  IsTrace h (t ∷ ts) (r ∷ rs) = (has_ended h ≡ false) × IsRecord h t r × IsTrace (h ++ step t r ∷ []) ts rs
+  -- the records are the trace of turns after a history: each is its turn's after the history and the records before it, and the last is that of the last turn or the first that has ended. policies has, for the k-th finish of the n-th turn, what the error policy answers of its fault for an object
+  abbrev pub IsTrace : (ℕ → ℕ → O → Option ℕ) → List (Step O) → List Turn → List (Made O) → Type 0
+  IsTrace policies h [] ms = ms ≡ []
+  IsTrace policies h (t ∷ ts) [] = has_ended h ≡ true
+  IsTrace policies h (t ∷ ts) (m ∷ ms) = (has_ended h ≡ false) × IsRecord (policies 0) h t m × IsTrace (λ n. policies (n + 1)) (h ++ step t m ∷ []) ts ms
 
-  -- the turn after those with these records is refused; the records are the trace of the turns before it
-  abbrev pub IsRefusedAfter : List (Step O) → List Turn → List (TurnRecord O) → Refusal → Type 0
-  IsRefusedAfter h [] rs why = ⊥
-  IsRefusedAfter h (t ∷ ts) [] why = (has_ended h ≡ false) × (refusal h t ≡ Some why)
-  IsRefusedAfter h (t ∷ ts) (r ∷ rs) why = (has_ended h ≡ false) × IsRecord h t r × IsRefusedAfter (h ++ step t r ∷ []) ts rs why
+  -- the turn after those that made these is refused; the records are the trace of the turns before it
+  abbrev pub IsRefusedAfter : (ℕ → ℕ → O → Option ℕ) → List (Step O) → List Turn → List (Made O) → Refusal → Type 0
+  IsRefusedAfter policies h [] ms why = ⊥
+  IsRefusedAfter policies h (t ∷ ts) [] why = (has_ended h ≡ false) × (refusal h t ≡ Some why)
+  IsRefusedAfter policies h (t ∷ ts) (m ∷ ms) why = (has_ended h ≡ false) × IsRecord (policies 0) h t m × IsRefusedAfter (λ n. policies (n + 1)) (h ++ step t m ∷ []) ts ms why

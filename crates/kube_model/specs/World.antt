@@ -3,7 +3,6 @@ use Rattle.std.specs.Prelude.{ℕ, ◌+◌, ◌*◌, Bool, true, false, ◌==◌
 use Rattle.kube_meta.specs.Reference.{Reference}
 use Rattle.kube_model.specs.declared.call.Call.{Call}
 use Rattle.kube_model.specs.declared.call.Call.TheVariants.{List as ListCall, Watch}
-use Rattle.kube_model.specs.declared.error.RunnerError.{RunnerError}
 use Rattle.kube_model.specs.declared.params.ListParams.{ListParams}
 use Rattle.kube_model.specs.declared.params.WatchParams.{WatchParams}
 use Rattle.kube_model.specs.declared.params.VersionMatch.TheVariants.{NotOlderThan}
@@ -78,19 +77,6 @@ watch_params settings initial = record {
   send_initial_events = initial;
 }
 
--- what a reader's `poll_ready` answered in a turn (crate: `Store::wait_until_ready`)
-pub data Readiness : Type 0 where
-  Waits : Readiness
-  IsReady : Readiness
-  Fails : (error : RunnerError) → Readiness
-
--- what the reader of a root that is a stream or a queue answered in a turn
-pub record Reads (O : Type 0) : Type 0 where
-  pub readiness : Readiness  -- polled after the asks; not read where the turn doesn't poll
-  pub reloaded : List O  -- the objects that a reload requests
-  pub looked_up : ℕ → List O  -- the objects that were there when the n-th candidate was looked up
-  pub shown : List O
-
 -- O is the type of objects, B that of a backoff's states
 pub record World (O B : Type 0) : Type 0 where
   pub key : O → Reference  -- the reference of an object that has a name
@@ -102,7 +88,6 @@ pub record World (O B : Type 0) : Type 0 where
   pub backoff : B  -- its state at first
   pub next : B → ℕ → Option ℕ × B  -- how long to pause after an error at a moment, or none where it gives up
   pub reset : B → B
-  pub reads : List (Reads O)  -- turn by turn, where the root is a stream or a queue
 
 -- a source that isn't there, which is never asked, counts as a stream
 abbrev pub feed_of : {O B : Type 0} → World O B → ℕ → Feed

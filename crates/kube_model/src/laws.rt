@@ -2,19 +2,21 @@
 //!
 //! `O` is any type of objects, `B` any type of a backoff's states and `M` any type of messages.
 
-ghost use Rattle.std.specs.Prelude.{◌≡◌, ℕ, Bool, List, ◌++◌, [], true, false};
+ghost use Rattle.std.specs.Prelude.{◌≡◌, ℕ, ◌+◌, Bool, List, Option, ◌++◌, [], length, true, false};
 ghost use Rattle.std.specs.List.{fold, list_any};
 ghost use Rattle.std.specs.Cmp.{IsEquivalence};
 ghost use Rattle.kube_model.specs.World.{World, Settings, Watched, feed_of};
-ghost use Rattle.kube_model.specs.History.{Message, same_message, Exchange, Turn, Finished, TurnRecord, Step, exchanges};
+ghost use Rattle.kube_model.specs.History.{Message, same_message, Exchange, Turn, Finished, Step, exchanges};
 ghost use Rattle.kube_model.specs.Owed.{is_initial};
 ghost use Rattle.kube_model.specs.SecondForms.{initial_after, running_after};
 ghost use Rattle.kube_model.specs.Takes.{running};
 ghost use Rattle.kube_model.specs.Queue.{QueueEvent, entry, waiting};
 ghost use Rattle.kube_model.specs.WaitingOnce.{HasEachOnce, is_among, is_frozen};
-ghost use Rattle.kube_model.specs.Requests.{is_shut, waiting_in};
+ghost use Rattle.kube_model.specs.Reads.{Reads};
+ghost use Rattle.kube_model.specs.Requests.{waiting_in};
+ghost use Rattle.kube_model.specs.Shutdowns.{is_shut};
 ghost use Rattle.kube_model.specs.Pause.{gave_up};
-ghost use Rattle.kube_model.specs.Traces.{IsTrace, steps};
+ghost use Rattle.kube_model.specs.Traces.{IsTrace, Made, steps};
 ghost use Rattle.kube_model.specs.Settled.{IsSettled};
 
 /// To which watch a `Next` belongs is one bit, which each exchange changes.
@@ -35,19 +37,19 @@ pub fn frozen_messages_wait<M>()
 
 /// In each turn after any history each message waits once.
 pub fn each_message_waits_once<O, B>()
-    ensures { (w : World O B) (h : List (Step O)) (t : Turn) (finished : List Finished) (xs : List (Exchange O))
-        → HasEachOnce same_message (waiting_in w h t finished xs) }
+    ensures { (w : World O B) (h : List (Step O)) (t : Turn) (r : Reads O) (finished : List Finished) (xs : List (Exchange O))
+        → HasEachOnce same_message (waiting_in w h t r finished xs) }
 {}
 
 /// The trace of turns that are joined is the traces of the parts, joined.
 pub fn joined_turns_join_traces<O, B>()
-    ensures { (w : World O B) (h : List (Step O)) (ts us : List Turn) (rs qs : List (TurnRecord O))
-        → IsTrace w h ts rs → IsTrace w (h ++ steps ts rs) us qs → IsTrace w h (ts ++ us) (rs ++ qs) }
+    ensures { (w : World O B) (policies : ℕ → ℕ → O → Option ℕ) (h : List (Step O)) (ts us : List Turn) (ms ns : List (Made O))
+        → IsTrace w policies h ts ms → IsTrace w (λ n. policies (length ts + n)) (h ++ steps ts ms) us ns → IsTrace w policies h (ts ++ us) (ms ++ ns) }
 {}
 
 /// Nothing stays unreconciled: where the root lists and watches, after each turn of each trace, until shutdown is
 /// asked or the backoff gives up, every stored object was last handed over as it stands, or its key has an entry.
 pub fn nothing_stays_unreconciled<O, B>()
-    ensures { (w : World O B) (settings : Settings) → feed_of w 0 ≡ Watched settings → (ts : List Turn) (rs : List (TurnRecord O)) → IsTrace w [] ts rs
-        → is_shut (steps ts rs) ≡ false → gave_up w (exchanges (steps ts rs)) ≡ false → IsSettled w (steps ts rs) }
+    ensures { (w : World O B) (settings : Settings) → feed_of w 0 ≡ Watched settings → (policies : ℕ → ℕ → O → Option ℕ) (ts : List Turn) (ms : List (Made O))
+        → IsTrace w policies [] ts ms → is_shut (steps ts ms) ≡ false → gave_up w (exchanges (steps ts ms)) ≡ false → IsSettled w (steps ts ms) }
 {}

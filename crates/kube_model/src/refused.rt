@@ -1,16 +1,20 @@
 //! Exchanges and finishes that no record has, beside those that one has. Each function's contract says so, and the
 //! functions do nothing.
 
-ghost use Rattle.std.specs.Prelude.{◌≡◌, ◌∷◌, [], Some, None, codes, false};
+ghost use Rattle.std.specs.Prelude.{◌≡◌, ◌∷◌, [], Some, None, codes, true, false, if◌then◌else◌};
 ghost use Rattle.kube_model.specs.declared.call.Call.TheVariants.{List as ListCall, Watch, Next};
 ghost use Rattle.kube_model.specs.declared.call.Answer.TheVariants.{Page, Opened, Modified, NotReady, Idle};
+ghost use Rattle.std.specs.Str.{bytes_eq};
 ghost use Rattle.kube_model.specs.Reason.{Unknown};
-ghost use Rattle.kube_model.specs.History.{Succeeded};
-ghost use Rattle.kube_model.specs.Fits.{AreNamed, IsFitting};
+ghost use Rattle.kube_model.specs.History.{Succeeded, Failed};
+ghost use Rattle.kube_model.specs.Fits.{IsFitting};
+ghost use Rattle.kube_model.specs.Named.{AreNamed, IsUnnamedAt, OfStream};
+ghost use Rattle.kube_model.specs.Streams.{Unnamed};
+ghost use Rattle.kube_model.specs.World.{Streamed};
 ghost use Rattle.kube_model.specs.Traces.{IsFinishOf};
-ghost use Rattle.kube_model.specs.Plays.{plain_world, reference_to, thing};
+ghost use Rattle.kube_model.specs.Plays.{Thing, plain_world, reference_to, thing, turn_at, world_with};
 ghost use Rattle.kube_model.specs.Rows.{a, a_in_ns, by_pod, related_world};
-ghost use Rattle.kube_model.specs.Refused.{before, before_silence, exchange, next, change, for_a, requesting, IsRefusedAt, IsRefusedFirst};
+ghost use Rattle.kube_model.specs.Refused.{a_runs, each_came_named, empty_page, related_page, before, before_silence, exchange, next, change, for_a, requesting, IsRefusedAt, IsRefusedFirst};
 
 /// A watch is idle exactly when its window is over.
 pub fn idle_exactly_when_the_window_is_over()
@@ -54,10 +58,13 @@ pub fn root_requests_what_came()
     ensures for_another_reason { IsRefusedAt 0 (requesting (record { reference = reference_to a; reason = Unknown } ∷ []) (next (Modified (Some (codes "2"))) (thing a (codes "2") ∷ []))) }
 {}
 
-/// A reconcile that succeeded is given its own action.
+/// A reconcile that succeeded is given its own action, and one that failed what the error policy answers for the object
+/// that was handed over.
 pub fn own_action_is_taken()
-    ensures fits { IsFinishOf (record { reference = reference_to a; outcome = Succeeded None }) (record { finish = record { reference = reference_to a; outcome = Succeeded None }; action = None }) }
-    ensures another { IsFinishOf (record { reference = reference_to a; outcome = Succeeded None }) (record { finish = record { reference = reference_to a; outcome = Succeeded None }; action = Some 5 }) → ⊥ }
+    ensures fits { IsFinishOf (λ o. Some 7) a_runs (record { reference = reference_to a; outcome = Succeeded None }) (record { finish = record { reference = reference_to a; outcome = Succeeded None }; action = None }) }
+    ensures another { IsFinishOf (λ o. Some 7) a_runs (record { reference = reference_to a; outcome = Succeeded None }) (record { finish = record { reference = reference_to a; outcome = Succeeded None }; action = Some 5 }) → ⊥ }
+    ensures fault_fits { IsFinishOf (λ o. if bytes_eq o.name a then Some 7 else None) a_runs (record { reference = reference_to a; outcome = Failed }) (record { finish = record { reference = reference_to a; outcome = Failed }; action = Some 7 }) }
+    ensures another_for_a_fault { IsFinishOf (λ o. Some 7) a_runs (record { reference = reference_to a; outcome = Failed }) (record { finish = record { reference = reference_to a; outcome = Failed }; action = None }) → ⊥ }
 {}
 
 /// The call is the one that is owed.
@@ -68,8 +75,13 @@ pub fn call_is_the_owed_one()
     ensures watch_first { IsRefusedFirst plain_world (exchange 0 (Watch (codes "1") false) Opened []) }
 {}
 
-/// An object without a name can't be requested.
+/// An object without a name can't be requested. A turn is broken off at the source from which one came, though what it
+/// records keeps no objects.
 pub fn unnamed_objects_are_not_named()
     ensures fits { AreNamed plain_world [] (exchange 0 (ListCall None) (Page None (Some (codes "1"))) (thing a (codes "1") ∷ [])) }
     ensures unnamed { AreNamed (record plain_world { is_named = λ o. false }) [] (exchange 0 (ListCall None) (Page None (Some (codes "1"))) (thing a (codes "1") ∷ [])) → ⊥ }
+    ensures of_a_related_source { IsUnnamedAt related_world each_came_named (λ o. false) (λ o. o.version) [] (turn_at 0 (1 ∷ 1 ∷ [])) (empty_page ∷ []) 1 related_page }
+    ensures not_of_the_root { IsUnnamedAt related_world each_came_named (λ o. false) (λ o. o.version) [] (turn_at 0 (1 ∷ 1 ∷ [])) (empty_page ∷ []) 0 related_page → ⊥ }
+    ensures named_page { IsUnnamedAt related_world each_came_named (λ o. true) (λ o. o.version) [] (turn_at 0 (1 ∷ 1 ∷ [])) (empty_page ∷ []) 1 related_page → ⊥ }
+    ensures of_a_stream { IsUnnamedAt (world_with (Streamed ∷ []) 0 0) each_came_named (λ (o : Thing). true) (λ o. o.version) [] (turn_at 0 (1 ∷ [])) [] 0 (OfStream Unnamed) }
 {}

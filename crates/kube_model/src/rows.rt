@@ -7,13 +7,13 @@ ghost use Rattle.std.specs.Prelude.{◌≡◌, ◌∷◌, ◌++◌, [], Some, No
 ghost use Rattle.kube_model.specs.declared.call.Call.TheVariants.{List as ListCall, Watch, Next};
 ghost use Rattle.kube_model.specs.declared.turn.Stop.TheVariants as stops;
 ghost use Rattle.kube_model.specs.Reason.{ReconcilerRequestedRetry, Unknown, ObjectUpdated, BulkReconcile};
-ghost use Rattle.kube_model.specs.Plays.{plain_world, play, took_in};
+ghost use Rattle.kube_model.specs.Plays.{plain_world, play, took_in, waits_for_change};
 ghost use Rattle.kube_model.specs.Traces.{IsTrace};
 ghost use Rattle.kube_model.specs.Rows.{a, turns_of, calls_of, requests_of, stops_of, names_stored, first_trace, twice, two_pages, unversioned_page, relist, changed_while_running, one_after_another, limited, debounced, named_early, named_when_due, requeued_at_the_end, resumed, streamed, streaming_world, silent_watch, patient_world, patient_watch, related_world, owned_pod, reloaded, shut_down};
 
 /// One page, a watch that opens, and nothing yet: the object is requested, stored and taken.
 pub fn first_trace_takes_a()
-    ensures trace { IsTrace plain_world [] (turns_of first_trace) (play plain_world [] first_trace) }
+    ensures trace { IsTrace plain_world waits_for_change [] (turns_of first_trace) (play plain_world [] first_trace) }
     ensures calls { map calls_of (play plain_world [] first_trace) ≡ (ListCall None ∷ Watch (codes "1") false ∷ Next ∷ []) ∷ [] }
     ensures stops { map stops_of (play plain_world [] first_trace) ≡ (stops.NotReady ∷ []) ∷ [] }
     ensures taken { map took_in (play plain_world [] first_trace) ≡ ((a, Some (codes "1")) ∷ []) ∷ [] }
@@ -21,7 +21,7 @@ pub fn first_trace_takes_a()
 
 /// A page that has one object twice requests it twice, stores it once as it came last, and takes it once.
 pub fn one_page_two_requests_one_take()
-    ensures trace { IsTrace plain_world [] (turns_of twice) (play plain_world [] twice) }
+    ensures trace { IsTrace plain_world waits_for_change [] (turns_of twice) (play plain_world [] twice) }
     ensures requests { map requests_of (play plain_world [] twice) ≡ ((a ∷ a ∷ []) ∷ []) ∷ [] }
     ensures stored { map names_stored (play plain_world [] twice) ≡ Some (a ∷ []) ∷ [] }
     ensures taken { map took_in (play plain_world [] twice) ≡ ((a, Some (codes "2")) ∷ []) ∷ [] }
@@ -29,7 +29,7 @@ pub fn one_page_two_requests_one_take()
 
 /// A list of two pages requests its objects at the last one.
 pub fn pages_complete_at_the_last()
-    ensures trace { IsTrace plain_world [] (turns_of two_pages) (play plain_world [] two_pages) }
+    ensures trace { IsTrace plain_world waits_for_change [] (turns_of two_pages) (play plain_world [] two_pages) }
     ensures calls { map calls_of (play plain_world [] two_pages) ≡ (ListCall None ∷ []) ∷ (ListCall (Some (codes "t")) ∷ Watch (codes "9") false ∷ []) ∷ [] }
     ensures requests { map requests_of (play plain_world [] two_pages) ≡ ([] ∷ []) ∷ ((a ∷ codes "b" ∷ []) ∷ [] ∷ []) ∷ [] }
     ensures taken { map took_in (play plain_world [] two_pages) ≡ [] ∷ ((a, Some (codes "1")) ∷ (codes "b", Some (codes "1")) ∷ []) ∷ [] }
@@ -37,7 +37,7 @@ pub fn pages_complete_at_the_last()
 
 /// A page without a version is an error; the sources are asked again when the pause is over.
 pub fn page_without_version_pauses()
-    ensures trace { IsTrace plain_world [] (turns_of unversioned_page) (play plain_world [] unversioned_page) }
+    ensures trace { IsTrace plain_world waits_for_change [] (turns_of unversioned_page) (play plain_world [] unversioned_page) }
     ensures calls { map calls_of (play plain_world [] unversioned_page) ≡ (ListCall None ∷ []) ∷ [] ∷ (ListCall None ∷ []) ∷ [] }
     ensures stops { map stops_of (play plain_world [] unversioned_page) ≡ (stops.Budget ∷ []) ∷ (stops.Paused ∷ []) ∷ (stops.Budget ∷ []) ∷ [] }
     ensures taken { map took_in (play plain_world [] unversioned_page) ≡ [] ∷ [] ∷ ((a, Some (codes "5")) ∷ []) ∷ [] }
@@ -45,52 +45,52 @@ pub fn page_without_version_pauses()
 
 /// A second list takes the place of the first: what it lacks is stored no more, and a message for it is not found.
 pub fn relist_drops_what_is_gone()
-    ensures trace { IsTrace plain_world [] (turns_of relist) (play plain_world [] relist) }
+    ensures trace { IsTrace plain_world waits_for_change [] (turns_of relist) (play plain_world [] relist) }
     ensures stored { map names_stored (play plain_world [] relist) ≡ Some (a ∷ []) ∷ Some (codes "b" ∷ []) ∷ Some (codes "b" ∷ []) ∷ [] }
     ensures taken { map took_in (play plain_world [] relist) ≡ ((a, Some (codes "1")) ∷ []) ∷ ((codes "b", Some (codes "7")) ∷ []) ∷ ((a, None) ∷ []) ∷ [] }
 {}
 
 /// What changes while it runs is taken when it has ended.
 pub fn change_while_running_is_taken_after()
-    ensures trace { IsTrace plain_world [] (turns_of changed_while_running) (play plain_world [] changed_while_running) }
+    ensures trace { IsTrace plain_world waits_for_change [] (turns_of changed_while_running) (play plain_world [] changed_while_running) }
     ensures taken { map took_in (play plain_world [] changed_while_running) ≡ ((a, Some (codes "1")) ∷ []) ∷ ((a, Some (codes "2")) ∷ []) ∷ [] }
 {}
 
 /// With a limit of one, messages are taken one at a time in their order.
 pub fn one_at_a_time_in_order()
-    ensures trace { IsTrace (limited 1) [] (turns_of one_after_another) (play (limited 1) [] one_after_another) }
+    ensures trace { IsTrace (limited 1) waits_for_change [] (turns_of one_after_another) (play (limited 1) [] one_after_another) }
     ensures taken { map took_in (play (limited 1) [] one_after_another)
         ≡ ((a, Some (codes "1")) ∷ []) ∷ ((codes "b", Some (codes "1")) ∷ []) ∷ ((codes "c", Some (codes "1")) ∷ []) ∷ ((codes "d", Some (codes "2")) ∷ []) ∷ [] }
 {}
 
 /// A request in the debounce of three seconds puts the take off: it comes three seconds after the last request.
 pub fn debounce_waits_from_the_last_request()
-    ensures trace { IsTrace debounced [] (turns_of named_early) (play debounced [] named_early) }
+    ensures trace { IsTrace debounced waits_for_change [] (turns_of named_early) (play debounced [] named_early) }
     ensures taken { map took_in (play debounced [] named_early) ≡ [] ∷ [] ∷ [] ∷ ((a, Some (codes "1")) ∷ []) ∷ [] }
 {}
 
 /// A request at the very moment at which the entry is due moves it.
 pub fn debounce_moves_an_entry_due_now()
-    ensures trace { IsTrace debounced [] (turns_of named_when_due) (play debounced [] named_when_due) }
+    ensures trace { IsTrace debounced waits_for_change [] (turns_of named_when_due) (play debounced [] named_when_due) }
     ensures taken { map took_in (play debounced [] named_when_due) ≡ [] ∷ [] ∷ [] ∷ ((a, Some (codes "1")) ∷ []) ∷ [] }
 {}
 
 /// A requeue at the end of all time comes 180 days after it was asked.
 pub fn requeue_lies_at_most_180_days_away()
-    ensures trace { IsTrace plain_world [] (turns_of requeued_at_the_end) (play plain_world [] requeued_at_the_end) }
+    ensures trace { IsTrace plain_world waits_for_change [] (turns_of requeued_at_the_end) (play plain_world [] requeued_at_the_end) }
     ensures taken { map took_in (play plain_world [] requeued_at_the_end) ≡ ((a, Some (codes "1")) ∷ []) ∷ [] ∷ [] ∷ ((a, Some (codes "1")) ∷ []) ∷ [] }
-    ensures reason { map (λ r. map (λ t. t.message.reason) r.taken) (play plain_world [] requeued_at_the_end) ≡ (ObjectUpdated ∷ []) ∷ [] ∷ [] ∷ (ReconcilerRequestedRetry ∷ []) ∷ [] }
+    ensures reason { map (λ m. map (λ t. t.message.reason) m.0.taken) (play plain_world [] requeued_at_the_end) ≡ (ObjectUpdated ∷ []) ∷ [] ∷ [] ∷ (ReconcilerRequestedRetry ∷ []) ∷ [] }
 {}
 
 /// A watch that ends is opened again from the version of its last item.
 pub fn resumes_from_the_kept_version()
-    ensures trace { IsTrace plain_world [] (turns_of resumed) (play plain_world [] resumed) }
+    ensures trace { IsTrace plain_world waits_for_change [] (turns_of resumed) (play plain_world [] resumed) }
     ensures calls { map calls_of (play plain_world [] resumed) ≡ (ListCall None ∷ Watch (codes "1") false ∷ Next ∷ Next ∷ Watch (codes "2") false ∷ []) ∷ [] }
 {}
 
 /// A list by a watch requests its objects at the ending bookmark, and keeps that bookmark's version, also an empty one.
 pub fn streaming_list_ends_by_bookmark()
-    ensures trace { IsTrace streaming_world [] (turns_of streamed) (play streaming_world [] streamed) }
+    ensures trace { IsTrace streaming_world waits_for_change [] (turns_of streamed) (play streaming_world [] streamed) }
     ensures calls { map calls_of (play streaming_world [] streamed) ≡ (Watch (codes "0") true ∷ Next ∷ Next ∷ Next ∷ Next ∷ Watch [] false ∷ []) ∷ [] }
     ensures requests { map requests_of (play streaming_world [] streamed) ≡ ([] ∷ [] ∷ [] ∷ (a ∷ []) ∷ [] ∷ [] ∷ []) ∷ [] }
     ensures taken { map took_in (play streaming_world [] streamed) ≡ ((a, Some (codes "3")) ∷ []) ∷ [] }
@@ -98,35 +98,35 @@ pub fn streaming_list_ends_by_bookmark()
 
 /// A watch that is silent is asked on until its window is over, and then opened again.
 pub fn idle_watch_is_started_again()
-    ensures trace { IsTrace plain_world [] (turns_of silent_watch) (play plain_world [] silent_watch) }
+    ensures trace { IsTrace plain_world waits_for_change [] (turns_of silent_watch) (play plain_world [] silent_watch) }
     ensures calls { map calls_of (play plain_world [] silent_watch) ≡ (ListCall None ∷ Watch (codes "1") false ∷ Next ∷ []) ∷ (Next ∷ []) ∷ (Next ∷ Watch (codes "1") false ∷ []) ∷ [] }
 {}
 
 /// With a timeout of 0 a watch never idles.
 pub fn timeout_zero_never_idles()
-    ensures trace { IsTrace patient_world [] (turns_of patient_watch) (play patient_world [] patient_watch) }
+    ensures trace { IsTrace patient_world waits_for_change [] (turns_of patient_watch) (play patient_world [] patient_watch) }
     ensures stops { map stops_of (play patient_world [] patient_watch) ≡ (stops.NotReady ∷ []) ∷ (stops.NotReady ∷ []) ∷ [] }
 {}
 
 /// An object that is named with a namespace and without runs under both names.
 pub fn owned_pod_requests_both_names()
-    ensures trace { IsTrace related_world [] (turns_of owned_pod) (play related_world [] owned_pod) }
-    ensures asked { map (λ r. map (λ x. x.source) r.exchanges) (play related_world [] owned_pod) ≡ (0 ∷ 1 ∷ []) ∷ [] }
+    ensures trace { IsTrace related_world waits_for_change [] (turns_of owned_pod) (play related_world [] owned_pod) }
+    ensures asked { map (λ m. map (λ x. x.source) m.0.exchanges) (play related_world [] owned_pod) ≡ (0 ∷ 1 ∷ []) ∷ [] }
     ensures taken { map took_in (play related_world [] owned_pod) ≡ ((a, Some (codes "1")) ∷ (a, Some (codes "1")) ∷ []) ∷ [] }
-    ensures namespaces { map (λ r. map (λ t. t.message.reference.namespace) r.taken) (play related_world [] owned_pod) ≡ (None ∷ Some (codes "ns") ∷ []) ∷ [] }
+    ensures namespaces { map (λ m. map (λ t. t.message.reference.namespace) m.0.taken) (play related_world [] owned_pod) ≡ (None ∷ Some (codes "ns") ∷ []) ∷ [] }
 {}
 
 /// A reload requests what is stored in the order of the names, whatever the order of the store.
 pub fn reload_goes_by_name()
-    ensures trace { IsTrace plain_world [] (turns_of reloaded) (play plain_world [] reloaded) }
+    ensures trace { IsTrace plain_world waits_for_change [] (turns_of reloaded) (play plain_world [] reloaded) }
     ensures taken { map took_in (play plain_world [] reloaded)
         ≡ ((codes "c", Some (codes "1")) ∷ (a, Some (codes "1")) ∷ []) ∷ ((a, Some (codes "1")) ∷ (codes "c", Some (codes "1")) ∷ []) ∷ [] }
 {}
 
 /// A graceful shutdown waits for what runs, and then nothing is taken.
 pub fn graceful_shutdown_waits_for_running()
-    ensures trace { IsTrace plain_world [] (turns_of shut_down) (play plain_world [] shut_down) }
-    ensures ended { map (λ r. r.ended) (play plain_world [] shut_down) ≡ false ∷ false ∷ true ∷ [] }
+    ensures trace { IsTrace plain_world waits_for_change [] (turns_of shut_down) (play plain_world [] shut_down) }
+    ensures ended { map (λ m. m.0.ended) (play plain_world [] shut_down) ≡ false ∷ false ∷ true ∷ [] }
     ensures stops { map stops_of (play plain_world [] shut_down) ≡ (stops.Budget ∷ []) ∷ (stops.Shutdown ∷ []) ∷ (stops.Shutdown ∷ []) ∷ [] }
     ensures taken { map took_in (play plain_world [] shut_down) ≡ ((a, Some (codes "1")) ∷ []) ∷ [] ∷ [] ∷ [] }
 {}
