@@ -1,5 +1,5 @@
 -- An exchange that fits in a world is one that a core may be answered with.
-use Rattle.std.proofs.Common.{◌≡◌, ℕ, Bool, true, false, not, ◌||◌, ◌==◌, List, [], ◌∷◌, ◌++◌, Option, is_some, refl, sym, ap, subst, ◌∙◌, inl, inr, append_assoc, append-nil}
+use Rattle.std.proofs.Common.{◌≡◌, IsTrue, zero, suc, ℕ, Bool, true, false, not, ◌||◌, ◌==◌, List, [], ◌∷◌, ◌++◌, Option, refl, sym, ap, subst, ◌∙◌, inl, inr, append_assoc, append-nil}
 use Rattle.std.specs.List.{list_any, AllByRecursion}
 use Rattle.std.proofs.lemmas.Bool.{eqb-true}
 use Rattle.kube_model.specs.declared.call.Call.{Call}
@@ -8,12 +8,13 @@ use Rattle.kube_model.specs.declared.call.Answer.TheVariants.{Page, Opened, Adde
 use Rattle.kube_model.specs.World.{World, Settings, Feed, Watched, Streamed, Queued, feed_of, is_watched}
 use Rattle.kube_model.specs.History.{Exchange, Dated, exchanges_of}
 use Rattle.kube_model.specs.Owed.{owed}
-use Rattle.kube_model.specs.Fits.{IsFitting, ContentFits, IsOneOf, RootItemsFit, ItemsFit, RootRequestsFit, AreNamed}
+use Rattle.kube_model.specs.Fits.{IsFitting, IsOneOf, WatchItemsFit, IsOfWatch, IsOfRoot, IsOfSource}
+use Rattle.kube_model.specs.Named.{AreNamed}
 use Rattle.kube_model.proofs.Alls.{all-append}
 use Rattle.kube_model.proofs.Histories.{exchanges_of-own, exchanges_of-other}
 use Rattle.kube_history.specs.CoreWorld.{core_world, world_of}
 use Rattle.kube_history.specs.Legal.{is_stream, are_streams, MayOwe, RelatedMayOwe, SourceMayOwe, MayBeAnswered}
-use Rattle.kube_history.specs.Agrees.{EachFits}
+use Rattle.kube_history.specs.Agrees.{EachFits, RootIsNamed}
 use Rattle.kube_history.proofs.Starts.{same-form, owed-asks}
 
 module _ {O B : Type 0} (w : World O B) where
@@ -28,10 +29,10 @@ module _ {O B : Type 0} (w : World O B) where
   abbrev pub AreShaped : List (Dated O) → Type 0
   AreShaped ds = (source : ℕ) → AllByRecursion (IsShaped (feed_of w source)) (exchanges_of source ds)
 
-  one-shaped : (feed : Feed) (xs : List (Exchange O)) (x : Exchange O) → AllByRecursion (IsShaped feed) xs → x.call ≡ owed feed xs → IsShaped feed x
-  one-shaped (Watched settings) xs x k e = ap is_stream e ∙ owed-asks settings xs k
-  one-shaped Streamed xs x k e = ap is_stream e
-  one-shaped Queued xs x k e = ap is_stream e
+  one-shaped : (feed : Feed) (own : List (Exchange O)) (x : Exchange O) → x.call ≡ owed feed own → IsShaped feed x
+  one-shaped (Watched settings) own x e = ap is_stream e ∙ owed-asks settings own
+  one-shaped Streamed own x e = ap is_stream e
+  one-shaped Queued own x e = ap is_stream e
 
   pub shaped-push : (ds : List (Dated O)) (d : Dated O) → AreShaped ds → IsFitting w ds d.at d.exchange → AreShaped (ds ++ d ∷ [])
   shaped-push ds d k f source = go (d.exchange.source == source) refl
@@ -43,7 +44,7 @@ module _ {O B : Type 0} (w : World O B) where
       go true e =
           let is : d.exchange.source ≡ source = eqb-true d.exchange.source source e in
           let this : IsShaped (feed_of w source) d.exchange =
-          subst (λ s. IsShaped (feed_of w s) d.exchange) is (one-shaped (feed_of w d.exchange.source) (exchanges_of d.exchange.source ds) d.exchange (k d.exchange.source) f.owes) in
+          subst (λ s. IsShaped (feed_of w s) d.exchange) is (one-shaped (feed_of w d.exchange.source) (exchanges_of d.exchange.source ds) d.exchange f.owes) in
           subst (AllByRecursion (IsShaped (feed_of w source))) (sym (exchanges_of-own source ds d e))
           (all-append (IsShaped (feed_of w source)) (exchanges_of source ds) (d.exchange ∷ []) (k source) (this, tt))
       go false e = subst (AllByRecursion (IsShaped (feed_of w source))) (sym (exchanges_of-other source ds d e)) (k source)
@@ -73,15 +74,10 @@ module _ {O B : Type 0} (w : World O B) where
   related-owes Queued [] call k e = inr e
   related-owes Queued (x ∷ xs) call k e = subst (λ b. RelatedMayOwe b (x ∷ xs) call) (sym (some-asks (x ∷ xs) k)) e
 
-  source-owes : (settings : Settings) → feed_of w 0 ≡ Watched settings → (ds : List (Dated O)) (x : Exchange O) → AreShaped ds → x.call ≡ owed (feed_of w x.source) (exchanges_of x.source ds)
-      → SourceMayOwe (x.source == 0) (exchanges_of x.source ds) x.call
-  source-owes settings watched ds x k e = go (x.source == 0) refl
-    where
-      go : (b : Bool) → (x.source == 0) ≡ b → SourceMayOwe b (exchanges_of x.source ds) x.call
-      go true h =
-          let is : x.source ≡ 0 = eqb-true x.source 0 h in
-          watcher-owes settings (exchanges_of x.source ds) x.call (e ∙ ap (λ f. owed f (exchanges_of x.source ds)) (ap (feed_of w) is ∙ watched))
-      go false h = related-owes (feed_of w x.source) (exchanges_of x.source ds) x.call (k x.source) e
+  source-owes : (settings : Settings) → feed_of w 0 ≡ Watched settings → (source : ℕ) (own : List (Exchange O)) (call : Call) → AllByRecursion (IsShaped (feed_of w source)) own
+      → call ≡ owed (feed_of w source) own → SourceMayOwe source own call
+  source-owes settings watched zero own call k e = watcher-owes settings own call (e ∙ ap (λ f. owed f own) watched)
+  source-owes settings watched (suc place) own call k e = related-owes (feed_of w (suc place)) own call k e
 
   -- What came.
 
@@ -90,35 +86,37 @@ module _ {O B : Type 0} (w : World O B) where
   one-of version (o ∷ []) k = k
   one-of version (o ∷ p ∷ os) k = k
 
-  items-fit : (failed : Bool) (answer : Answer) (items : List O) → RootItemsFit w failed answer items → RootItemsFit (world_of (core_world w)) failed answer items
-  items-fit failed (Page token version) items k = k
-  items-fit failed (Added version) items k = one-of version items k
-  items-fit failed (Modified version) items k = one-of version items k
-  items-fit failed (Deleted version) items k = one-of version items k
-  items-fit failed Item items k = k
-  items-fit failed Opened items k = k
-  items-fit failed (Bookmark version ending) items k = k
-  items-fit failed (ErrorItem status) items k = k
-  items-fit failed (Fault e) items k = k
-  items-fit failed End items k = k
-  items-fit failed NotReady items k = k
-  items-fit failed Idle items k = k
-  items-fit failed Spent items k = k
+  items-fit : (answer : Answer) (items : List O) → WatchItemsFit w answer items → WatchItemsFit (world_of (core_world w)) answer items
+  items-fit (Page token version) items k = k
+  items-fit (Added version) items k = one-of version items k
+  items-fit (Modified version) items k = one-of version items k
+  items-fit (Deleted version) items k = one-of version items k
+  items-fit Item items k = k
+  items-fit Opened items k = k
+  items-fit (Bookmark version ending) items k = k
+  items-fit (ErrorItem status) items k = k
+  items-fit (Fault e) items k = k
+  items-fit End items k = k
+  items-fit NotReady items k = k
+  items-fit Idle items k = k
+  items-fit Spent items k = k
 
-  content : (settings : Settings) → feed_of w 0 ≡ Watched settings → (root : Bool) (ds : List (Dated O)) (x : Exchange O) → ContentFits w root ds x → ContentFits (world_of (core_world w)) root ds x
-  content settings watched true ds x k = (
-    items-fit (is_some x.error) x.answer x.items (subst (λ f. ItemsFit w f (is_some x.error) x.answer x.items) watched k.0),
-    subst (λ f. RootRequestsFit w f (exchanges_of 0 ds) x) watched k.1,
-  )
-  content settings watched false ds x k = k
+  content : (settings : Settings) → feed_of w 0 ≡ Watched settings → (source : ℕ) (own : List (Exchange O)) (x : Exchange O) → IsOfSource w source own x
+      → IsOfSource (world_of (core_world w)) source own x
+  content settings watched zero own x k =
+      let is : IsOfWatch w own x = subst (λ f. IsOfRoot w f own x) watched k in
+      record { items = items-fit x.answer x.items is.items; requests = is.requests }
+  content settings watched (suc place) own x k = k
 
-  pub answerable : (settings : Settings) → feed_of w 0 ≡ Watched settings → (ds : List (Dated O)) (at : ℕ) (x : Exchange O) → AreShaped ds → IsFitting w ds at x → AreNamed w ds x
-      → MayBeAnswered (core_world w) ds x
+  names : (source : ℕ) (own : List (Exchange O)) (x : Exchange O) → IsOfSource w source own x → RootIsNamed w source own x → AreNamed (world_of (core_world w)) own x
+  names zero own x k n = n
+  names (suc place) own x k n = λ r. subst (AllByRecursion (λ o. IsTrue (w.is_named o))) (sym k.items) tt
+
+  pub answerable : (settings : Settings) → feed_of w 0 ≡ Watched settings → (ds : List (Dated O)) (at : ℕ) (x : Exchange O) → AreShaped ds → IsFitting w ds at x
+      → RootIsNamed w x.source (exchanges_of x.source ds) x → MayBeAnswered (core_world w) ds x
   answerable settings watched ds at x k f n = record {
-    owes = source-owes settings watched ds x k f.owes;
-    answered = f.answered;
-    texts = f.texts;
-    error = f.error;
-    content = content settings watched (x.source == 0) ds x f.content;
-    named = n;
+    owes = source-owes settings watched x.source (exchanges_of x.source ds) x.call (k x.source) f.owes;
+    answer = f.answer;
+    content = content settings watched x.source (exchanges_of x.source ds) x f.content;
+    named = names x.source (exchanges_of x.source ds) x f.content n;
   }

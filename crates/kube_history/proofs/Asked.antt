@@ -9,7 +9,7 @@ use Rattle.kube_model.specs.World.{World}
 use Rattle.kube_model.specs.History.{Message, Exchange, Outcome, Succeeded, Failed, Turn, Finished}
 use Rattle.kube_model.specs.Queue.{QueueEvent, is_request, is_settle, sorted_by, plus}
 use Rattle.kube_model.specs.Requests.{Timed, requested_at, retry_reason, numbered, requests_of_action, requests_of_finish, requests_of_exchanges, named_requests, reload_requests, requests_of_turn}
-use Rattle.kube_history.specs.CoreEvents.{CoreEvent, Answered, Requested, Reloaded, Finished as Ended, Settled, Took, Shut, was_shut, queue_after, queue_by, requests_by, retry_of, action_requests, store_in}
+use Rattle.kube_history.specs.CoreEvents.{CoreEvent, Answered, Requested, Reloaded, Finished as Ended, Settled, Took, Shut, was_shut, queue_after, queue_by, requests_by, retry_of, action_requests, cache_of}
 use Rattle.kube_history.proofs.Numbering.{count-from, numbered-append, split-count}
 use Rattle.kube_history.specs.CoreWorld.{CoreWorld, core_world}
 use Rattle.kube_history.specs.TurnEvents.{is_success, finish_event, reload_events, asks}
@@ -147,11 +147,11 @@ module _ {O : Type 0} (core : CoreWorld O) where
       ap (λ rs. rs ++ asked_by (before ++ finish_event at f ∷ []) (map (finish_event at) fs)) (asked-finish at f f.action)
       ∙ ap (λ rs. requests_of_finish at f ++ rs) (asked-finishes (before ++ finish_event at f ∷ []) at fs)
 
-  asked-reload : (before : List (CoreEvent O)) (at : ℕ) (b : Bool) (store : List O) → store_in core before ≡ store
+  asked-reload : (before : List (CoreEvent O)) (at : ℕ) (b : Bool) (store : List O) → cache_of core before ≡ store
       → asked_by before (reload_events at b)
       ≡ (if b then map (λ r. requested_at at (record { reference = r; reason = BulkReconcile })) (sorted_by reference_before (map core.key store)) else [])
   asked-reload before at true store e =
-      append-nil (map (λ r. requested_at at (record { reference = r; reason = BulkReconcile })) (sorted_by reference_before (map core.key (store_in core before))))
+      append-nil (map (λ r. requested_at at (record { reference = r; reason = BulkReconcile })) (sorted_by reference_before (map core.key (cache_of core before))))
       ∙ ap (λ os. map (λ r. requested_at at (record { reference = r; reason = BulkReconcile })) (sorted_by reference_before (map core.key os))) e
   asked-reload before at false store e = refl
 
@@ -173,7 +173,7 @@ module _ {O : Type 0} (core : CoreWorld O) where
 module _ {O B : Type 0} (w : World O B) where
   -- all of them
   pub asked-turn : (before : List (CoreEvent O)) (t : Turn) (fs : List Finished) (xs : List (Exchange O)) (store : List O)
-      → store_in (core_world w) (before ++ map (finish_event t.at) fs) ≡ store
+      → cache_of (core_world w) (before ++ map (finish_event t.at) fs) ≡ store
       → asked_by (core_world w) before (asks t fs xs) ≡ requests_of_turn w store t fs xs
   asked-turn before t fs xs store e =
       let f = map (finish_event t.at) fs in

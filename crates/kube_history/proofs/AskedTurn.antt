@@ -1,29 +1,32 @@
 -- An open turn up to its settle: its first exchanges, after events that agree with the history before.
 use Rattle.std.proofs.Common.{◌≡◌, ◌≤◌, false, ◌||◌, List, [], ◌++◌, map, sym, ap, subst, ◌∙◌, append-nil, arith}
-use Rattle.std.specs.List.{fold, count_by, AllZip, AllByRecursion}
+use Rattle.std.specs.List.{fold, count_by, AllByRecursion}
 use Rattle.std.proofs.lemmas.List.Sums.{fold-append}
 use Rattle.kube_model.specs.World.{World, Settings, Watched, feed_of}
 use Rattle.kube_model.specs.History.{Message, Exchange, Turn, Finished, Step, dated, exchanges, exchanges_with, exchanges_of}
 use Rattle.kube_model.specs.Store.{store_of}
 use Rattle.kube_model.specs.Queue.{QueueEvent, is_request}
 use Rattle.kube_model.specs.Pause.{gave_up}
-use Rattle.kube_model.specs.Requests.{Timed, asks_shutdown, is_shut, is_closed, store_after, numbered, requests_of_turn}
+use Rattle.kube_model.specs.Requests.{Timed, numbered, requests_of_turn}
+use Rattle.kube_model.specs.Stored.{store_after}
+use Rattle.kube_model.specs.Shutdowns.{asks_shutdown, is_shut, is_closed}
 use Rattle.kube_model.specs.Takes.{Running, running, runs, unfinished}
 use Rattle.kube_model.specs.Turns.{running_in}
-use Rattle.kube_model.specs.Traces.{IsValid, IsFinishOf, EachIsNext, EachIsNamed}
+use Rattle.kube_model.specs.Traces.{IsValid, EachIsNext}
+use Rattle.kube_model.specs.Named.{EachIsNamed}
 use Rattle.kube_model.proofs.Alls.{or-left, or-right, all-append}
 use Rattle.kube_history.specs.CoreWorld.{core_world}
-use Rattle.kube_history.specs.CoreEvents.{CoreEvent, Answered, Requested, answers_in, was_shut, clock_of, running_with, running_of, queue_of, store_in}
+use Rattle.kube_history.specs.CoreEvents.{CoreEvent, Answered, Requested, answers_in, was_shut, clock_of, running_with, running_of, queue_of, cache_of}
 use Rattle.kube_history.specs.TurnEvents.{finish_event, reload_events, asks}
-use Rattle.kube_history.specs.Agrees.{Agrees, AgreesSoFar, EachFits}
+use Rattle.kube_history.specs.Agrees.{Agrees, AgreesSoFar, EachFits, RootIsNamed}
 use Rattle.kube_history.proofs.Segments as seg
 use Rattle.kube_history.proofs.Segments.{queue-append, running-append, answers-append, clock-append, AreReplies, replies-append, legal-append, legal-at}
 use Rattle.kube_history.proofs.Asked.{are-asks, asks-open, asks-queue, asked-turn}
-use Rattle.kube_history.proofs.Finishes.{finishes-are, running-finishes, replies-finishes}
+use Rattle.kube_history.proofs.Finishes.{running-finishes, replies-finishes}
 use Rattle.kube_history.proofs.Answerable.{shaped}
 use Rattle.kube_history.proofs.TurnParts.{replies-reload, replies-named, replies-answers, turn-fits, valid-is}
 
-module _ {O B : Type 0} (w : World O B) (settings : Settings) (watched : feed_of w 0 ≡ Watched settings) (h : List (Step O)) (t : Turn) (fs : List Finished) (xs : List (Exchange O)) (es : List (CoreEvent O)) (v : IsValid h t) (z : AllZip IsFinishOf t.finishes fs) (k : EachIsNext w h t [] xs) (n : EachIsNamed w h t [] xs) (a : Agrees w h es) (c : is_closed w h t ≡ false) where
+module _ {O B : Type 0} (w : World O B) (settings : Settings) (watched : feed_of w 0 ≡ Watched settings) (h : List (Step O)) (t : Turn) (fs : List Finished) (xs : List (Exchange O)) (es : List (CoreEvent O)) (v : IsValid h t) (z : map (λ (f : Finished). f.finish) fs ≡ t.finishes) (k : EachIsNext w h t [] xs) (n : EachIsNamed w (RootIsNamed w) h t [] xs) (a : Agrees w h es) (c : is_closed w h t ≡ false) where
   open-both : is_shut h || asks_shutdown t.shutdown ≡ false
   open-both = or-left (is_shut h || asks_shutdown t.shutdown) (gave_up w (exchanges h)) c
 
@@ -90,7 +93,7 @@ module _ {O B : Type 0} (w : World O B) (settings : Settings) (watched : feed_of
       ∙ (seg.running-named t.at t.on (fold running_with rs (ff ++ rr))
       ∙ (fold-append running_with rs ff rr
       ∙ (seg.running-reload t.at t.reload (fold running_with rs ff)
-      ∙ (running-finishes t.at fs rs ∙ ap (unfinished rs) (finishes-are t.finishes fs z)))))))
+      ∙ (running-finishes t.at fs rs ∙ ap (unfinished rs) z))))))
 
   pub running-so : running_of so ≡ running_in w h t
   running-so = running-append es aa ∙ (running-aa (running_of es) ∙ ap (λ us. unfinished us t.finishes) a.running)
@@ -103,7 +106,7 @@ module _ {O B : Type 0} (w : World O B) (settings : Settings) (watched : feed_of
   abbrev reqs : List Timed
   reqs = requests_of_turn w (store_after w h) t fs xs
 
-  store-f : store_in (core_world w) (es ++ map (finish_event t.at) fs) ≡ store_after w h
+  store-f : cache_of (core_world w) (es ++ map (finish_event t.at) fs) ≡ store_after w h
   store-f = ap (λ ds. store_of w.key (exchanges_of 0 ds)) (answers-f ∙ a.answers)
 
   pub queue-so : queue_of (core_world w) so ≡ q0 ++ numbered (count_by is_request q0) t.at reqs

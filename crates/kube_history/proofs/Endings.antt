@@ -1,113 +1,157 @@
 -- Over a trace: what may run, and what follows a shutdown.
-use Rattle.std.proofs.Common.{◌≡◌, ◌==◌, Bool, true, false, not, ◌&&◌, ◌||◌, List, [], ◌∷◌, ◌++◌, length, is_some, if◌then◌else◌, refl, sym, ap, subst, ◌∙◌, inr, append_assoc, append-nil, arith}
+use Rattle.std.proofs.Common.{◌≡◌, ◌==◌, Bool, true, false, not, ◌&&◌, ◌||◌, List, [], ◌∷◌, ◌++◌, length, is_some, if◌then◌else◌, refl, sym, ap, subst, ◌∙◌, inr, append_assoc, append-nil, arith, ℕ, ◌+◌, Option}
 use Rattle.std.specs.List.{filter_map}
 use Rattle.std.proofs.Math.Bool.{or-true}
 use Rattle.std.proofs.lemmas.Bool.{false≢true}
 use Rattle.std.proofs.lemmas.List.Folds.{list_any-append}
 use Rattle.kube_meta.specs.ReferenceLaws.{seen_equiv}
-use Rattle.kube_model.specs.World.{World}
+use Rattle.kube_model.specs.World.{World, Feed, Watched, Streamed, Queued, feed_of}
 use Rattle.kube_model.specs.History.{Message, same_message, Turn, Taken, TurnRecord, Step, exchanges, exchanges_with}
 use Rattle.kube_model.specs.Pause.{gave_up}
-use Rattle.kube_model.specs.Requests.{asks_shutdown, is_forced, is_shut, is_over, reads_of, events_of, turn_events, waiting_in}
-use Rattle.kube_model.specs.Takes.{running, is_finished, started, taken_of}
-use Rattle.kube_model.specs.Turns.{running_in, is_idle_after}
-use Rattle.kube_model.specs.Traces.{step, steps, has_ended, IsRecord, IsTrace}
+use Rattle.kube_model.specs.Requests.{events_of, turn_events, waiting_in}
+use Rattle.kube_model.specs.Stored.{Stored, stored_in, stored_by, store_in, may_take, AreLookedUp}
+use Rattle.kube_model.specs.Queue.{Frozen}
+use Rattle.kube_model.specs.Shutdowns.{asks_shutdown, is_forced, is_shut, is_over}
+use Rattle.kube_model.specs.Takes.{Running, running, is_finished, started, candidates, within_room, taken_of, found_so}
+use Rattle.kube_model.specs.Turns.{running_in, is_idle_after, AreReads, ReadsFit}
+use Rattle.kube_model.specs.Traces.{Made, step, steps, has_ended, IsRecord, IsTrace}
 use Rattle.kube_model.specs.WaitingOnce.{HasEachOnce}
 use Rattle.kube_model.proofs.Histories.{exchanges-push, running-push}
 use Rattle.kube_model.proofs.Numbers.{numbered-turn, numbered-history}
 use Rattle.kube_model.proofs.Waits.{waiting-once}
 use Rattle.kube_history.specs.TurnEvents.{was_over}
 use Rattle.kube_history.specs.Running.{MayRun, EachShutsDown}
+use Rattle.kube_history.specs.InTurn.{look_in, look_so}
+use Rattle.kube_history.proofs.TakesInTurn.{looked, messages, looked-in}
+use Rattle.kube_history.proofs.ReaderTakes.{looked-so}
 use Rattle.kube_history.proofs.TakesBack.{turn-taken}
 use Rattle.kube_history.proofs.OneAtATime.{fewer-may, takes-may}
 
 module _ {O B : Type 0} (w : World O B) where
-  module _ (h : List (Step O)) (t : Turn) (r : TurnRecord O) (k : IsRecord w h t r) where
-    taken-is : r.taken
-        ≡ (if (reads_of w h t r.exchanges).is_ready && not (is_over w h t r.exchanges) then taken_of w.key w.limit (reads_of w h t r.exchanges).looked_up (running_in w h t) (waiting_in w h t r.finished r.exchanges) else [])
+  module _ (policies : ℕ → O → Option ℕ) (h : List (Step O)) (t : Turn) (m : Made O) (k : IsRecord w policies h t m) where
+    abbrev seen : Stored O
+    seen = stored_in w h t m.1 m.0.exchanges
+
+    abbrev rs : List (Running O)
+    rs = running_in w h t
+
+    abbrev ws : List (Frozen Message)
+    ws = waiting_in w h t m.1 m.0.finished m.0.exchanges
+
+    taken-is : m.0.taken ≡ (if may_take w h t m.1 m.0.exchanges then taken_of w.limit (stored_in w h t m.1 m.0.exchanges).found_of (running_in w h t) (waiting_in w h t m.1 m.0.finished m.0.exchanges) else [])
     taken-is = ap (λ (q : TurnRecord O). q.taken) k.determined
 
-    once : HasEachOnce same_message (waiting_in w h t r.finished r.exchanges)
+    once : HasEachOnce same_message (waiting_in w h t m.1 m.0.finished m.0.exchanges)
     once =
-        waiting-once same_message (seen_equiv (λ (m : Message). m.reference)) w.debounce (events_of w h ++ turn_events w h (events_of w h) t r.finished r.exchanges)
-        (numbered-turn w h (events_of w h) t r.finished r.exchanges (numbered-history w h))
+        waiting-once same_message (seen_equiv (λ (n : Message). n.reference)) w.debounce (events_of w h ++ turn_events w h (events_of w h) t m.1 m.0.finished m.0.exchanges)
+        (numbered-turn w h (events_of w h) t m.1 m.0.finished m.0.exchanges (numbered-history w h))
 
-    turn-may : MayRun w.limit (running h) → MayRun w.limit (running (h ++ step t r ∷ []))
-    turn-may m =
-        subst (MayRun w.limit) (sym (running-push h (step t r)))
-        (subst (λ ts. MayRun w.limit (running_in w h t ++ filter_map started ts)) (sym taken-is) (go ((reads_of w h t r.exchanges).is_ready && not (is_over w h t r.exchanges))))
+    -- the takes of a turn are look-ups one after another, however the root is fed
+    read-so : AreReads w h t m.1 m.0.finished m.0.exchanges → may_take w h t m.1 m.0.exchanges ≡ true
+        → taken_of w.limit (found_so m.1.looked_up) (running_in w h t) (waiting_in w h t m.1 m.0.finished m.0.exchanges)
+        ≡ taken_of w.limit (looked (look_so m.1.looked_up) 0) (running_in w h t) (waiting_in w h t m.1 m.0.finished m.0.exchanges)
+    read-so f y =
+        looked-so w.limit (running_in w h t) (waiting_in w h t m.1 m.0.finished m.0.exchanges) m.1.looked_up
+        (subst (λ b. AreLookedUp w.limit (length (running_in w h t)) 0 (if b then messages (candidates (running_in w h t) (waiting_in w h t m.1 m.0.finished m.0.exchanges)) else []) m.1.looked_up) y f.looked_up)
+
+    abbrev Looks : Stored O → Type 0
+    Looks s = (look : ℕ → Message → Option O)
+        × (taken_of w.limit s.found_of (running_in w h t) (waiting_in w h t m.1 m.0.finished m.0.exchanges)
+        ≡ taken_of w.limit (looked look 0) (running_in w h t) (waiting_in w h t m.1 m.0.finished m.0.exchanges))
+
+    looks : (feed : Feed) → ReadsFit w feed h t m.1 m.0.finished m.0.exchanges → may_take w h t m.1 m.0.exchanges ≡ true → Looks (stored_by w feed h t m.1 m.0.exchanges)
+    looks (Watched settings) f y = (
+      look_in w.key (store_in w h t m.0.exchanges),
+      sym (ap (within_room w.limit (length (running_in w h t)) 0) (looked-in w.key (store_in w h t m.0.exchanges) 0 (messages (candidates (running_in w h t) (waiting_in w h t m.1 m.0.finished m.0.exchanges))))),
+    )
+    looks Streamed f y = (look_so m.1.looked_up, read-so f y)
+    looks Queued f y = (look_so m.1.looked_up, read-so f y)
+
+    turn-may : MayRun w.limit (running h) → MayRun w.limit (running (h ++ step t m ∷ []))
+    turn-may r =
+        subst (MayRun w.limit) (sym (running-push h (step t m)))
+        (subst (λ ts. MayRun w.limit (running_in w h t ++ filter_map started ts)) (sym taken-is) (go (may_take w h t m.1 m.0.exchanges) refl))
       where
         left : MayRun w.limit (running_in w h t)
-        left = fewer-may w.limit (λ p. not (is_finished t.finishes p.reference)) (running h) m
+        left = fewer-may w.limit (λ p. not (is_finished t.finishes p.reference)) (running h) r
 
-        go : (b : Bool) → MayRun w.limit (running_in w h t
-            ++ filter_map started (if b then taken_of w.key w.limit (reads_of w h t r.exchanges).looked_up (running_in w h t) (waiting_in w h t r.finished r.exchanges) else []))
-        go true =
-            takes-may w.key w.limit (reads_of w h t r.exchanges).looked_up 0 (waiting_in w h t r.finished r.exchanges) (running_in w h t)
-            (taken_of w.key w.limit (reads_of w h t r.exchanges).looked_up (running_in w h t) (waiting_in w h t r.finished r.exchanges))
-            (turn-taken w.key w.limit (reads_of w h t r.exchanges).looked_up (waiting_in w h t r.finished r.exchanges) (running_in w h t) once) left
-        go false = subst (MayRun w.limit) (sym (append-nil (running_in w h t))) left
+        go : (b : Bool) → may_take w h t m.1 m.0.exchanges ≡ b → MayRun w.limit (running_in w h t
+            ++ filter_map started (if b then taken_of w.limit (stored_in w h t m.1 m.0.exchanges).found_of (running_in w h t) (waiting_in w h t m.1 m.0.finished m.0.exchanges) else []))
+        go true y =
+            let l = looks (feed_of w 0) k.reads y in
+            subst (λ ts. MayRun w.limit (running_in w h t ++ filter_map started ts)) (sym l.1)
+            (takes-may w.limit l.0 0 (waiting_in w h t m.1 m.0.finished m.0.exchanges) (running_in w h t)
+            (taken_of w.limit (looked l.0 0) (running_in w h t) (waiting_in w h t m.1 m.0.finished m.0.exchanges))
+            (turn-taken w.limit l.0 (waiting_in w h t m.1 m.0.finished m.0.exchanges) (running_in w h t) once) left)
+        go false y = subst (MayRun w.limit) (sym (append-nil (running_in w h t))) left
 
     -- Shutdown.
 
-    over-is : was_over w (h ++ step t r ∷ []) ≡ is_over w h t r.exchanges
+    over-is : was_over w (h ++ step t m ∷ []) ≡ is_over w h t m.0.exchanges
     over-is =
-        ap (λ b. b || gave_up w (exchanges (h ++ step t r ∷ []))) (list_any-append (λ (u : Step O). asks_shutdown u.turn.shutdown) h (step t r ∷ []))
-        ∙ (ap (λ ds. (is_shut h || (asks_shutdown t.shutdown || false)) || gave_up w ds) (exchanges-push h t r) ∙ three (is_shut h) (asks_shutdown t.shutdown) (gave_up w (exchanges_with h t r.exchanges)))
+        ap (λ b. b || gave_up w (exchanges (h ++ step t m ∷ []))) (list_any-append (λ (u : Step O). asks_shutdown u.turn.shutdown) h (step t m ∷ []))
+        ∙ (ap (λ ds. (is_shut h || (asks_shutdown t.shutdown || false)) || gave_up w ds) (exchanges-push h t m) ∙ three (is_shut h) (asks_shutdown t.shutdown) (gave_up w (exchanges_with h t m.0.exchanges)))
       where
         three : (p q g : Bool) → (p || (q || false)) || g ≡ p || q || g
         three true q g = refl
         three false true g = refl
         three false false g = refl
 
-    none-taken : was_over w (h ++ step t r ∷ []) ≡ true → r.taken ≡ []
-    none-taken o = taken-is ∙ (ap (λ b. if (reads_of w h t r.exchanges).is_ready && not b then some else []) (sym over-is ∙ o) ∙ go (reads_of w h t r.exchanges).is_ready)
+    none-taken : was_over w (h ++ step t m ∷ []) ≡ true → m.0.taken ≡ []
+    none-taken o = taken-is ∙ (ap (λ b. if (stored_in w h t m.1 m.0.exchanges).is_ready && not b then some else []) (sym over-is ∙ o) ∙ go (stored_in w h t m.1 m.0.exchanges).is_ready)
       where
         some : List (Taken O)
-        some = taken_of w.key w.limit (reads_of w h t r.exchanges).looked_up (running_in w h t) (waiting_in w h t r.finished r.exchanges)
+        some = taken_of w.limit (stored_in w h t m.1 m.0.exchanges).found_of (running_in w h t) (waiting_in w h t m.1 m.0.finished m.0.exchanges)
 
         go : (b : Bool) → (if b && false then some else []) ≡ []
         go true = refl
         go false = refl
 
     abbrev failed : Bool
-    failed = is_some (reads_of w h t r.exchanges).failure
+    failed = is_some (stored_in w h t m.1 m.0.exchanges).failure
 
-    ended-is : r.ended ≡ is_forced t.shutdown || is_over w h t r.exchanges && is_idle_after w h t r.taken || failed
+    ended-is : m.0.ended ≡ is_forced t.shutdown || is_over w h t m.0.exchanges && is_idle_after w h t m.0.taken || failed
     ended-is =
         ap (λ (q : TurnRecord O). q.ended) k.determined
-        ∙ ap (λ ts. is_forced t.shutdown || is_over w h t r.exchanges && is_idle_after w h t ts || failed) (sym (ap (λ (q : TurnRecord O). q.taken) k.determined))
+        ∙ ap (λ ts. is_forced t.shutdown || is_over w h t m.0.exchanges && is_idle_after w h t ts || failed) (sym (ap (λ (q : TurnRecord O). q.taken) k.determined))
 
-    forced-ends : is_forced t.shutdown ≡ true → r.ended ≡ true
-    forced-ends f = ended-is ∙ ap (λ b. b || is_over w h t r.exchanges && is_idle_after w h t r.taken || failed) f
+    forced-ends : is_forced t.shutdown ≡ true → m.0.ended ≡ true
+    forced-ends f = ended-is ∙ ap (λ b. b || is_over w h t m.0.exchanges && is_idle_after w h t m.0.taken || failed) f
 
-    idle-ends : was_over w (h ++ step t r ∷ []) ≡ true → running (h ++ step t r ∷ []) ≡ [] → r.ended ≡ true
+    idle-ends : was_over w (h ++ step t m ∷ []) ≡ true → running (h ++ step t m ∷ []) ≡ [] → m.0.ended ≡ true
     idle-ends o e =
         ended-is
-        ∙ (ap (λ b. is_forced t.shutdown || b && is_idle_after w h t r.taken || failed) (sym over-is ∙ o)
-        ∙ (ap (λ b. is_forced t.shutdown || b || failed) (ap (λ us. length us == 0) (sym (running-push h (step t r)) ∙ e))
+        ∙ (ap (λ b. is_forced t.shutdown || b && is_idle_after w h t m.0.taken || failed) (sym over-is ∙ o)
+        ∙ (ap (λ b. is_forced t.shutdown || b || failed) (ap (λ us. length us == 0) (sym (running-push h (step t m)) ∙ e))
         ∙ ap (λ b. b || failed) (or-true (is_forced t.shutdown))))
 
-  pub trace-may : (h : List (Step O)) (ts : List Turn) (rs : List (TurnRecord O)) → IsTrace w h ts rs → MayRun w.limit (running h) → MayRun w.limit (running (h ++ steps ts rs))
-  trace-may h [] rs k m = subst (λ g. MayRun w.limit (running g)) (sym (append-nil h)) m
-  trace-may h (t ∷ ts) [] k m = subst (λ g. MayRun w.limit (running g)) (sym (append-nil h)) m
-  trace-may h (t ∷ ts) (r ∷ rs) k m =
-      subst (λ g. MayRun w.limit (running g)) (append_assoc h (step t r ∷ []) (steps ts rs)) (trace-may (h ++ step t r ∷ []) ts rs k.2 (turn-may h t r k.1 m))
+  pub trace-may : (policies : ℕ → ℕ → O → Option ℕ) (h : List (Step O)) (ts : List Turn) (ms : List (Made O)) → IsTrace w policies h ts ms → MayRun w.limit (running h)
+      → MayRun w.limit (running (h ++ steps ts ms))
+  trace-may policies h [] ms k r = subst (λ g. MayRun w.limit (running g)) (sym (append-nil h)) r
+  trace-may policies h (t ∷ ts) [] k r = subst (λ g. MayRun w.limit (running g)) (sym (append-nil h)) r
+  trace-may policies h (t ∷ ts) (m ∷ ms) k r =
+      subst (λ g. MayRun w.limit (running g)) (append_assoc h (step t m ∷ []) (steps ts ms)) (trace-may (λ n. policies (n + 1)) (h ++ step t m ∷ []) ts ms k.2 (turn-may (policies 0) h t m k.1 r))
 
-  none-after : (h : List (Step O)) (t : Turn) (r : TurnRecord O) (ts : List Turn) (rs : List (TurnRecord O)) → IsTrace w (h ++ step t r ∷ []) ts rs → r.ended ≡ true → steps ts rs ≡ []
-  none-after h t r [] rs k e = refl
-  none-after h t r (u ∷ ts) [] k e = refl
-  none-after h t r (u ∷ ts) (q ∷ rs) k e =
-      let now : has_ended (h ++ step t r ∷ []) ≡ true =
-      list_any-append (λ (s : Step O). s.made.ended) h (step t r ∷ []) ∙ (ap (λ b. has_ended h || (b || false)) e ∙ or-true (has_ended h)) in
+  none-after : (policies : ℕ → ℕ → O → Option ℕ) (h : List (Step O)) (t : Turn) (m : Made O) (ts : List Turn) (ms : List (Made O)) → IsTrace w policies (h ++ step t m ∷ []) ts ms → m.0.ended ≡ true
+      → steps ts ms ≡ []
+  none-after policies h t m [] ms k e = refl
+  none-after policies h t m (u ∷ ts) [] k e = refl
+  none-after policies h t m (u ∷ ts) (n ∷ ms) k e =
+      let now : has_ended (h ++ step t m ∷ []) ≡ true =
+      list_any-append (λ (s : Step O). s.made.ended) h (step t m ∷ []) ∙ (ap (λ b. has_ended h || (b || false)) e ∙ or-true (has_ended h)) in
       absurd (false≢true (sym k.0 ∙ now))
 
-  pub each-shuts : (h : List (Step O)) (ts : List Turn) (rs : List (TurnRecord O)) → IsTrace w h ts rs → EachShutsDown w h (steps ts rs)
-  each-shuts h [] rs k = tt
-  each-shuts h (t ∷ ts) [] k = tt
-  each-shuts h (t ∷ ts) (r ∷ rs) k = (
-    record { none_taken = none-taken h t r k.1; idle = idle-ends h t r k.1; forced = forced-ends h t r k.1; ends = none-after h t r ts rs k.2 },
-    each-shuts (h ++ step t r ∷ []) ts rs k.2,
+  pub each-shuts : (policies : ℕ → ℕ → O → Option ℕ) (h : List (Step O)) (ts : List Turn) (ms : List (Made O)) → IsTrace w policies h ts ms → EachShutsDown w h (steps ts ms)
+  each-shuts policies h [] ms k = tt
+  each-shuts policies h (t ∷ ts) [] k = tt
+  each-shuts policies h (t ∷ ts) (m ∷ ms) k = (
+    record {
+      none_taken = none-taken (policies 0) h t m k.1;
+      idle = idle-ends (policies 0) h t m k.1;
+      forced = forced-ends (policies 0) h t m k.1;
+      ends = none-after (λ n. policies (n + 1)) h t m ts ms k.2;
+    },
+    each-shuts (λ n. policies (n + 1)) (h ++ step t m ∷ []) ts ms k.2,
   )
 
   pub none-runs : MayRun {O = O} w.limit []

@@ -1,12 +1,12 @@
 -- The finishes of a valid turn: each ran.
-use Rattle.std.proofs.Common.{◌≡◌, ℕ, ◌+◌, Bool, true, false, not, cond, ◌||◌, List, [], ◌∷◌, ◌++◌, map, Some, None, if◌then◌else◌, refl, sym, ap, subst, ◌∙◌}
-use Rattle.std.specs.List.{filter, fold, list_any, AllZip}
+use Rattle.std.proofs.Common.{◌≡◌, ℕ, ◌+◌, Bool, true, false, not, cond, ◌||◌, List, [], ◌∷◌, ◌++◌, map, Option, Some, None, if◌then◌else◌, refl, sym, ap, subst, ◌∙◌}
+use Rattle.std.specs.List.{filter, fold, list_any}
 use Rattle.std.proofs.lemmas.Bool.{false≢true}
 use Rattle.kube_meta.specs.Reference.{Reference, same_reference}
 use Rattle.kube_meta.specs.ReferenceLaws.{same_reference_equiv}
 use Rattle.kube_model.specs.History.{Finish, Finished}
 use Rattle.kube_model.specs.Takes.{Running, runs, unfinished}
-use Rattle.kube_model.specs.Traces.{NotRunning, Twice, refused_finish, IsFinishOf}
+use Rattle.kube_model.specs.Traces.{NotRunning, Twice, refused_finish, AreFinishesOf}
 use Rattle.kube_model.proofs.Alls.{or-left, or-right}
 use Rattle.kube_model.proofs.Histories.{unfinished-append}
 use Rattle.kube_history.specs.CoreWorld.{CoreWorld}
@@ -15,11 +15,12 @@ use Rattle.kube_history.specs.TurnEvents.{finish_event}
 use Rattle.kube_history.proofs.Segments.{running-append, AreReplies}
 
 -- the finishes are the turn's
-pub finishes-are : (fins : List Finish) (fs : List Finished) → AllZip IsFinishOf fins fs → map (λ (f : Finished). f.finish) fs ≡ fins
-finishes-are [] [] z = refl
-finishes-are [] (g ∷ fs) z = absurd z
-finishes-are (f ∷ fins) [] z = absurd z
-finishes-are (f ∷ fins) (g ∷ fs) z = ap (λ x. x ∷ map (λ (f : Finished). f.finish) fs) z.0.finish ∙ ap (λ xs. f ∷ xs) (finishes-are fins fs z.1)
+pub finishes-are : {O : Type 0} (policies : ℕ → O → Option ℕ) (rs : List (Running O)) (fins : List Finish) (fs : List Finished) → AreFinishesOf policies rs fins fs
+    → map (λ (f : Finished). f.finish) fs ≡ fins
+finishes-are policies rs [] fs z = ap (map (λ (f : Finished). f.finish)) z
+finishes-are policies rs (f ∷ fins) [] z = absurd z
+finishes-are policies rs (f ∷ fins) (g ∷ fs) z =
+    ap (λ x. x ∷ map (λ (f : Finished). f.finish) fs) z.0.finish ∙ ap (λ xs. f ∷ xs) (finishes-are (λ n. policies (n + 1)) rs fins fs z.1)
 
 module _ {O : Type 0} where
   -- what runs when one reference is finished
@@ -64,33 +65,31 @@ module _ {O : Type 0} where
 
 module _ {O : Type 0} (core : CoreWorld O) where
   pub replies-finishes : (at : ℕ) (rs : List (Running O)) (fins : List Finish) (fs : List Finished) (named : List Reference) (n : ℕ) (before : List (CoreEvent O))
-      → AllZip IsFinishOf fins fs → refused_finish rs named n fins ≡ None
+      → map (λ (f : Finished). f.finish) fs ≡ fins → refused_finish rs named n fins ≡ None
       → ((r : Reference) → runs rs r ≡ true → list_any (λ q. same_reference q r) named ≡ false → runs (running_of before) r ≡ true)
       → AreReplies core before (map (finish_event at) fs)
-  replies-finishes at rs [] [] named n before z v h = tt
-  replies-finishes at rs [] (g ∷ fs) named n before z v h = absurd z
-  replies-finishes at rs (f ∷ fins) [] named n before z v h = absurd z
+  replies-finishes at rs fins [] named n before z v h = tt
+  replies-finishes at rs [] (g ∷ fs) named n before z v h = absurd (cc)
   replies-finishes at rs (f ∷ fins) (g ∷ fs) named n before z v h =
-      go (runs rs f.reference) (list_any (λ r. same_reference r f.reference) named) refl refl v
-      (λ u. replies-finishes at rs fins fs (f.reference ∷ named) (n + 1) (before ++ finish_event at g ∷ []) z.1 u next)
+      let here : g.finish ≡ f = cc in
+      let rest : map (λ (f : Finished). f.finish) fs ≡ fins = cc in
+      one f fins g fs n here (runs rs f.reference) (list_any (λ r. same_reference r f.reference) named) refl refl v
+      (λ u. replies-finishes at rs fins fs (f.reference ∷ named) (n + 1) (before ++ finish_event at g ∷ []) rest u (next f g here))
     where
-      is : f.reference ≡ g.finish.reference
-      is = ap (λ (x : Finish). x.reference) (sym z.0.finish)
+      after : (f : Finish) (g : Finished) → g.finish ≡ f → running_of (before ++ finish_event at g ∷ []) ≡ ended (running_of before) f.reference
+      after f g e = running-append before (finish_event at g ∷ []) ∙ ap (λ (x : Finish). ended (running_of before) x.reference) e
 
-      after : running_of (before ++ finish_event at g ∷ []) ≡ ended (running_of before) f.reference
-      after = running-append before (finish_event at g ∷ []) ∙ ap (ended (running_of before)) (sym is)
-
-      next : (r : Reference) → runs rs r ≡ true → (same_reference f.reference r || list_any (λ q. same_reference q r) named) ≡ false
+      next : (f : Finish) (g : Finished) → g.finish ≡ f → (r : Reference) → runs rs r ≡ true → (same_reference f.reference r || list_any (λ q. same_reference q r) named) ≡ false
           → runs (running_of (before ++ finish_event at g ∷ [])) r ≡ true
-      next r a b =
-          ap (λ qs. runs qs r) after
+      next f g e r a b =
+          ap (λ qs. runs qs r) (after f g e)
           ∙ runs-on (running_of before) f.reference r (or-left (same_reference f.reference r) (list_any (λ q. same_reference q r) named) b)
           (h r a (or-right (same_reference f.reference r) (list_any (λ q. same_reference q r) named) b))
 
-      go : (a b : Bool) → runs rs f.reference ≡ a → list_any (λ r. same_reference r f.reference) named ≡ b
+      one : (f : Finish) (fins : List Finish) (g : Finished) (fs : List Finished) (n : ℕ) → g.finish ≡ f → (a b : Bool) → runs rs f.reference ≡ a → list_any (λ r. same_reference r f.reference) named ≡ b
           → (if not a then Some (NotRunning n) else if b then Some (Twice n) else refused_finish rs (f.reference ∷ named) (n + 1) fins) ≡ None
           → (refused_finish rs (f.reference ∷ named) (n + 1) fins ≡ None → AreReplies core (before ++ finish_event at g ∷ []) (map (finish_event at) fs))
           → AreReplies core before (map (finish_event at) (g ∷ fs))
-      go false b e k u rest = absurd (cc)
-      go true true e k u rest = absurd (cc)
-      go true false e k u rest = (sym (subst (λ r. runs (running_of before) r ≡ true) is (h f.reference e k)), rest u)
+      one f fins g fs n is false b e k u rest = absurd (cc)
+      one f fins g fs n is true true e k u rest = absurd (cc)
+      one f fins g fs n is true false e k u rest = (sym (subst (λ (x : Finish). runs (running_of before) x.reference ≡ true) (sym is) (h f.reference e k)), rest u)

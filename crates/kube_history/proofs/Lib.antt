@@ -15,6 +15,8 @@ pub mod OpenTurn
 pub mod OneTurn
 pub mod Calls
 pub mod BrokenTurn
+pub mod ReaderTakes
 pub mod OneAtATime
 pub mod Endings
 pub mod PoolEntries
+pub mod ReaderTurns

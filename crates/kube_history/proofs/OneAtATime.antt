@@ -7,7 +7,7 @@ use Rattle.std.proofs.lemmas.List.Folds.{list_any-append}
 use Rattle.kube_meta.specs.Reference.{Reference, same_reference}
 use Rattle.kube_meta.specs.ReferenceLaws.{same_reference_equiv}
 use Rattle.kube_model.specs.History.{Message, same_message, Taken, exchanges_of}
-use Rattle.kube_model.specs.Store.{is_ready, found}
+use Rattle.kube_model.specs.Store.{is_ready}
 use Rattle.kube_model.specs.Queue.{Frozen, waiting}
 use Rattle.kube_model.specs.Takes.{Running, runs, started, candidates, has_room}
 use Rattle.kube_model.proofs.Alls.{or-left, or-right}
@@ -92,14 +92,14 @@ module _ {O : Type 0} where
   start-may limit rs m (Some o) h room k = more-may limit rs (record { reference = m.reference; object = o }) h room k
 
   -- takes one after another
-  pub takes-may : (key : O → Reference) (limit : ℕ) (look : ℕ → List O) (n : ℕ) (ws : List (Frozen Message)) (rs : List (Running O)) (ts : List (Taken O)) → AreTaken key limit look n ws rs ts
+  pub takes-may : (limit : ℕ) (look : ℕ → Message → Option O) (n : ℕ) (ws : List (Frozen Message)) (rs : List (Running O)) (ts : List (Taken O)) → AreTaken limit look n ws rs ts
       → MayRun limit rs → MayRun limit (rs ++ filter_map started ts)
-  takes-may key limit look n ws rs [] a k = subst (MayRun limit) (sym (append-nil rs)) k
-  takes-may key limit look n ws rs (t ∷ ts) (z, zs, room, cands, is, rest) k =
+  takes-may limit look n ws rs [] a k = subst (MayRun limit) (sym (append-nil rs)) k
+  takes-may limit look n ws rs (t ∷ ts) (z, zs, room, cands, is, rest) k =
       let m = z.entry.message in
       let one : MayRun limit (rs ++ cons_option (started t) []) =
-      subst (λ u. MayRun limit (rs ++ cons_option (started u) [])) (sym is) (start-may limit rs m (found key (look n) m.reference) (not-running rs ws z zs cands) room k) in
-      subst (MayRun limit) (onto (started t) rs (filter_map started ts)) (takes-may key limit look (n + 1) _ (rs ++ cons_option (started t) []) ts rest one)
+      subst (λ u. MayRun limit (rs ++ cons_option (started u) [])) (sym is) (start-may limit rs m (look n m) (not-running rs ws z zs cands) room k) in
+      subst (MayRun limit) (onto (started t) rs (filter_map started ts)) (takes-may limit look (n + 1) _ (rs ++ cons_option (started t) []) ts rest one)
 
 -- in a legal list of a core's events
 module _ {O : Type 0} (core : CoreWorld O) where

@@ -11,14 +11,14 @@ use Rattle.kube_model.specs.History.{Message, same_message, Taken, exchanges_of}
 use Rattle.kube_model.specs.Store.{is_ready, found, store_of}
 use Rattle.kube_model.specs.Queue.{QueueEvent, Requested as QueueRequested, Settled as QueueSettled, Took as QueueTook, Request, Frozen, entry, entry_after, frozen_by, frozen_at, waiting, sorted_by, goes_before}
 use Rattle.kube_model.specs.Requests.{took}
-use Rattle.kube_model.specs.Takes.{Running, started, candidates, has_room, taken_of}
+use Rattle.kube_model.specs.Takes.{Running, started, candidates, has_room, within_room, taken_of, found_in}
 use Rattle.kube_model.specs.WaitingOnce.{HasEachOnce}
 use Rattle.kube_model.proofs.Waits.{frozen-own}
 use Rattle.kube_history.proofs.Orders.{before-orders, filter-sorted}
 use Rattle.kube_history.specs.CoreWorld.{CoreWorld}
-use Rattle.kube_history.specs.CoreEvents.{CoreEvent, Took, answers_in, was_shut, running_of, queue_after, queue_by, queue_of, store_in, first_of, next_candidate, take_of, next_taken}
-use Rattle.kube_history.specs.InTurn.{without, taken_by, AreTaken, IsNoneLeft}
-use Rattle.kube_history.proofs.TakesInTurn.{rest-left, once-without, more-is, taken-turn}
+use Rattle.kube_history.specs.CoreEvents.{CoreEvent, Took, answers_in, was_shut, running_of, queue_after, queue_by, queue_of, cache_of, first_of, next_candidate, take_of, next_taken}
+use Rattle.kube_history.specs.InTurn.{without, taken_by, AreTaken, IsNoneLeft, look_in}
+use Rattle.kube_history.proofs.TakesInTurn.{rest-left, once-without, more-is, taken-turn, looked, messages, looked-in}
 use Rattle.kube_history.specs.TurnEvents.{takes}
 use Rattle.kube_history.proofs.Segments.{queue-append, shut-append, running-append, answers-append, AreReplies}
 
@@ -75,32 +75,43 @@ module _ (d : ℕ) (es : List (QueueEvent Message)) (m : Message) where
       ∙ sym (filter-sorted goes_before before-orders stays (filter_map (frozen_at same_message d es) es))
 
 -- There are takes one after another, and so they are those of a turn.
-module _ {O : Type 0} (key : O → Reference) (l : ℕ) (look : ℕ → List O) where
+module _ {O : Type 0} (l : ℕ) (look : ℕ → Message → Option O) where
   are-some : (n : ℕ) (ws : List (Frozen Message)) (rs : List (Running O)) (cs : List (Frozen Message)) → HasEachOnce same_message ws → candidates rs ws ≡ cs
-      → (ts : List (Taken O)) × AreTaken key l look n ws rs ts
+      → (ts : List (Taken O)) × AreTaken l look n ws rs ts
   are-some n ws rs [] once e = ([], go (has_room l (length rs) 0))
     where
       go : (b : Bool) → IsNoneLeft b (candidates rs ws)
       go true = e
       go false = tt
   are-some n ws rs (z ∷ zs) once e =
-      go (has_room l (length rs) 0) refl (are-some (n + 1) (without m ws) (rs ++ more) zs (once-without m ws once) (rest-left rs more ws z zs once e (λ r h. more-is key l look n m r h)))
+      go (has_room l (length rs) 0) refl (are-some (n + 1) (without m ws) (rs ++ more) zs (once-without m ws once) (rest-left rs more ws z zs once e (λ r h. more-is l look n m r h)))
     where
       m : Message
       m = z.entry.message
 
       more : List (Running O)
-      more = cons_option (started (taken_by key l look n m)) []
+      more = cons_option (started (taken_by l look n m)) []
 
-      go : (b : Bool) → has_room l (length rs) 0 ≡ b → ((ts : List (Taken O)) × AreTaken key l look (n + 1) (without m ws) (rs ++ more) ts)
-          → (ts : List (Taken O)) × AreTaken key l look n ws rs ts
-      go true f r = (taken_by key l look n m ∷ r.0, (z, zs, f, e, refl, r.1))
+      go : (b : Bool) → has_room l (length rs) 0 ≡ b → ((ts : List (Taken O)) × AreTaken l look (n + 1) (without m ws) (rs ++ more) ts)
+          → (ts : List (Taken O)) × AreTaken l look n ws rs ts
+      go true f r = (taken_by l look n m ∷ r.0, (z, zs, f, e, refl, r.1))
       go false f r = ([], subst (λ b. IsNoneLeft b (candidates rs ws)) (sym f) tt)
 
-  pub turn-taken : (ws : List (Frozen Message)) (rs : List (Running O)) → HasEachOnce same_message ws → AreTaken key l look 0 ws rs (taken_of key l look rs ws)
+  pub turn-taken : (ws : List (Frozen Message)) (rs : List (Running O)) → HasEachOnce same_message ws → AreTaken l look 0 ws rs (taken_of l (looked look 0) rs ws)
   turn-taken ws rs once =
       let p = are-some 0 ws rs (candidates rs ws) once refl in
-      subst (λ ts. AreTaken key l look 0 ws rs ts) (taken-turn key l look p.0 rs ws once p.1) p.1
+      subst (λ ts. AreTaken l look 0 ws rs ts) (taken-turn l look p.0 rs ws once p.1) p.1
+
+-- from one store
+module _ {O : Type 0} (key : O → Reference) (l : ℕ) (store : List O) where
+  pub store-turn : (ts : List (Taken O)) (rs : List (Running O)) (ws : List (Frozen Message))
+      → HasEachOnce same_message ws → AreTaken l (look_in key store) 0 ws rs ts → ts ≡ taken_of l (found_in key store) rs ws
+  store-turn ts rs ws once h = taken-turn l (look_in key store) ts rs ws once h ∙ ap (within_room l (length rs) 0) (looked-in key store 0 (messages (candidates rs ws)))
+
+  pub store-taken : (ws : List (Frozen Message)) (rs : List (Running O)) → HasEachOnce same_message ws → AreTaken l (look_in key store) 0 ws rs (taken_of l (found_in key store) rs ws)
+  store-taken ws rs once =
+      subst (λ ts. AreTaken l (look_in key store) 0 ws rs ts) (ap (within_room l (length rs) 0) (looked-in key store 0 (messages (candidates rs ws))))
+      (turn-taken l (look_in key store) ws rs once)
 
 module _ {O : Type 0} (core : CoreWorld O) where
   -- one take in the queue, where shutdown wasn't asked
@@ -149,9 +160,9 @@ module _ {O : Type 0} (core : CoreWorld O) where
       ∙ ap (λ us. option_map (take_of core before) (if has_room core.limit (length rs) 0 then option_map (λ (z : Frozen Message). z.entry.message) (first_of (candidates rs us)) else None)) q))
 
   pub replies-takes : (at : ℕ) (store : List O) (before : List (CoreEvent O)) (n : ℕ) (ws : List (Frozen Message)) (rs : List (Running O)) (ts : List (Taken O))
-      → is_ready (exchanges_of 0 (answers_in before)) ≡ true → was_shut before ≡ false → store_in core before ≡ store
+      → is_ready (exchanges_of 0 (answers_in before)) ≡ true → was_shut before ≡ false → cache_of core before ≡ store
       → running_of before ≡ rs → waiting same_message core.debounce (queue_of core before) ≡ ws
-      → AreTaken core.key core.limit (λ n. store) n ws rs ts → AreReplies core before (takes at ts)
+      → AreTaken core.limit (look_in core.key store) n ws rs ts → AreReplies core before (takes at ts)
   replies-takes at store before n ws rs [] ready unshut s r q k = (sym (next-is before rs ws ready unshut r q ∙ go (has_room core.limit (length rs) 0) k), tt)
     where
       go : (b : Bool) → IsNoneLeft b (candidates rs ws)

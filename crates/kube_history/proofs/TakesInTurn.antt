@@ -1,5 +1,5 @@
 -- Takes, one after another, are those of a turn.
-use Rattle.std.proofs.Common.{◌≡◌, ℕ, ◌+◌, ◌-◌, ◌==◌, nat_lt, Bool, true, false, not, ◌||◌, cond, List, [], ◌∷◌, ◌++◌, length, Option, Some, None, is_some, if◌then◌else◌, refl, sym, ap, subst, ◌∙◌, length-append, arith}
+use Rattle.std.proofs.Common.{◌≡◌, ℕ, ◌+◌, ◌-◌, ◌==◌, nat_lt, Bool, true, false, not, ◌||◌, cond, List, [], ◌∷◌, ◌++◌, map, length, Option, Some, None, is_some, if◌then◌else◌, refl, sym, ap, subst, ◌∙◌, length-append, arith}
 use Rattle.std.specs.List.{cons_option}
 use Rattle.std.proofs.lemmas.Bool.{ltb-true, ltb-false}
 use Rattle.std.proofs.Math.Bool.{or-false}
@@ -8,11 +8,10 @@ use Rattle.kube_meta.specs.Reference.{Reference, same_reference}
 use Rattle.kube_meta.specs.ReferenceLaws.{same_reference_equiv}
 use Rattle.kube_model.specs.History.{Message, same_message, Taken}
 use Rattle.kube_model.specs.Queue.{Frozen}
-use Rattle.kube_model.specs.Store.{found}
-use Rattle.kube_model.specs.Takes.{Running, runs, started, candidates, has_room, taken_from, taken_of}
+use Rattle.kube_model.specs.Takes.{Running, runs, started, candidates, has_room, within_room, taken_of, found_in}
 use Rattle.kube_model.specs.WaitingOnce.{HasEachOnce, is_among}
 use Rattle.kube_model.proofs.Alls.{or-left, or-right}
-use Rattle.kube_history.specs.InTurn.{without, taken_by, AreTaken, IsNoneLeft}
+use Rattle.kube_history.specs.InTurn.{without, taken_by, AreTaken, IsNoneLeft, look_in}
 
 abbrev ref_of : Frozen Message → Reference
 ref_of z = z.entry.message.reference
@@ -118,65 +117,74 @@ shift l b n = both (nat_lt 0 (l - (b + n))) (nat_lt n (l - b)) refl refl
     both true false e f = absurd (let g = ltb-true 0 (l - (b + n)) e in let h = ltb-false n (l - b) f in omega (arith, g, h))
     both false true e f = absurd (let g = ltb-false 0 (l - (b + n)) e in let h = ltb-true n (l - b) f in omega (arith, g, h))
 
-room-shift : (l b n : ℕ) → has_room l (b + n) 0 ≡ has_room l b n
+pub room-shift : (l b n : ℕ) → has_room l (b + n) 0 ≡ has_room l b n
 room-shift l b n = ap (λ c. (l == 0) || c) (shift l b n)
 
-module _ {O : Type 0} (key : O → Reference) where
-  -- where there is no room none is taken
-  full : (l r : ℕ) (look : ℕ → List O) (n k : ℕ) (zs : List (Frozen Message)) → has_room l r n ≡ false → taken_from key (has_room l r) look n k zs ≡ []
-  full l r look n k [] h = refl
-  full l r look n k (z ∷ zs) h = later (found key (look k) z.entry.message.reference) (full l r look (n + 0) (k + 1) zs (let e : n + 0 ≡ n = omega arith in rw e h)) (full l r look (n + 1) (k + 1) zs)
-    where
-      no-more : has_room l r (n + 1) ≡ false
-      no-more = go (l == 0) (nat_lt n (l - r)) (nat_lt (n + 1) (l - r)) refl refl refl
-        where
-          go : (a b c : Bool) → (l == 0) ≡ a → nat_lt n (l - r) ≡ b → nat_lt (n + 1) (l - r) ≡ c → (a || c) ≡ false
-          go true b c e f g = absurd (let k : has_room l r n ≡ true = ap (λ a. a || nat_lt n (l - r)) e in cc)
-          go false true c e f g = absurd (let k : has_room l r n ≡ true = ap (λ a. a || nat_lt n (l - r)) e ∙ f in cc)
-          go false false true e f g = absurd (let p = ltb-false n (l - r) f in let q = ltb-true (n + 1) (l - r) g in omega (arith, p, q))
-          go false false false e f g = refl
+module _ {O : Type 0} (look : ℕ → Message → Option O) where
+  -- what look-ups answer of these messages, from the k-th on
+  abbrev pub looked : ℕ → List Message → List (Taken O)
+  looked k [] = []
+  looked k (m ∷ ms) = record { message = m; object = look k m } ∷ looked (k + 1) ms
 
-      later : (o : Option O) → taken_from key (has_room l r) look (n + 0) (k + 1) zs ≡ [] → (has_room l r (n + 1) ≡ false → taken_from key (has_room l r) look (n + 1) (k + 1) zs ≡ [])
-          → (cond (has_room l r n) (record { message = z.entry.message; object = o } ∷ []) []) ++ taken_from key (has_room l r) look (n + (if is_some o then 1 else 0)) (k + 1) zs ≡ []
-      later None p q = ap (λ b. cond b (record { message = z.entry.message; object = None } ∷ []) [] ++ taken_from key (has_room l r) look (n + 0) (k + 1) zs) h ∙ p
-      later (Some o) p q = ap (λ b. cond b (record { message = z.entry.message; object = Some o } ∷ []) [] ++ taken_from key (has_room l r) look (n + 1) (k + 1) zs) h ∙ q no-more
+abbrev pub messages : List (Frozen Message) → List Message
+messages zs = map (λ (z : Frozen Message). z.entry.message) zs
 
+-- where there is no room none is taken
+pub full : {O : Type 0} (l r n : ℕ) (ts : List (Taken O)) → has_room l r n ≡ false → within_room l r n ts ≡ []
+full l r n [] h = refl
+full {O = O} l r n (t ∷ ts) h = later t.object (full l r (n + 0) ts (let e : n + 0 ≡ n = omega arith in rw e h)) (full l r (n + 1) ts no-more)
+  where
+    no-more : has_room l r (n + 1) ≡ false
+    no-more = go (l == 0) (nat_lt n (l - r)) (nat_lt (n + 1) (l - r)) refl refl refl
+      where
+        go : (a b c : Bool) → (l == 0) ≡ a → nat_lt n (l - r) ≡ b → nat_lt (n + 1) (l - r) ≡ c → (a || c) ≡ false
+        go true b c e f g = absurd (let k : has_room l r n ≡ true = ap (λ a. a || nat_lt n (l - r)) e in cc)
+        go false true c e f g = absurd (let k : has_room l r n ≡ true = ap (λ a. a || nat_lt n (l - r)) e ∙ f in cc)
+        go false false true e f g = absurd (let p = ltb-false n (l - r) f in let q = ltb-true (n + 1) (l - r) g in omega (arith, p, q))
+        go false false false e f g = refl
+
+    later : (o : Option O) → within_room l r (n + 0) ts ≡ [] → within_room l r (n + 1) ts ≡ []
+        → (cond (has_room l r n) (t ∷ []) []) ++ within_room l r (n + (if is_some o then 1 else 0)) ts ≡ []
+    later None p q = ap (λ b. cond b (t ∷ []) [] ++ within_room l r (n + 0) ts) h ∙ p
+    later (Some o) p q = ap (λ b. cond b (t ∷ []) [] ++ within_room l r (n + 1) ts) h ∙ q
+
+pub more-len : {O : Type 0} (m : Message) (o : Option O) → length (cons_option (started (record { message = m; object = o })) []) ≡ (if is_some o then 1 else 0)
+more-len m None = refl
+more-len m (Some o) = refl
+
+module _ {O : Type 0} (l : ℕ) (look : ℕ → Message → Option O) where
   -- what one take starts is its message's
-  pub more-is : (l : ℕ) (look : ℕ → List O) (k : ℕ) (m : Message) (r : Reference) → runs (cons_option (started (taken_by key l look k m)) []) r ≡ true → same_reference m.reference r ≡ true
-  more-is l look k m r h = go (found key (look k) m.reference) h
+  pub more-is : (k : ℕ) (m : Message) (r : Reference) → runs (cons_option (started (taken_by l look k m)) []) r ≡ true → same_reference m.reference r ≡ true
+  more-is k m r h = go (look k m) h
     where
       go : (o : Option O) → runs (cons_option (started (record { message = m; object = o })) []) r ≡ true → same_reference m.reference r ≡ true
       go None e = absurd (cc)
       go (Some o) e = sym (or-false (same_reference m.reference r)) ∙ e
 
-  more-len : (m : Message) (o : Option O) → length (cons_option (started (record { message = m; object = o })) []) ≡ (if is_some o then 1 else 0)
-  more-len m None = refl
-  more-len m (Some o) = refl
-
   -- takes one after another are those of a turn
-  taken-from : (l base : ℕ) (look : ℕ → List O) (ts : List (Taken O)) (rs : List (Running O)) (ws : List (Frozen Message)) (n k : ℕ)
-      → length rs ≡ base + n → HasEachOnce same_message ws → AreTaken key l look k ws rs ts
-      → ts ≡ taken_from key (has_room l base) look n k (candidates rs ws)
-  taken-from l base look [] rs ws n k e once h = go (has_room l (length rs) 0) refl h
+  taken-from : (base : ℕ) (ts : List (Taken O)) (rs : List (Running O)) (ws : List (Frozen Message)) (n k : ℕ)
+      → length rs ≡ base + n → HasEachOnce same_message ws → AreTaken l look k ws rs ts
+      → ts ≡ within_room l base n (looked look k (messages (candidates rs ws)))
+  taken-from base [] rs ws n k e once h = go (has_room l (length rs) 0) refl h
     where
       same : has_room l (length rs) 0 ≡ has_room l base n
       same = ap (λ c. has_room l c 0) e ∙ room-shift l base n
 
-      go : (b : Bool) → has_room l (length rs) 0 ≡ b → IsNoneLeft b (candidates rs ws) → [] ≡ taken_from key (has_room l base) look n k (candidates rs ws)
-      go true f g = ap (taken_from key (has_room l base) look n k) (sym g)
-      go false f g = sym (full l base look n k (candidates rs ws) (sym same ∙ f))
-  taken-from l base look (t ∷ ts) rs ws n k e once (z, zs, room, cands, is, rest) = whole (λ d f. taken-from l base look ts (rs ++ cons_option (started t) []) (without z.entry.message ws) d (k + 1) f (once-without z.entry.message ws once) rest)
+      go : (b : Bool) → has_room l (length rs) 0 ≡ b → IsNoneLeft b (candidates rs ws) → [] ≡ within_room l base n (looked look k (messages (candidates rs ws)))
+      go true f g = ap (λ zs. within_room l base n (looked look k (messages zs))) (sym g)
+      go false f g = sym (full l base n (looked look k (messages (candidates rs ws))) (sym same ∙ f))
+  taken-from base (t ∷ ts) rs ws n k e once (z, zs, room, cands, is, rest) = whole (λ d f. taken-from base ts (rs ++ cons_option (started t) []) (without z.entry.message ws) d (k + 1) f (once-without z.entry.message ws once) rest)
     where
       m : Message
       m = z.entry.message
 
       o : Option O
-      o = found key (look k) m.reference
+      o = look k m
 
       more : List (Running O)
       more = cons_option (started t) []
 
-      more-of : more ≡ cons_option (started (taken_by key l look k m)) []
+      more-of : more ≡ cons_option (started (taken_by l look k m)) []
       more-of = ap (λ u. cons_option (started u) []) is
 
       len : length (rs ++ more) ≡ base + (n + (if is_some o then 1 else 0))
@@ -186,26 +194,31 @@ module _ {O : Type 0} (key : O → Reference) where
           omega (arith, a, b, e)
 
       left : candidates (rs ++ more) (without m ws) ≡ zs
-      left = rest-left rs more ws z zs once cands (λ r h. more-is l look k m r (ap (λ us. runs us r) (sym more-of) ∙ h))
+      left = rest-left rs more ws z zs once cands (λ r h. more-is k m r (ap (λ us. runs us r) (sym more-of) ∙ h))
 
       again : Type 0
-      again = (d : ℕ) → length (rs ++ more) ≡ base + d → ts ≡ taken_from key (has_room l base) look d (k + 1) (candidates (rs ++ more) (without m ws))
+      again = (d : ℕ) → length (rs ++ more) ≡ base + d → ts ≡ within_room l base d (looked look (k + 1) (messages (candidates (rs ++ more) (without m ws))))
 
-      later : again → ts ≡ taken_from key (has_room l base) look (n + (if is_some o then 1 else 0)) (k + 1) zs
+      later : again → ts ≡ within_room l base (n + (if is_some o then 1 else 0)) (looked look (k + 1) (messages zs))
       later r =
           r (n + (if is_some o then 1 else 0)) len
-          ∙ ap (taken_from key (has_room l base) look (n + (if is_some o then 1 else 0)) (k + 1)) left
+          ∙ ap (λ cs. within_room l base (n + (if is_some o then 1 else 0)) (looked look (k + 1) (messages cs))) left
 
       here : has_room l base n ≡ true
       here = sym (ap (λ c. has_room l c 0) e ∙ room-shift l base n) ∙ room
 
-      whole : again → t ∷ ts ≡ taken_from key (has_room l base) look n k (candidates rs ws)
+      whole : again → t ∷ ts ≡ within_room l base n (looked look k (messages (candidates rs ws)))
       whole r =
           ap (λ u. u ∷ ts) is
-          ∙ (ap (λ us. taken_by key l look k m ∷ us) (later r)
-          ∙ (ap (λ b. cond b (taken_by key l look k m ∷ []) [] ++ taken_from key (has_room l base) look (n + (if is_some o then 1 else 0)) (k + 1) zs) (sym here)
-          ∙ ap (taken_from key (has_room l base) look n k) (sym cands)))
+          ∙ (ap (λ us. taken_by l look k m ∷ us) (later r)
+          ∙ (ap (λ b. cond b (taken_by l look k m ∷ []) [] ++ within_room l base (n + (if is_some o then 1 else 0)) (looked look (k + 1) (messages zs))) (sym here)
+          ∙ ap (λ cs. within_room l base n (looked look k (messages cs))) (sym cands)))
 
-  pub taken-turn : (l : ℕ) (look : ℕ → List O) (ts : List (Taken O)) (rs : List (Running O)) (ws : List (Frozen Message))
-      → HasEachOnce same_message ws → AreTaken key l look 0 ws rs ts → ts ≡ taken_of key l look rs ws
-  taken-turn l look ts rs ws once h = taken-from l (length rs) look ts rs ws 0 0 (let e : length rs ≡ length rs + 0 = omega arith in e) once h
+  pub taken-turn : (ts : List (Taken O)) (rs : List (Running O)) (ws : List (Frozen Message))
+      → HasEachOnce same_message ws → AreTaken l look 0 ws rs ts → ts ≡ taken_of l (looked look 0) rs ws
+  taken-turn ts rs ws once h = taken-from (length rs) ts rs ws 0 0 (let e : length rs ≡ length rs + 0 = omega arith in e) once h
+
+-- look-ups in a store are what the store has
+pub looked-in : {O : Type 0} (key : O → Reference) (store : List O) (k : ℕ) (ms : List Message) → looked (look_in key store) k ms ≡ found_in key store ms
+looked-in key store k [] = refl
+looked-in key store k (m ∷ ms) = ap (λ ts. record { message = m; object = look_in key store k m } ∷ ts) (looked-in key store (k + 1) ms)

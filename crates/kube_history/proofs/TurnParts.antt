@@ -4,19 +4,22 @@ use Rattle.std.specs.List.{count_by, find}
 use Rattle.std.proofs.lemmas.Bool.{ltb-false}
 use Rattle.kube_meta.specs.Reference.{Reference}
 use Rattle.kube_model.specs.World.{World, Settings, Watched, feed_of}
-use Rattle.kube_model.specs.History.{Message, Exchange, Turn, Step, exchanges, exchanges_with}
-use Rattle.kube_model.specs.Fits.{IsFitting, AreNamed}
+use Rattle.kube_model.specs.History.{Message, Exchange, Turn, Step, exchanges, exchanges_with, exchanges_of}
+use Rattle.kube_model.specs.Fits.{IsFitting}
 use Rattle.kube_model.specs.Queue.{QueueEvent, is_request}
 use Rattle.kube_model.specs.Pause.{gave_up, is_paused}
-use Rattle.kube_model.specs.Requests.{asks_shutdown, is_shut, is_over, is_closed, numbered}
+use Rattle.kube_model.specs.Requests.{numbered}
+use Rattle.kube_model.specs.Shutdowns.{is_closed}
 use Rattle.kube_model.specs.Takes.{running}
-use Rattle.kube_model.specs.Turns.{next_source, may_be_asked, in_turn}
-use Rattle.kube_model.specs.Traces.{Moment, refusal, refused_finish, last_moment, EachIsNext, EachIsNamed}
+use Rattle.kube_model.specs.Turns.{next_source, was_asked}
+use Rattle.kube_model.specs.Asks.{next_asked, may_be_asked, in_turn}
+use Rattle.kube_model.specs.Traces.{Moment, refusal, refused_finish, last_moment, EachIsNext}
+use Rattle.kube_model.specs.Named.{EachIsNamed}
 use Rattle.kube_model.proofs.Histories.{exchanges_with-push}
 use Rattle.kube_history.specs.CoreWorld.{CoreWorld, core_world}
 use Rattle.kube_history.specs.CoreEvents.{CoreEvent, Answered, Requested, moment_of, answers_in, was_shut, queue_after, queue_by, queue_with, requests_by}
 use Rattle.kube_history.specs.TurnEvents.{reload_events, shut_if}
-use Rattle.kube_history.specs.Agrees.{EachFits}
+use Rattle.kube_history.specs.Agrees.{EachFits, RootIsNamed}
 use Rattle.kube_history.proofs.Segments.{shut-append, answers-append, AreReplies}
 use Rattle.kube_history.proofs.Answerable.{AreShaped, shaped-push, answerable, each-push}
 
@@ -51,11 +54,11 @@ module _ {O : Type 0} (core : CoreWorld O) where
 module _ {O B : Type 0} (w : World O B) where
   -- each answer is one that may be after those before it
   pub replies-answers : (settings : Settings) → feed_of w 0 ≡ Watched settings → (h : List (Step O)) (t : Turn) (ys xs : List (Exchange O)) (before : List (CoreEvent O))
-      → answers_in before ≡ exchanges_with h t ys → AreShaped w (exchanges_with h t ys) → EachIsNext w h t ys xs → EachIsNamed w h t ys xs
+      → answers_in before ≡ exchanges_with h t ys → AreShaped w (exchanges_with h t ys) → EachIsNext w h t ys xs → EachIsNamed w (RootIsNamed w) h t ys xs
       → AreReplies (core_world w) before (map (Answered t.at) xs)
   replies-answers settings watched h t ys [] before e s k n = tt
   replies-answers settings watched h t ys (x ∷ xs) before e s k n = (
-    answerable w settings watched (answers_in before) t.at x (subst (AreShaped w) (sym e) s) (subst (λ ds. IsFitting w ds t.at x) (sym e) k.0.fits) (subst (λ ds. AreNamed w ds x) (sym e) n.0),
+    answerable w settings watched (answers_in before) t.at x (subst (AreShaped w) (sym e) s) (subst (λ ds. IsFitting w ds t.at x) (sym e) k.0.fits) (subst (λ ds. RootIsNamed w x.source (exchanges_of x.source ds) x) (sym e) n.0),
     replies-answers settings watched h t (ys ++ x ∷ []) xs (before ++ Answered t.at x ∷ [])
         (answers-append before (Answered t.at x ∷ []) ∙ (ap (λ ds. ds ++ record { at = t.at; exchange = x } ∷ []) e ∙ sym (exchanges_with-push h t ys x)))
         (subst (AreShaped w) (sym (exchanges_with-push h t ys x)) (shaped-push w (exchanges_with h t ys) (record { at = t.at; exchange = x }) s k.0.fits)) k.1 n.1,
@@ -80,9 +83,12 @@ module _ {O B : Type 0} (w : World O B) where
 
   -- a closed turn asks nobody
   pub none-next : (h : List (Step O)) (t : Turn) → is_closed w h t ≡ true → next_source w h t [] ≡ None
-  none-next h t c =
-      let over : is_over w h t [] ≡ true = ap (λ ds. is_shut h || asks_shutdown t.shutdown || gave_up w ds) (append-nil (exchanges h)) ∙ c in
-      ap (λ b. if b || is_paused w t.at (exchanges_with h t []) then None else find (may_be_asked w h t []) (in_turn w (exchanges_with h t []))) over
+  none-next h t c = go (was_asked w h t) c
+    where
+      go : (b : Bool) → b || gave_up w (exchanges h) ≡ true → (if b then None else next_asked w t.budget (exchanges h) [] t.at) ≡ None
+      go true e = refl
+      go false e =
+          ap (λ b. if b || is_paused w t.at (exchanges h ++ []) then None else find (may_be_asked w t.budget (exchanges h) []) (in_turn w (exchanges h ++ []))) (ap (gave_up w) (append-nil (exchanges h)) ∙ e)
 
   pub none-made : (h : List (Step O)) (t : Turn) → is_closed w h t ≡ true → (xs : List (Exchange O)) → EachIsNext w h t [] xs → xs ≡ []
   none-made h t c [] k = refl

@@ -87,14 +87,14 @@ first_of (x ∷ xs) = Some x
 
 module _ {O : Type 0} (core : CoreWorld O) where
   -- the root's store
-  abbrev pub store_in : List (CoreEvent O) → List O
-  store_in es = store_of core.key (root_answers es)
+  abbrev pub cache_of : List (CoreEvent O) → List O
+  cache_of es = store_of core.key (root_answers es)
 
   -- what an event requests, after those before it
   abbrev pub requests_by : List (CoreEvent O) → CoreEvent O → List Timed
   requests_by before (Answered at exchange) = requests_of_exchanges at (exchange ∷ [])
   requests_by before (Requested at reference) = requested_at at (record { reference = reference; reason = Unknown }) ∷ []
-  requests_by before (Reloaded at) = map (λ r. requested_at at (record { reference = r; reason = BulkReconcile })) (sorted_by reference_before (map core.key (store_in before)))
+  requests_by before (Reloaded at) = map (λ r. requested_at at (record { reference = r; reason = BulkReconcile })) (sorted_by reference_before (map core.key (cache_of before)))
   requests_by before (Finished at reference ok action ran) = if ran then action_requests at reference ok action else []
   requests_by before _ = []
 
@@ -126,7 +126,7 @@ module _ {O : Type 0} (core : CoreWorld O) where
 
   -- a message with the object that is found for it
   abbrev pub take_of : List (CoreEvent O) → Message → Taken O
-  take_of es m = record { message = m; object = found core.key (store_in es) m.reference }
+  take_of es m = record { message = m; object = found core.key (cache_of es) m.reference }
 
   -- what a take after these events replies: the first candidate, or nothing where the store isn't ready, shutdown was asked, there is no room, or no candidate
   abbrev pub next_taken : List (CoreEvent O) → Option (Taken O)

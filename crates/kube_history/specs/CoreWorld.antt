@@ -27,5 +27,4 @@ world_of core = record {
   backoff = tt;
   next = λ b at. (None, tt);
   reset = λ b. b;
-  reads = [];
 }

@@ -1,12 +1,13 @@
 -- When events of a core are legal: moments never fall, and each reply is the definitions' reply to the events before it. O is the type of objects.
-use Rattle.std.specs.Prelude.{◌≡◌, ◌⊎◌, ◌≤◌, ◌==◌, Bool, true, false, not, List, [], ◌∷◌, ◌++◌, IsTrue}
+use Rattle.std.specs.Prelude.{◌≡◌, ◌⊎◌, ◌≤◌, ℕ, zero, suc, Bool, true, false, not, List, [], ◌∷◌, ◌++◌}
 use Rattle.std.specs.List.{list_any}
 use Rattle.kube_model.specs.declared.call.Call.{Call}
 use Rattle.kube_model.specs.declared.call.Call.TheVariants.{List as ListCall, Watch, Next, Stream}
 use Rattle.kube_model.specs.World.{Watched}
 use Rattle.kube_model.specs.History.{Exchange, Dated, exchanges_of}
-use Rattle.kube_model.specs.Owed.{owed, mark}
-use Rattle.kube_model.specs.Fits.{answers, TextsFit, ErrorFits, ContentFits, AreNamed}
+use Rattle.kube_model.specs.Owed.{owed}
+use Rattle.kube_model.specs.Fits.{IsAnswered, IsOfSource}
+use Rattle.kube_model.specs.Named.{AreNamed}
 use Rattle.kube_model.specs.Takes.{runs}
 use Rattle.kube_history.specs.CoreWorld.{CoreWorld, world_of}
 use Rattle.kube_history.specs.CoreEvents.{CoreEvent, Answered, Requested, Reloaded, Finished, Settled, Took, Shut, moment_of, starting, answers_in, clock_of, running_of, next_taken}
@@ -32,19 +33,20 @@ module _ {O : Type 0} where
   RelatedMayOwe false (x ∷ xs) call = MayOwe (x ∷ xs) call
 
   -- a call that a source may owe: the root is watched; a related source without exchanges may be a stream as well, and one whose exchanges all polled a stream is one
-  abbrev pub SourceMayOwe : Bool → List (Exchange O) → Call → Type 0
-  SourceMayOwe true xs call = MayOwe xs call
-  SourceMayOwe false xs call = RelatedMayOwe (are_streams xs) xs call
+  abbrev pub SourceMayOwe : ℕ → List (Exchange O) → Call → Type 0
+  SourceMayOwe zero xs call = MayOwe xs call
+  SourceMayOwe (suc place) xs call = RelatedMayOwe (are_streams xs) xs call
 
 module _ {O : Type 0} (core : CoreWorld O) where
-  -- an exchange that a source may have after these: it makes a call that the source may owe, fits, and has names. No idle window is told to a core
-  pub record MayBeAnswered (before : List (Dated O)) (x : Exchange O) : Type 0 where
-    pub owes : SourceMayOwe (x.source == 0) (exchanges_of x.source before) x.call
-    pub answered : IsTrue (answers x.call x.answer)
-    pub texts : TextsFit x.answer
-    pub error : ErrorFits (mark (exchanges_of x.source before) x)
-    pub content : ContentFits (world_of core) (x.source == 0) before x
-    pub named : AreNamed (world_of core) before x
+  -- an exchange that a source may have after its own: it makes a call that the source may owe, its answer, objects and requests fit, and its objects have names. No idle window is told to a core
+  pub record MayFollow (own : List (Exchange O)) (x : Exchange O) : Type 0 where
+    pub owes : SourceMayOwe x.source own x.call
+    pub answer : IsAnswered own x
+    pub content : IsOfSource (world_of core) x.source own x
+    pub named : AreNamed (world_of core) own x
+
+  abbrev pub MayBeAnswered : List (Dated O) → Exchange O → Type 0
+  MayBeAnswered before x = MayFollow (exchanges_of x.source before) x
 
   abbrev pub IsReply : List (CoreEvent O) → CoreEvent O → Type 0
   IsReply before (Answered at x) = MayBeAnswered (answers_in before) x

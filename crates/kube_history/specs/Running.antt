@@ -2,7 +2,7 @@
 use Rattle.std.specs.Prelude.{◌≡◌, ◌⊎◌, ◌≤◌, ℕ, true, false, List, [], ◌∷◌, ◌++◌, length}
 use Rattle.kube_model.specs.World.{World}
 use Rattle.kube_model.specs.History.{Step}
-use Rattle.kube_model.specs.Requests.{is_forced}
+use Rattle.kube_model.specs.Shutdowns.{is_forced}
 use Rattle.kube_model.specs.Takes.{Running, running, runs}
 use Rattle.kube_history.specs.TurnEvents.{was_over}
 

@@ -3,7 +3,7 @@ use Rattle.std.specs.Prelude.{ℕ, Bool, true, false, not, ◌||◌, List, [], �
 use Rattle.kube_model.specs.World.{World}
 use Rattle.kube_model.specs.History.{Exchange, Outcome, Succeeded, Failed, Turn, Finished, Taken, Step, exchanges, exchanges_with}
 use Rattle.kube_model.specs.Pause.{gave_up}
-use Rattle.kube_model.specs.Requests.{is_shut, is_closed}
+use Rattle.kube_model.specs.Shutdowns.{is_shut, is_closed}
 use Rattle.kube_model.specs.Traces.{last_moment}
 use Rattle.kube_history.specs.CoreEvents.{CoreEvent, Answered, Requested, Reloaded, Finished as Ended, Settled, Took, Shut}
 

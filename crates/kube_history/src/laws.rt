@@ -1,79 +1,91 @@
 //! Laws of a core's events: each is the contract of a function that does nothing.
 //!
-//! `O` is any type of objects, and `B` any type of a backoff's states.
+//! `O` is any type of objects, and `B` any type of a backoff's states. `policies` has what the error policy answers.
 
-ghost use Rattle.std.specs.Prelude.{◌≡◌, ◌↔◌, ◌==◌, ◌++◌, ◌∷◌, [], ℕ, List, length, true, false, None};
-ghost use Rattle.std.specs.List.{AllZip};
+ghost use Rattle.std.specs.Prelude.{◌≡◌, ◌↔◌, ◌==◌, ◌++◌, ◌∷◌, [], ℕ, List, Option, Some, length, true, false, None};
+ghost use Rattle.std.specs.List.{count_by, filter_map};
 ghost use Rattle.kube_meta.specs.Reference.{Reference};
-ghost use Rattle.kube_model.specs.World.{World, Settings, Watched, feed_of};
+ghost use Rattle.kube_model.specs.World.{World, Settings, Watched, feed_of, is_watched};
+ghost use Rattle.kube_model.specs.Reads.{Reads, nothing_read};
 ghost use Rattle.kube_model.specs.History.{same_message, Message, Exchange, Finished, Step, Taken, Turn, TurnRecord};
 ghost use Rattle.kube_model.specs.Owed.{owed};
 ghost use Rattle.kube_model.specs.Store.{under_way};
-ghost use Rattle.kube_model.specs.Queue.{Frozen};
-ghost use Rattle.kube_model.specs.Requests.{is_closed, is_shut};
-ghost use Rattle.kube_model.specs.Takes.{Running, running, taken_of};
+ghost use Rattle.kube_model.specs.Queue.{Frozen, QueueEvent, Settled, is_settle};
+ghost use Rattle.kube_model.specs.Shutdowns.{is_closed, is_shut};
+ghost use Rattle.kube_model.specs.Requests.{Timed, events_of, requested_and_settled, took, turn_events};
+ghost use Rattle.kube_model.specs.Takes.{Running, found_in, running, started, taken_of, unfinished};
 ghost use Rattle.kube_model.specs.Turns.{is_idle_after, next_source, record_with};
-ghost use Rattle.kube_model.specs.Traces.{EachIsNamed, EachIsNext, IsFinishOf, IsRecord, IsTrace, IsUnnamedAt, IsValid, step, steps};
+ghost use Rattle.kube_model.specs.Traces.{AreFinishesOf, EachIsNext, IsRecord, IsTrace, IsValid, Made, step, steps, unread};
+ghost use Rattle.kube_model.specs.Named.{EachIsNamed};
 ghost use Rattle.kube_model.specs.WaitingOnce.{HasEachOnce};
 ghost use Rattle.kube_history.specs.CoreWorld.{core_world, CoreWorld};
-ghost use Rattle.kube_history.specs.CoreEvents.{CoreEvent, answers_in, listing_of, root_answers, running_of};
-ghost use Rattle.kube_history.specs.InTurn.{AreTaken};
+ghost use Rattle.kube_history.specs.CoreEvents.{CoreEvent, listing_of, root_answers, running_of};
+ghost use Rattle.kube_history.specs.InTurn.{AreTaken, look_in};
+ghost use Rattle.kube_history.specs.ReaderTurn.{ReadsAndTakes, with_requests};
 ghost use Rattle.kube_history.specs.Legal.{AreLegal};
 ghost use Rattle.kube_history.specs.TurnEvents.{asks, before_takes, core_events, core_of, takes};
-ghost use Rattle.kube_history.specs.Agrees.{Agrees, AgreesSoFar, AreNamedTurns};
+ghost use Rattle.kube_history.specs.Agrees.{Agrees, AgreesSoFar, AreNamedTurns, RootIsNamed};
 ghost use Rattle.kube_history.specs.PoolHistory.{PoolEntry, entry_events, events_in, IsOfPass, IsPoolHistory};
 ghost use Rattle.kube_history.specs.Running.{EachShutsDown, MayRun};
 
-/// One more turn: where a core's events agree with a history, they and the events of a named turn with its record
-/// agree with the history and the turn.
+/// One more turn: where a core's events agree with a history, they and the events of a turn whose root is named agree
+/// with the history and the turn.
 pub fn turn_agrees<O, B>()
-    ensures { (w : World O B) (settings : Settings) → feed_of w 0 ≡ Watched settings
-        → (h : List (Step O)) (t : Turn) (r : TurnRecord O) (es : List (CoreEvent O)) → IsRecord w h t r → EachIsNamed w h t [] r.exchanges → Agrees w h es
-        → Agrees w (h ++ step t r ∷ []) (es ++ core_events w h (step t r)) }
+    ensures { (w : World O B) (settings : Settings) → feed_of w 0 ≡ Watched settings → (policies : ℕ → O → Option ℕ)
+        → (h : List (Step O)) (t : Turn) (m : Made O) (es : List (CoreEvent O)) → IsRecord w policies h t m → EachIsNamed w (RootIsNamed w) h t [] m.0.exchanges → Agrees w h es
+        → Agrees w (h ++ step t m ∷ []) (es ++ core_events w h (step t m)) }
 {}
 
-/// The core's events over a trace of named turns are legal, and agree with its history.
+/// The core's events over a trace whose root is named are legal, and agree with its history.
 pub fn trace_agrees<O, B>()
-    ensures { (w : World O B) (settings : Settings) → feed_of w 0 ≡ Watched settings
-        → (ts : List Turn) (rs : List (TurnRecord O)) → IsTrace w [] ts rs → AreNamedTurns w [] (steps ts rs) → Agrees w (steps ts rs) (core_of w (steps ts rs)) }
+    ensures { (w : World O B) (settings : Settings) → feed_of w 0 ≡ Watched settings → (policies : ℕ → ℕ → O → Option ℕ)
+        → (ts : List Turn) (ms : List (Made O)) → IsTrace w policies [] ts ms → AreNamedTurns w [] (steps ts ms) → Agrees w (steps ts ms) (core_of w (steps ts ms)) }
 {}
 
 /// From calls to a record: where the asks of an open turn, and takes up to the first that finds nothing, are legal,
-/// they make the turn's record, which took just these; and the turn is named.
+/// they make the turn's record, which took just these; and the turn's root is named.
 pub fn calls_make_a_turn<O, B>()
-    ensures { (w : World O B) (settings : Settings) → feed_of w 0 ≡ Watched settings
+    ensures { (w : World O B) (settings : Settings) → feed_of w 0 ≡ Watched settings → (policies : ℕ → O → Option ℕ)
         → (h : List (Step O)) (t : Turn) (fs : List Finished) (xs : List (Exchange O)) (ts : List (Taken O)) (es : List (CoreEvent O))
-        → is_closed w h t ≡ false → Agrees w h es → IsValid h t → AllZip IsFinishOf t.finishes fs → EachIsNext w h t [] xs → next_source w h t xs ≡ None
+        → is_closed w h t ≡ false → Agrees w h es → IsValid h t → AreFinishesOf policies (running h) t.finishes fs → EachIsNext w h t [] xs → next_source w h t xs ≡ None
         → AreLegal (core_world w) [] (es ++ before_takes w h t fs xs ++ takes t.at ts)
-        → IsRecord w h t (record_with w h t fs xs) × ((record_with w h t fs xs).taken ≡ ts) × EachIsNamed w h t [] xs }
+        → IsRecord w policies h t (unread (record_with w h t nothing_read fs xs)) × ((record_with w h t nothing_read fs xs).taken ≡ ts) × EachIsNamed w (RootIsNamed w) h t [] xs }
 {}
 
 /// A closed turn asks and takes nothing.
 pub fn closed_calls_make_a_turn<O, B>()
-    ensures { (w : World O B) (settings : Settings) → feed_of w 0 ≡ Watched settings → (h : List (Step O)) (t : Turn) (fs : List Finished)
-        → is_closed w h t ≡ true → IsValid h t → AllZip IsFinishOf t.finishes fs
-        → IsRecord w h t (record_with w h t fs []) × ((record_with w h t fs []).taken ≡ []) }
+    ensures { (w : World O B) (settings : Settings) → feed_of w 0 ≡ Watched settings → (policies : ℕ → O → Option ℕ) (h : List (Step O)) (t : Turn) (fs : List Finished)
+        → is_closed w h t ≡ true → IsValid h t → AreFinishesOf policies (running h) t.finishes fs
+        → IsRecord w policies h t (unread (record_with w h t nothing_read fs [])) × ((record_with w h t nothing_read fs []).taken ≡ []) }
 {}
 
 /// The events of an open turn so far, up to any of its exchanges, are legal after those of the history, and say what
-/// the turn has done: so also of a turn that an item without a name breaks off.
-pub fn broken_turn_agrees_so_far<O, B>()
-    ensures { (w : World O B) (settings : Settings) → feed_of w 0 ≡ Watched settings
-        → (h : List (Step O)) (t : Turn) (fs : List Finished) (before : List (Exchange O)) (x : Exchange O) (es : List (CoreEvent O))
-        → IsUnnamedAt w h t before x → AllZip IsFinishOf t.finishes fs → Agrees w h es
-        → AgreesSoFar w h t fs before (es ++ asks t fs before) }
+/// the turn has done.
+pub fn turn_agrees_so_far<O, B>()
+    ensures { (w : World O B) (settings : Settings) → feed_of w 0 ≡ Watched settings → (policies : ℕ → O → Option ℕ)
+        → (h : List (Step O)) (t : Turn) (fs : List Finished) (xs : List (Exchange O)) (es : List (CoreEvent O))
+        → is_closed w h t ≡ false → IsValid h t → AreFinishesOf policies (running h) t.finishes fs → EachIsNext w h t [] xs → EachIsNamed w (RootIsNamed w) h t [] xs → Agrees w h es
+        → AgreesSoFar w h t fs xs (es ++ asks t fs xs) }
 {}
 
-/// Legal answers hold named items.
+/// So it is of a turn that is broken off at a source which was to be asked next, as where what came has no name.
+pub fn broken_turn_agrees_so_far<O, B>()
+    ensures { (w : World O B) (settings : Settings) → feed_of w 0 ≡ Watched settings → (policies : ℕ → O → Option ℕ)
+        → (h : List (Step O)) (t : Turn) (fs : List Finished) (xs : List (Exchange O)) (source : ℕ) (es : List (CoreEvent O))
+        → IsValid h t → AreFinishesOf policies (running h) t.finishes fs → EachIsNext w h t [] xs → EachIsNamed w (RootIsNamed w) h t [] xs → next_source w h t xs ≡ Some source → Agrees w h es
+        → AgreesSoFar w h t fs xs (es ++ asks t fs xs) }
+{}
+
+/// Legal answers of the root hold named objects.
 pub fn legal_answers_are_named<O, B>()
     ensures { (w : World O B) (h : List (Step O)) (t : Turn) (fs : List Finished) (xs : List (Exchange O)) (es : List (CoreEvent O))
-        → Agrees w h es → AreLegal (core_world w) es (asks t fs xs) → EachIsNamed w h t [] xs }
+        → Agrees w h es → AreLegal (core_world w) es (asks t fs xs) → EachIsNamed w (RootIsNamed w) h t [] xs }
 {}
 
 /// Whether nothing runs after a turn is seen from its core.
 pub fn idle_is_nothing_running<O, B>()
-    ensures { (w : World O B) (h : List (Step O)) (t : Turn) (r : TurnRecord O) (es : List (CoreEvent O)) → Agrees w (h ++ step t r ∷ []) es
-        → is_idle_after w h t r.taken ≡ (length (running_of es) == 0) }
+    ensures { (w : World O B) (h : List (Step O)) (t : Turn) (m : Made O) (es : List (CoreEvent O)) → Agrees w (h ++ step t m ∷ []) es
+        → is_idle_after w h t m.0.taken ≡ (length (running_of es) == 0) }
 {}
 
 /// After a shutdown a turn without finishes leaves no event, and so not its moment.
@@ -86,10 +98,47 @@ pub fn listing_is_of_any_settings<O>()
     ensures { (settings : Settings) (es : List (CoreEvent O)) → listing_of es ≡ under_way (owed (Watched settings) (root_answers es)) (root_answers es) }
 {}
 
-/// Takes of first candidates, one after another until none is left, are those of a turn.
+/// Takes of first candidates, one after another until none is left, each looked up in one store, are those of a turn.
 pub fn takes_one_after_another<O>()
-    ensures { (key : O → Reference) (limit : ℕ) (look : ℕ → List O) (ts : List (Taken O)) (rs : List (Running O)) (ws : List (Frozen Message))
-        → HasEachOnce same_message ws → AreTaken key limit look 0 ws rs ts → ts ≡ taken_of key limit look rs ws }
+    ensures { (key : O → Reference) (limit : ℕ) (store : List O) (ts : List (Taken O)) (rs : List (Running O)) (ws : List (Frozen Message))
+        → HasEachOnce same_message ws → AreTaken limit (look_in key store) 0 ws rs ts → ts ≡ taken_of limit (found_in key store) rs ws }
+{}
+
+/// Where the root is a stream or a queue: finishes, exchanges, reads and takes, each look-up answered once, make the
+/// turn's record, which took just these.
+pub fn reader_calls_make_a_turn<O, B>()
+    ensures { (w : World O B) → is_watched (feed_of w 0) ≡ false → (policies : ℕ → O → Option ℕ)
+        → (h : List (Step O)) (t : Turn) (r : Reads O) (fs : List Finished) (xs : List (Exchange O)) (ts : List (Taken O))
+        → IsValid h t → AreFinishesOf policies (running h) t.finishes fs → EachIsNext w h t [] xs → next_source w h t xs ≡ None → ReadsAndTakes w h t r fs xs ts
+        → IsRecord w policies h t (record_with w h t r fs xs, r) × ((record_with w h t r fs xs).taken ≡ ts) }
+{}
+
+/// And back: the reads and the takes of such a turn are made one after another.
+pub fn reader_turn_is_its_calls<O, B>()
+    ensures { (w : World O B) → is_watched (feed_of w 0) ≡ false → (policies : ℕ → O → Option ℕ) (h : List (Step O)) (t : Turn) (m : Made O)
+        → IsRecord w policies h t m → ReadsAndTakes w h t m.1 m.0.finished m.0.exchanges m.0.taken }
+{}
+
+/// A turn adds to the queue its requests, its settle and its takes.
+pub fn turn_grows_the_queue<O, B>()
+    ensures { (w : World O B) (h : List (Step O)) (s : Step O)
+        → events_of w (h ++ s ∷ []) ≡ events_of w h ++ turn_events w h (events_of w h) s.turn s.reads s.made.finished s.made.exchanges ++ took s.made.taken }
+{}
+
+/// Requests that come one part after another are requests that come together.
+pub fn requests_join()
+    ensures { (events : List (QueueEvent Message)) (at : ℕ) (ps qs : List Timed) → with_requests (with_requests events at ps) at qs ≡ with_requests events at (ps ++ qs) }
+{}
+
+/// Requests and then a settle are what a turn does to the queue before its takes.
+pub fn requests_then_settle()
+    ensures { (events : List (QueueEvent Message)) (at : ℕ) (qs : List Timed)
+        → with_requests events at qs ++ Settled at (count_by is_settle (with_requests events at qs)) ∷ [] ≡ events ++ requested_and_settled events at qs }
+{}
+
+/// A turn takes what it finishes from what runs, and adds what it starts.
+pub fn turn_changes_what_runs<O>()
+    ensures { (h : List (Step O)) (s : Step O) → running (h ++ s ∷ []) ≡ unfinished (running h) s.turn.finishes ++ filter_map started s.made.taken }
 {}
 
 /// In a legal list no two equal references run at once, and at most as many as the limit (0: any).
@@ -100,13 +149,13 @@ pub fn no_two_run_at_once<O>()
 /// After each trace, and so after each turn of it, no two equal references run at once, and at most as many as the
 /// limit (0: any), however the root is fed.
 pub fn no_two_run_at_once_in_a_trace<O, B>()
-    ensures { (w : World O B) (ts : List Turn) (rs : List (TurnRecord O)) → IsTrace w [] ts rs → MayRun w.limit (running (steps ts rs)) }
+    ensures { (w : World O B) (policies : ℕ → ℕ → O → Option ℕ) (ts : List Turn) (ms : List (Made O)) → IsTrace w policies [] ts ms → MayRun w.limit (running (steps ts ms)) }
 {}
 
 /// After shutdown nothing is taken; and no record follows a forced turn's, the first one from the shutdown on in which
 /// nothing runs, or any that has ended.
 pub fn nothing_follows_a_shutdown<O, B>()
-    ensures { (w : World O B) (ts : List Turn) (rs : List (TurnRecord O)) → IsTrace w [] ts rs → EachShutsDown w [] (steps ts rs) }
+    ensures { (w : World O B) (policies : ℕ → ℕ → O → Option ℕ) (ts : List Turn) (ms : List (Made O)) → IsTrace w policies [] ts ms → EachShutsDown w [] (steps ts ms) }
 {}
 
 /// A pool's history grows by one entry exactly where its events are legal and are what its pass may do.

@@ -3,4 +3,4 @@ use Rattle.kube_history.proofs.Endings.{each-shuts}
 use Rattle.kube_history.proofs.laws.nothing_follows_a_shutdown.Goals as goal
 
 pub returns : goal.returns
-returns g c w ts rs k = each-shuts w [] ts rs k
+returns g c w policies ts ms k = each-shuts w policies [] ts ms k
