@@ -8,3 +8,4 @@ pub mod TurnEvents
 pub mod Agrees
 pub mod PoolHistory
 pub mod Running
+pub mod Rows
