@@ -50,7 +50,7 @@ module _ {O : Type 0} where
       ∙ sym (unfinished-append rs (f.finish ∷ []) (map (λ (f : Finished). f.finish) fs)))
 
   -- another reference still runs
-  runs-on : (rs : List (Running O)) (g r : Reference) → same_reference g r ≡ false → runs rs r ≡ true → runs (ended rs g) r ≡ true
+  pub runs-on : (rs : List (Running O)) (g r : Reference) → same_reference g r ≡ false → runs rs r ≡ true → runs (ended rs g) r ≡ true
   runs-on [] g r n h = h
   runs-on (p ∷ ps) g r n h = go (same_reference p.reference g) (same_reference p.reference r) refl refl h (runs-on ps g r n)
     where

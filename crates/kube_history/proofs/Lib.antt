@@ -20,3 +20,4 @@ pub mod OneAtATime
 pub mod Endings
 pub mod PoolEntries
 pub mod ReaderTurns
+pub mod PoolStarts

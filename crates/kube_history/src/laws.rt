@@ -2,31 +2,51 @@
 //!
 //! `O` is any type of objects, and `B` any type of a backoff's states. `policies` has what the error policy answers.
 
-ghost use Rattle.std.specs.Prelude.{◌≡◌, ◌↔◌, ◌==◌, ◌++◌, ◌∷◌, [], ℕ, List, Option, Some, length, true, false, None};
+ghost use Rattle.std.specs.Prelude.{◌≡◌, ◌↔◌, ◌||◌, ◌==◌, ◌++◌, ◌∷◌, [], ℕ, List, Option, Some, length, true, false, None};
 ghost use Rattle.std.specs.List.{count_by, filter_map};
-ghost use Rattle.kube_meta.specs.Reference.{Reference};
+ghost use Rattle.kube_meta.specs.Reference.{Reference, same_reference};
 ghost use Rattle.kube_model.specs.World.{World, Settings, Watched, feed_of, is_watched};
 ghost use Rattle.kube_model.specs.Reads.{Reads, nothing_read};
 ghost use Rattle.kube_model.specs.History.{same_message, Message, Exchange, Finished, Step, Taken, Turn, TurnRecord};
 ghost use Rattle.kube_model.specs.Owed.{owed};
 ghost use Rattle.kube_model.specs.Store.{under_way};
-ghost use Rattle.kube_model.specs.Queue.{Frozen, QueueEvent, Settled, is_settle};
+ghost use Rattle.kube_model.specs.Queue.{Frozen, QueueEvent, Settled, Took as QueueTook, is_settle, waiting};
 ghost use Rattle.kube_model.specs.Shutdowns.{is_closed, is_shut};
 ghost use Rattle.kube_model.specs.Requests.{Timed, events_of, requested_and_settled, took, turn_events};
-ghost use Rattle.kube_model.specs.Takes.{Running, found_in, running, started, taken_of, unfinished};
+ghost use Rattle.kube_model.specs.Takes.{Running, found_in, running, runs, started, taken_of, unfinished};
 ghost use Rattle.kube_model.specs.Turns.{is_idle_after, next_source, record_with};
 ghost use Rattle.kube_model.specs.Traces.{AreFinishesOf, EachIsNext, IsRecord, IsTrace, IsValid, Made, step, steps, unread};
 ghost use Rattle.kube_model.specs.Named.{EachIsNamed};
 ghost use Rattle.kube_model.specs.WaitingOnce.{HasEachOnce};
 ghost use Rattle.kube_history.specs.CoreWorld.{core_world, CoreWorld};
-ghost use Rattle.kube_history.specs.CoreEvents.{CoreEvent, listing_of, root_answers, running_of};
-ghost use Rattle.kube_history.specs.InTurn.{AreTaken, look_in};
+ghost use Rattle.kube_history.specs.CoreEvents.{CoreEvent, answers_in, clock_of, is_shutdown, listing_of, moment_of, queue_by, queue_of, root_answers, running_of, running_with, was_shut};
+ghost use Rattle.kube_history.specs.InTurn.{AreTaken, look_in, without};
 ghost use Rattle.kube_history.specs.ReaderTurn.{ReadsAndTakes, with_requests};
 ghost use Rattle.kube_history.specs.Legal.{AreLegal};
 ghost use Rattle.kube_history.specs.TurnEvents.{asks, before_takes, core_events, core_of, takes};
 ghost use Rattle.kube_history.specs.Agrees.{Agrees, AgreesSoFar, AreNamedTurns, RootIsNamed};
-ghost use Rattle.kube_history.specs.PoolHistory.{PoolEntry, entry_events, events_in, IsOfPass, IsPoolHistory};
+ghost use Rattle.kube_history.specs.PoolHistory.{PoolEntry, entry_events, events_in, has_started, IsOfPass, IsPoolHistory};
 ghost use Rattle.kube_history.specs.Running.{EachShutsDown, MayRun};
+
+/// One more event: what each word says after it, from what it said before.
+pub fn one_more_event<O>()
+    ensures queue { (core : CoreWorld O) (es : List (CoreEvent O)) (e : CoreEvent O) → queue_of core (es ++ e ∷ []) ≡ queue_of core es ++ queue_by core es (queue_of core es) e }
+    ensures running { (es : List (CoreEvent O)) (e : CoreEvent O) → running_of (es ++ e ∷ []) ≡ running_with (running_of es) e }
+    ensures answers { (es : List (CoreEvent O)) (e : CoreEvent O) → answers_in (es ++ e ∷ []) ≡ answers_in es ++ answers_in (e ∷ []) }
+    ensures shut { (es : List (CoreEvent O)) (e : CoreEvent O) → was_shut (es ++ e ∷ []) ≡ was_shut es || is_shutdown e }
+    ensures clock { (es : List (CoreEvent O)) (e : CoreEvent O) → clock_of (es ++ e ∷ []) ≡ moment_of e }
+{}
+
+/// Lists of events are legal, one after another, exactly where they are legal joined.
+pub fn legal_lists_join<O>()
+    ensures { (core : CoreWorld O) (before es fs : List (CoreEvent O)) → AreLegal core before (es ++ fs) ↔ AreLegal core before es × AreLegal core (before ++ es) fs }
+{}
+
+/// A message that is taken is gone from those that wait, and the others stay in their order.
+pub fn take_closes_up()
+    ensures { (debounce : ℕ) (events : List (QueueEvent Message)) (m : Message)
+        → waiting same_message debounce (events ++ QueueTook m ∷ []) ≡ without m (waiting same_message debounce events) }
+{}
 
 /// One more turn: where a core's events agree with a history, they and the events of a turn whose root is named agree
 /// with the history and the turn.
@@ -173,4 +193,16 @@ pub fn front_of_a_pool_history<O>()
 pub fn pool_events_are_legal<O>()
     ensures { (core : CoreWorld O) (opening : List (CoreEvent O)) (entries : List (PoolEntry O)) → AreLegal core [] opening → IsPoolHistory core opening entries
         → AreLegal core [] (opening ++ events_in entries) }
+{}
+
+/// What a pass of a pool has started and not finished runs: so its finish finds it running.
+pub fn started_by_a_pass_runs<O>()
+    ensures { (core : CoreWorld O) (opening : List (CoreEvent O)) (entries : List (PoolEntry O)) → IsPoolHistory core opening entries
+        → (pass : ℕ) (r : Reference) → has_started pass r entries ≡ true → runs (running_of (opening ++ events_in entries)) r ≡ true }
+{}
+
+/// No two passes have started equal references that they have not finished.
+pub fn one_pass_has_started_it<O>()
+    ensures { (core : CoreWorld O) (opening : List (CoreEvent O)) (entries : List (PoolEntry O)) → IsPoolHistory core opening entries
+        → (pass other : ℕ) (r s : Reference) → same_reference r s ≡ true → has_started pass r entries ≡ true → has_started other s entries ≡ true → pass ≡ other }
 {}
