@@ -1,6 +1,6 @@
 -- What a pass of a pool has started and not finished runs, and no other pass has started it.
-use Rattle.std.proofs.Common.{◌≡◌, ◌⊎◌, ℕ, ◌==◌, Bool, true, false, not, cond, ◌&&◌, ◌||◌, List, [], ◌∷◌, ◌++◌, map, length, Option, Some, None, is_some, unwrap_or, if◌then◌else◌, refl, sym, ap, subst, ◌∙◌, inl, inr, append_assoc, append-nil}
-use Rattle.std.specs.List.{filter, filter_map, flat_map, fold, list_any, last_or, cons_option}
+use Rattle.std.proofs.Common.{◌≡◌, ◌⊎◌, ℕ, ◌==◌, Bool, true, false, not, cond, ◌&&◌, ◌||◌, List, [], ◌∷◌, ◌++◌, length, Option, Some, None, unwrap_or, if◌then◌else◌, refl, sym, ap, subst, ◌∙◌, inl, inr, append_assoc, append-nil}
+use Rattle.std.specs.List.{filter, filter_map, fold, last_or, cons_option}
 use Rattle.std.specs.Option.{option_map}
 use Rattle.std.proofs.lemmas.Bool.{false≢true, eqb-true, eq-eqb}
 use Rattle.std.proofs.lemmas.List.Elements.{filter-append}
@@ -11,14 +11,14 @@ use Rattle.kube_meta.specs.ReferenceLaws.{same_reference_equiv}
 use Rattle.kube_model.specs.History.{Message, same_message, Taken, exchanges_of}
 use Rattle.kube_model.specs.Store.{is_ready}
 use Rattle.kube_model.specs.Queue.{Frozen, waiting}
-use Rattle.kube_model.specs.Takes.{Running, runs, started, candidates, has_room}
+use Rattle.kube_model.specs.Takes.{Running, runs, candidates, has_room}
 use Rattle.kube_model.proofs.Stores as stores
 use Rattle.kube_history.specs.CoreWorld.{CoreWorld}
 use Rattle.kube_history.specs.CoreEvents.{CoreEvent, Answered, Requested, Reloaded, Finished as Ended, Settled, Took, Shut, answers_in, was_shut, running_with, running_of, queue_of, first_of, next_candidate, take_of, next_taken}
 use Rattle.kube_history.specs.Legal.{AreLegal}
 use Rattle.kube_history.specs.PoolHistory.{PoolEntry, Single, SettledAndTook, pass_of, entry_events, events_in, events_by, says_of, has_started, IsOfPass, AreOfPasses, IsPoolHistory}
 use Rattle.kube_history.proofs.Segments.{running-append}
-use Rattle.kube_history.proofs.Finishes.{ended, runs-on}
+use Rattle.kube_history.proofs.Finishes.{runs-on}
 use Rattle.kube_history.proofs.Calls.{legal-left, legal-right}
 use Rattle.kube_history.proofs.OneAtATime.{not-running}
 use Rattle.kube_history.proofs.PoolEntries.{events-append, events-push}

@@ -1,14 +1,14 @@
 -- Worked lists of a core's events: one object, which is listed, taken, finished with a requeue and taken again.
-use Rattle.std.specs.Prelude.{ℕ, true, false, List, [], ◌∷◌, ◌++◌, Option, Some, None, codes}
+use Rattle.std.specs.Prelude.{ℕ, true, List, [], ◌∷◌, ◌++◌, Some, None, codes}
 use Rattle.kube_model.specs.declared.call.Call.{Call}
-use Rattle.kube_model.specs.declared.call.Call.TheVariants.{List as ListCall, Stream}
-use Rattle.kube_model.specs.declared.call.Answer.TheVariants.{Page, Item, NotReady}
+use Rattle.kube_model.specs.declared.call.Call.TheVariants.{List as ListCall}
+use Rattle.kube_model.specs.declared.call.Answer.TheVariants.{Page, NotReady}
 use Rattle.kube_model.specs.Reason.{Reason, ObjectUpdated, ReconcilerRequestedRetry}
 use Rattle.kube_model.specs.History.{Message, Exchange, Taken}
 use Rattle.kube_model.specs.Plays.{Thing, thing, reference_to, plain_world}
 use Rattle.kube_model.specs.Rows.{a}
 use Rattle.kube_history.specs.CoreWorld.{CoreWorld, core_world}
-use Rattle.kube_history.specs.CoreEvents.{CoreEvent, Answered, Requested, Reloaded, Finished, Settled, Took, Shut}
+use Rattle.kube_history.specs.CoreEvents.{CoreEvent, Answered, Finished, Settled, Took}
 use Rattle.kube_history.specs.PoolHistory.{PoolEntry, Single, SettledAndTook}
 
 -- no limit, no debounce
