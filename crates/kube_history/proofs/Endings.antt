@@ -4,86 +4,37 @@ use Rattle.std.specs.List.{filter_map}
 use Rattle.std.proofs.Math.Bool.{or-true}
 use Rattle.std.proofs.lemmas.Bool.{false≢true}
 use Rattle.std.proofs.lemmas.List.Folds.{list_any-append}
-use Rattle.kube_meta.specs.ReferenceLaws.{seen_equiv}
-use Rattle.kube_model.specs.World.{World, Feed, Watched, Streamed, Queued, feed_of}
-use Rattle.kube_model.specs.History.{Message, same_message, Turn, Taken, TurnRecord, Step, exchanges, exchanges_with}
+use Rattle.kube_model.specs.World.{World, feed_of}
+use Rattle.kube_model.specs.History.{Turn, Taken, TurnRecord, Step, exchanges, exchanges_with}
 use Rattle.kube_model.specs.Pause.{gave_up}
-use Rattle.kube_model.specs.Requests.{events_of, turn_events, waiting_in}
-use Rattle.kube_model.specs.Stored.{Stored, stored_in, stored_by, store_in, may_take, AreLookedUp}
-use Rattle.kube_model.specs.Queue.{Frozen}
+use Rattle.kube_model.specs.Requests.{waiting_in}
+use Rattle.kube_model.specs.Stored.{stored_in, may_take}
 use Rattle.kube_model.specs.Shutdowns.{asks_shutdown, is_forced, is_shut, is_over}
-use Rattle.kube_model.specs.Takes.{Running, running, is_finished, started, candidates, within_room, taken_of, found_so}
-use Rattle.kube_model.specs.Turns.{running_in, is_idle_after, AreReads, ReadsFit}
+use Rattle.kube_model.specs.Takes.{running, is_finished, started, taken_of}
+use Rattle.kube_model.specs.Turns.{running_in, is_idle_after}
 use Rattle.kube_model.specs.Traces.{Made, step, steps, has_ended, IsRecord, IsTrace}
-use Rattle.kube_model.specs.WaitingOnce.{HasEachOnce}
 use Rattle.kube_model.proofs.Histories.{exchanges-push, running-push}
-use Rattle.kube_model.proofs.Numbers.{numbered-turn, numbered-history}
-use Rattle.kube_model.proofs.Waits.{waiting-once}
 use Rattle.kube_history.specs.TurnEvents.{was_over}
 use Rattle.kube_history.specs.Running.{MayRun, EachShutsDown}
-use Rattle.kube_history.specs.InTurn.{look_in, look_so}
-use Rattle.kube_history.proofs.TakesInTurn.{looked, messages, looked-in}
-use Rattle.kube_history.proofs.ReaderTakes.{looked-so}
-use Rattle.kube_history.proofs.TakesBack.{turn-taken}
+use Rattle.kube_history.specs.TurnCalls.{look_by, TakesBy}
+use Rattle.kube_history.proofs.TurnCalls.{calls-of}
 use Rattle.kube_history.proofs.OneAtATime.{fewer-may, takes-may}
 
 module _ {O B : Type 0} (w : World O B) where
   module _ (policies : ℕ → O → Option ℕ) (h : List (Step O)) (t : Turn) (m : Made O) (k : IsRecord w policies h t m) where
-    abbrev seen : Stored O
-    seen = stored_in w h t m.1 m.0.exchanges
-
-    abbrev rs : List (Running O)
-    rs = running_in w h t
-
-    abbrev ws : List (Frozen Message)
-    ws = waiting_in w h t m.1 m.0.finished m.0.exchanges
-
     taken-is : m.0.taken ≡ (if may_take w h t m.1 m.0.exchanges then taken_of w.limit (stored_in w h t m.1 m.0.exchanges).found_of (running_in w h t) (waiting_in w h t m.1 m.0.finished m.0.exchanges) else [])
     taken-is = ap (λ (q : TurnRecord O). q.taken) k.determined
 
-    once : HasEachOnce same_message (waiting_in w h t m.1 m.0.finished m.0.exchanges)
-    once =
-        waiting-once same_message (seen_equiv (λ (n : Message). n.reference)) w.debounce (events_of w h ++ turn_events w h (events_of w h) t m.1 m.0.finished m.0.exchanges)
-        (numbered-turn w h (events_of w h) t m.1 m.0.finished m.0.exchanges (numbered-history w h))
-
-    -- the takes of a turn are look-ups one after another, however the root is fed
-    read-so : AreReads w h t m.1 m.0.finished m.0.exchanges → may_take w h t m.1 m.0.exchanges ≡ true
-        → taken_of w.limit (found_so m.1.looked_up) (running_in w h t) (waiting_in w h t m.1 m.0.finished m.0.exchanges)
-        ≡ taken_of w.limit (looked (look_so m.1.looked_up) 0) (running_in w h t) (waiting_in w h t m.1 m.0.finished m.0.exchanges)
-    read-so f y =
-        looked-so w.limit (running_in w h t) (waiting_in w h t m.1 m.0.finished m.0.exchanges) m.1.looked_up
-        (subst (λ b. AreLookedUp w.limit (length (running_in w h t)) 0 (if b then messages (candidates (running_in w h t) (waiting_in w h t m.1 m.0.finished m.0.exchanges)) else []) m.1.looked_up) y f.looked_up)
-
-    abbrev Looks : Stored O → Type 0
-    Looks s = (look : ℕ → Message → Option O)
-        × (taken_of w.limit s.found_of (running_in w h t) (waiting_in w h t m.1 m.0.finished m.0.exchanges)
-        ≡ taken_of w.limit (looked look 0) (running_in w h t) (waiting_in w h t m.1 m.0.finished m.0.exchanges))
-
-    looks : (feed : Feed) → ReadsFit w feed h t m.1 m.0.finished m.0.exchanges → may_take w h t m.1 m.0.exchanges ≡ true → Looks (stored_by w feed h t m.1 m.0.exchanges)
-    looks (Watched settings) f y = (
-      look_in w.key (store_in w h t m.0.exchanges),
-      sym (ap (within_room w.limit (length (running_in w h t)) 0) (looked-in w.key (store_in w h t m.0.exchanges) 0 (messages (candidates (running_in w h t) (waiting_in w h t m.1 m.0.finished m.0.exchanges))))),
-    )
-    looks Streamed f y = (look_so m.1.looked_up, read-so f y)
-    looks Queued f y = (look_so m.1.looked_up, read-so f y)
-
     turn-may : MayRun w.limit (running h) → MayRun w.limit (running (h ++ step t m ∷ []))
-    turn-may r =
-        subst (MayRun w.limit) (sym (running-push h (step t m)))
-        (subst (λ ts. MayRun w.limit (running_in w h t ++ filter_map started ts)) (sym taken-is) (go (may_take w h t m.1 m.0.exchanges) refl))
+    turn-may r = subst (MayRun w.limit) (sym (running-push h (step t m))) (go (may_take w h t m.1 m.0.exchanges) (calls-of w h t m.1 m.0.finished m.0.exchanges policies m.0 refl refl k).takes)
       where
         left : MayRun w.limit (running_in w h t)
         left = fewer-may w.limit (λ p. not (is_finished t.finishes p.reference)) (running h) r
 
-        go : (b : Bool) → may_take w h t m.1 m.0.exchanges ≡ b → MayRun w.limit (running_in w h t
-            ++ filter_map started (if b then taken_of w.limit (stored_in w h t m.1 m.0.exchanges).found_of (running_in w h t) (waiting_in w h t m.1 m.0.finished m.0.exchanges) else []))
-        go true y =
-            let l = looks (feed_of w 0) k.reads y in
-            subst (λ ts. MayRun w.limit (running_in w h t ++ filter_map started ts)) (sym l.1)
-            (takes-may w.limit l.0 0 (waiting_in w h t m.1 m.0.finished m.0.exchanges) (running_in w h t)
-            (taken_of w.limit (looked l.0 0) (running_in w h t) (waiting_in w h t m.1 m.0.finished m.0.exchanges))
-            (turn-taken w.limit l.0 (waiting_in w h t m.1 m.0.finished m.0.exchanges) (running_in w h t) once) left)
-        go false y = subst (MayRun w.limit) (sym (append-nil (running_in w h t))) left
+        go : (b : Bool) → TakesBy w h t m.1 m.0.finished m.0.exchanges (feed_of w 0) b m.0.taken → MayRun w.limit (running_in w h t ++ filter_map started m.0.taken)
+        go true a =
+            takes-may w.limit (look_by w h t m.1 m.0.finished m.0.exchanges (feed_of w 0)) 0 (waiting_in w h t m.1 m.0.finished m.0.exchanges) (running_in w h t) m.0.taken a left
+        go false e = subst (λ ts. MayRun w.limit (running_in w h t ++ filter_map started ts)) (sym e) (subst (MayRun w.limit) (sym (append-nil (running_in w h t))) left)
 
     -- Shutdown.
 

@@ -16,8 +16,8 @@ pub mod OneTurn
 pub mod Calls
 pub mod BrokenTurn
 pub mod ReaderTakes
+pub mod TurnCalls
 pub mod OneAtATime
 pub mod Endings
 pub mod PoolEntries
-pub mod ReaderTurns
 pub mod PoolStarts

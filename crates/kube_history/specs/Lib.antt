@@ -3,7 +3,7 @@ pub mod CoreWorld
 pub mod CoreEvents
 pub mod Legal
 pub mod InTurn
-pub mod ReaderTurn
+pub mod TurnCalls
 pub mod TurnEvents
 pub mod Agrees
 pub mod PoolHistory

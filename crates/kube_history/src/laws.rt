@@ -5,10 +5,11 @@
 ghost use Rattle.std.specs.Prelude.{◌≡◌, ◌↔◌, ◌||◌, ◌==◌, ◌++◌, ◌∷◌, [], ℕ, List, Option, Some, length, true, false, None};
 ghost use Rattle.std.specs.List.{count_by, filter_map};
 ghost use Rattle.kube_meta.specs.Reference.{Reference, same_reference};
-ghost use Rattle.kube_model.specs.World.{World, Settings, Watched, feed_of, is_watched};
+ghost use Rattle.kube_model.specs.World.{World, Settings, Watched, feed_of};
 ghost use Rattle.kube_model.specs.Reads.{Reads, nothing_read};
-ghost use Rattle.kube_model.specs.History.{same_message, Message, Exchange, Finished, Step, Taken, Turn, TurnRecord};
+ghost use Rattle.kube_model.specs.History.{same_message, Message, Dated, Exchange, exchanges, exchanges_of, exchanges_with, Finished, Step, Taken, Turn, TurnRecord};
 ghost use Rattle.kube_model.specs.Owed.{owed};
+ghost use Rattle.kube_model.specs.Fits.{IsFitting};
 ghost use Rattle.kube_model.specs.Store.{under_way};
 ghost use Rattle.kube_model.specs.Queue.{Frozen, QueueEvent, Settled, Took as QueueTook, is_settle, waiting};
 ghost use Rattle.kube_model.specs.Shutdowns.{is_closed, is_shut};
@@ -21,10 +22,10 @@ ghost use Rattle.kube_model.specs.WaitingOnce.{HasEachOnce};
 ghost use Rattle.kube_history.specs.CoreWorld.{core_world, CoreWorld};
 ghost use Rattle.kube_history.specs.CoreEvents.{CoreEvent, answers_in, clock_of, is_shutdown, listing_of, moment_of, queue_by, queue_of, root_answers, running_of, running_with, was_shut};
 ghost use Rattle.kube_history.specs.InTurn.{AreTaken, look_in, without};
-ghost use Rattle.kube_history.specs.ReaderTurn.{ReadsAndTakes, with_requests};
-ghost use Rattle.kube_history.specs.Legal.{AreLegal};
+ghost use Rattle.kube_history.specs.TurnCalls.{ReadsAndTakes, with_requests};
+ghost use Rattle.kube_history.specs.Legal.{AreLegal, MayBeAnswered};
 ghost use Rattle.kube_history.specs.TurnEvents.{asks, before_takes, core_events, core_of, takes};
-ghost use Rattle.kube_history.specs.Agrees.{Agrees, AgreesSoFar, AreNamedTurns, RootIsNamed};
+ghost use Rattle.kube_history.specs.Agrees.{Agrees, AgreesSoFar, AreNamedTurns, EachFits, RootIsNamed};
 ghost use Rattle.kube_history.specs.PoolHistory.{PoolEntry, entry_events, events_in, has_started, IsOfPass, IsPoolHistory};
 ghost use Rattle.kube_history.specs.Running.{EachShutsDown, MayRun};
 
@@ -46,6 +47,18 @@ pub fn legal_lists_join<O>()
 pub fn take_closes_up()
     ensures { (debounce : ℕ) (events : List (QueueEvent Message)) (m : Message)
         → waiting same_message debounce (events ++ QueueTook m ∷ []) ≡ without m (waiting same_message debounce events) }
+{}
+
+/// What fits in a world whose root is watched, after exchanges each of which fits, a core may be answered with, whatever
+/// the settings, feeds and windows: where it is of the root, its objects are to have names.
+pub fn what_fits_may_be_answered<O, B>()
+    ensures { (w : World O B) (settings : Settings) → feed_of w 0 ≡ Watched settings → (ds : List (Dated O)) (at : ℕ) (x : Exchange O)
+        → EachFits w [] ds → IsFitting w ds at x → RootIsNamed w x.source (exchanges_of x.source ds) x → MayBeAnswered (core_world w) ds x }
+{}
+
+/// Each exchange of a turn fits after those of its history that do.
+pub fn exchanges_of_a_turn_fit<O, B>()
+    ensures { (w : World O B) (h : List (Step O)) (t : Turn) (xs : List (Exchange O)) → EachFits w [] (exchanges h) → EachIsNext w h t [] xs → EachFits w [] (exchanges_with h t xs) }
 {}
 
 /// One more turn: where a core's events agree with a history, they and the events of a turn whose root is named agree
@@ -124,18 +137,17 @@ pub fn takes_one_after_another<O>()
         → HasEachOnce same_message ws → AreTaken limit (look_in key store) 0 ws rs ts → ts ≡ taken_of limit (found_in key store) rs ws }
 {}
 
-/// Where the root is a stream or a queue: finishes, exchanges, reads and takes, each look-up answered once, make the
-/// turn's record, which took just these.
-pub fn reader_calls_make_a_turn<O, B>()
-    ensures { (w : World O B) → is_watched (feed_of w 0) ≡ false → (policies : ℕ → O → Option ℕ)
-        → (h : List (Step O)) (t : Turn) (r : Reads O) (fs : List Finished) (xs : List (Exchange O)) (ts : List (Taken O))
+/// However the root is fed: finishes, exchanges, reads and takes one after another, each with what its look-up answered,
+/// make the turn's record, which took just these.
+pub fn reads_and_takes_make_a_turn<O, B>()
+    ensures { (w : World O B) (policies : ℕ → O → Option ℕ) (h : List (Step O)) (t : Turn) (r : Reads O) (fs : List Finished) (xs : List (Exchange O)) (ts : List (Taken O))
         → IsValid h t → AreFinishesOf policies (running h) t.finishes fs → EachIsNext w h t [] xs → next_source w h t xs ≡ None → ReadsAndTakes w h t r fs xs ts
         → IsRecord w policies h t (record_with w h t r fs xs, r) × ((record_with w h t r fs xs).taken ≡ ts) }
 {}
 
-/// And back: the reads and the takes of such a turn are made one after another.
-pub fn reader_turn_is_its_calls<O, B>()
-    ensures { (w : World O B) → is_watched (feed_of w 0) ≡ false → (policies : ℕ → O → Option ℕ) (h : List (Step O)) (t : Turn) (m : Made O)
+/// And back: the reads and the takes of a turn are made one after another.
+pub fn turn_is_its_reads_and_takes<O, B>()
+    ensures { (w : World O B) (policies : ℕ → O → Option ℕ) (h : List (Step O)) (t : Turn) (m : Made O)
         → IsRecord w policies h t m → ReadsAndTakes w h t m.1 m.0.finished m.0.exchanges m.0.taken }
 {}
 

@@ -1,4 +1,4 @@
-use Rattle.kube_history.proofs.ReaderTurns.{requests-join}
+use Rattle.kube_history.proofs.TurnCalls.{requests-join}
 use Rattle.kube_history.proofs.laws.requests_join.Goals as goal
 
 pub returns : goal.returns

@@ -1,4 +1,4 @@
-use Rattle.kube_history.proofs.ReaderTurns.{settle-join}
+use Rattle.kube_history.proofs.TurnCalls.{settle-join}
 use Rattle.kube_history.proofs.laws.requests_then_settle.Goals as goal
 
 pub returns : goal.returns
