@@ -14,7 +14,8 @@ use Rattle.kube_model.specs.History.{Exchange, Step, Turn, TurnRecord, dated, ex
 use Rattle.kube_model.specs.Owed.{is_next, owed}
 use Rattle.kube_model.specs.Raw.{Raw, RawAnswer, Waits, Fails, GivesPage, Opens, GivesAdded, GivesModified, GivesDeleted, GivesBookmark, GivesError, Ends}
 use Rattle.kube_model.specs.Recorded.{AsItCame, IsAnsweredBy, IsRecorded, PastItsWindow, answer_of, items_of, raw_call}
-use Rattle.kube_model.specs.Traces.{EachIsNext, IsRecord, IsTrace, IsValid, last_moment, steps}
+use Rattle.kube_model.specs.Traces.{EachIsNext, IsValid, last_moment}
+use Rattle.kube_control.specs.PlainTraces.{IsRecord, IsTrace, steps}
 use Rattle.kube_model.specs.Turns.{next_source}
 use Rattle.kube_model.specs.World.{Watched, default_settings}
 use Rattle.kube_control.specs.Built.{IsBuilt, IsBuiltExchange, Listed, Silent, WatchOpened}

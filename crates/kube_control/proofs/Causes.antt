@@ -8,7 +8,7 @@ use Rattle.kube_model.specs.History.{Exchange, Turn, Step, exchanges, exchanges_
 use Rattle.kube_model.specs.Owed.{owed, is_not_ready}
 use Rattle.kube_model.specs.Fits.{is_window_over}
 use Rattle.kube_model.specs.Recorded.{raw_call}
-use Rattle.kube_model.specs.Requests.{asks_shutdown}
+use Rattle.kube_model.specs.Shutdowns.{asks_shutdown}
 use Rattle.kube_model.proofs.Alls.{or-left, or-right}
 use Rattle.kube_control.specs.declared.watcher.State.{State}
 use Rattle.kube_control.specs.declared.watcher.State.TheVariants.{Start, From, Open}

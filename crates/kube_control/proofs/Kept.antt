@@ -176,11 +176,9 @@ module _ {O : Type 0} (t : ObjectType) (meta : O → ObjectMeta) where
       },
       record {
         owes = sym (k.owes ∙ ap call_in s);
-        answered = refl;
-        texts = (refl, v);
         idle = λ e. absurd (false≢true e);
-        error = inr refl;
-        content = (tt, ap (map (updated_in (world_of t meta))) (sym (listed-page xs version items)));
+        answer = record { answered = refl; texts = (refl, v); error = inr refl };
+        content = record { items = tt; requests = ap (map (updated_in (world_of t meta))) (sym (listed-page xs version items)) };
       },
     )
       where
@@ -216,11 +214,9 @@ module _ {O : Type 0} (t : ObjectType) (meta : O → ObjectMeta) where
       },
       record {
         owes = sym (k.owes ∙ ap call_in s);
-        answered = refl;
-        texts = tt;
         idle = λ e. absurd (false≢true e);
-        error = inr refl;
-        content = (refl, refl);
+        answer = record { answered = refl; texts = tt; error = inr refl };
+        content = record { items = refl; requests = refl };
       },
     )
       where
@@ -253,11 +249,9 @@ module _ {O : Type 0} (t : ObjectType) (meta : O → ObjectMeta) where
       },
       record {
         owes = sym (k.owes ∙ ap call_in s);
-        answered = refl;
-        texts = tt;
         idle = λ e. ap not (ap (λ o. is_window_over (Some window) o now) k.silent ∙ i);
-        error = inr refl;
-        content = (refl, refl);
+        answer = record { answered = refl; texts = tt; error = inr refl };
+        content = record { items = refl; requests = refl };
       },
     )
       where

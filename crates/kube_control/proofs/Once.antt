@@ -1,12 +1,15 @@
 -- A trace is determined by its turns and by how the API answers.
-use Rattle.std.proofs.Common.{◌≡◌, ℕ, Bool, true, false, List, [], ◌∷◌, ◌++◌, Option, Some, None, length, take, refl, sym, ap, ap₂, subst, ◌∙◌, append-nil, append_assoc}
+use Rattle.std.proofs.Common.{◌≡◌, ℕ, Bool, true, false, List, [], ◌∷◌, ◌++◌, map, Option, Some, None, length, take, refl, sym, ap, ap₂, subst, ◌∙◌, append-nil, append_assoc}
 use Rattle.std.specs.List.{AllZip}
 use Rattle.kube_meta.specs.declared.metadata.ObjectMeta.{ObjectMeta}
 use Rattle.kube_meta.specs.Reference.{ObjectType}
 use Rattle.kube_model.specs.History.{Dated, Exchange, Finish, Finished, Step, Turn, TurnRecord, dated, exchanges_with}
 use Rattle.kube_model.specs.Raw.{Raw}
 use Rattle.kube_model.specs.Recorded.{IsRecorded, raw_call}
-use Rattle.kube_model.specs.Traces.{EachIsNext, IsFinishOf, IsRecord, IsTrace, has_ended, step, steps}
+use Rattle.kube_model.specs.Traces.{AreFinishesOf, EachIsNext, has_ended, unread}
+use Rattle.kube_model.specs.Takes.{Running, running}
+use Rattle.kube_model.specs.Reads.{nothing_read}
+use Rattle.kube_control.specs.PlainTraces.{unasked, IsRecord, IsTrace, step, steps}
 use Rattle.kube_model.specs.Turns.{next_source, record_with}
 use Rattle.kube_model.specs.World.{default_settings}
 use Rattle.kube_control.specs.Built.{IsBuilt}
@@ -33,10 +36,13 @@ none-is-some o x e f = absurd (cc)
 false-is-true : (b : Bool) → b ≡ false → b ≡ true → ⊥
 false-is-true b e f = absurd (cc)
 
-finished-none : (fs : List Finish) (gs : List Finished) → fs ≡ [] → AllZip IsFinishOf fs gs → gs ≡ []
-finished-none [] [] e h = refl
-finished-none [] (g ∷ gs) e h = absurd h
-finished-none (f ∷ fs) gs e h = absurd (cc)
+finished-none : {O : Type 0} (policies : ℕ → O → Option ℕ) (running : List (Running O)) (fs : List Finish) (gs : List Finished) → fs ≡ [] → AreFinishesOf policies running fs gs → gs ≡ []
+finished-none policies running [] gs e h = h
+finished-none policies running (f ∷ fs) gs e h = absurd (cc)
+
+unread-none : {O : Type 0} (rs : List (TurnRecord O)) → map unread rs ≡ [] → rs ≡ []
+unread-none [] e = refl
+unread-none (r ∷ rs) e = absurd (cc)
 
 module _ {A O : Type 0} (moves : A → ℕ → Raw O → A → Type 0) where
   pub moves-split : (a c : A) (xs ys : List (Made O)) → AreMoves moves a (xs ++ ys) c → (b : A) × AreMoves moves a xs b × AreMoves moves b ys c
@@ -129,8 +135,8 @@ module _ {A O : Type 0} (moves : A → ℕ → Raw O → A → Type 0) (one : Is
       → Goes moves version (dated r.at r.exchanges) a b → Goes moves version (dated q.at q.exchanges) a c → (q ≡ r) × (b ≡ c)
   same-record h tn r q a b c none k l m n =
       let p = same-asks h tn r.exchanges q.exchanges a b c k.asked k.done l.asked l.done (goes-at h tn r a b k m) (goes-at h tn q a c l n) in
-      let finished : q.finished ≡ r.finished = finished-none tn.finishes q.finished none l.finishes ∙ sym (finished-none tn.finishes r.finished none k.finishes) in
-      (l.determined ∙ (ap₂ (record_with (world_of t meta) h tn) finished p.0 ∙ sym k.determined), p.1)
+      let finished : q.finished ≡ r.finished = finished-none (unasked 0) (running h) tn.finishes q.finished none l.finishes ∙ sym (finished-none (unasked 0) (running h) tn.finishes r.finished none k.finishes) in
+      (l.determined ∙ (ap₂ (record_with (world_of t meta) h tn nothing_read) finished p.0 ∙ sym k.determined), p.1)
 
   -- the trace of more turns begins with that of fewer, and goes on from there
   pub traces-begin : (h : List (Step O)) (ts us : List Turn) (rs qs : List (TurnRecord O)) (a b c : A)

@@ -1,6 +1,6 @@
 -- One turn: the record that is made of its asks is the definitions' record, and what is kept then stands for the history with it.
-use Rattle.std.proofs.Common.{◌≡◌, ℕ, ◌+◌, ◌^◌, ◌<◌, ◌≤◌, Bool, true, false, not, ◌&&◌, ◌||◌, ◌==◌, nat_lt, nat_le, cond, List, [], ◌∷◌, ◌++◌, map, length, Some, None, if◌then◌else◌, is_some, slice_index, refl, sym, ap, ap₂, subst, ◌∙◌, ◌⊎◌, inl, inr, append-nil, arith}
-use Rattle.std.specs.List.{filter_map, find, list_any, AllByRecursion}
+use Rattle.std.proofs.Common.{◌≡◌, ℕ, ◌^◌, ◌<◌, ◌≤◌, Bool, true, false, not, ◌&&◌, ◌||◌, ◌==◌, nat_lt, nat_le, cond, List, [], ◌∷◌, ◌++◌, map, length, Some, None, if◌then◌else◌, slice_index, refl, sym, ap, ap₂, subst, ◌∙◌, ◌⊎◌, inl, inr, append-nil, arith}
+use Rattle.std.specs.List.{filter_map, find, AllByRecursion}
 use Rattle.std.specs.Option.{option_map, option_map_or, option_or}
 use Rattle.std.proofs.lemmas.Bool.{false≢true}
 use Rattle.std.proofs.lemmas.Bool.Decides.{nat_tests}
@@ -10,15 +10,19 @@ use Rattle.kube_meta.specs.Reference.{ObjectType, Reference, same_reference, wit
 use Rattle.kube_model.specs.declared.turn.Shutdown.TheVariants.{No}
 use Rattle.kube_model.specs.declared.turn.Stop.TheVariants as stops
 use Rattle.kube_model.specs.Raw.{Raw}
-use Rattle.kube_model.specs.History.{Message, same_message, Exchange, Turn, TurnRecord, Taken, Step, exchanges, exchanges_with, exchanges_of}
-use Rattle.kube_model.specs.Owed.{is_not_ready}
+use Rattle.kube_model.specs.History.{Message, same_message, Exchange, Turn, TurnRecord, Taken, Step, dated, exchanges, exchanges_with, exchanges_of}
 use Rattle.kube_model.specs.Store.{store_of, found, stored_under}
 use Rattle.kube_model.specs.Queue.{Frozen, entry, waiting}
 use Rattle.kube_model.specs.Pause.{Pause, gave_up}
-use Rattle.kube_model.specs.Requests.{is_shut, asks_shutdown, is_closed, is_over, events_of, turn_events, requested_and_settled, requested_at, took, waiting_in, reads_of}
-use Rattle.kube_model.specs.Takes.{Running, running, unfinished, started, candidates, has_room, taken_from, taken_of}
-use Rattle.kube_model.specs.Turns.{next_source, stop_of, taken_in, running_in, record_with}
-use Rattle.kube_model.specs.Traces.{step, IsRecord, IsValid, Moment, last_moment}
+use Rattle.kube_model.specs.Shutdowns.{is_shut, asks_shutdown, is_closed, is_over}
+use Rattle.kube_model.specs.Requests.{events_of, turn_events, requested_and_settled, requested_at, took, waiting_in}
+use Rattle.kube_model.specs.Stored.{stored_in}
+use Rattle.kube_model.specs.Takes.{Running, running, unfinished, started, candidates, found_in, found_with, within_room, taken_of}
+use Rattle.kube_model.specs.Reads.{nothing_read}
+use Rattle.kube_model.specs.Asks.{stop_of}
+use Rattle.kube_model.specs.Turns.{next_source, taken_in, running_in, record_with, was_asked}
+use Rattle.kube_model.specs.Traces.{IsValid, Moment, last_moment, unread}
+use Rattle.kube_control.specs.PlainTraces.{step, IsRecord}
 use Rattle.kube_model.specs.SecondForms.{running_after}
 use Rattle.kube_model.proofs.Lasts.{last-push}
 use Rattle.kube_model.proofs.Numbers.{numbered-history}
@@ -31,7 +35,7 @@ use Rattle.kube_control.specs.Stores.{found as found_pair, found_at}
 use Rattle.kube_control.specs.Stands.{IsKept, Stands, is_listed}
 use Rattle.kube_control.specs.Worlds.{world_of}
 use Rattle.kube_control.proofs.OneTurn.{waiting-requested, entries-taken}
-use Rattle.kube_control.proofs.TurnAsks.{AreMade, asks-made, made-all, or-three}
+use Rattle.kube_control.proofs.TurnAsks.{AreMade, asks-made, by-own, or-three}
 
 -- a turn that only asks
 abbrev pub plain_turn : ℕ → List ℕ → Bool → Turn
@@ -72,12 +76,9 @@ module _ {O : Type 0} where
   unfinished-none (p ∷ ps) = ap (λ qs. p ∷ qs) (unfinished-none ps)
 
   -- with room for all, all are taken
-  taken-all : (key : O → Reference) (store : List O) (n k running : ℕ) (es : List (Frozen Message))
-      → taken_from key (has_room 0 running) (λ n. store) n k es ≡ map (λ (m : Message). record { message = m; object = found key store m.reference }) (map (λ f. f.entry.message) es)
-  taken-all key store n k running [] = refl
-  taken-all key store n k running (e ∷ es) =
-      ap (λ ts. record { message = e.entry.message; object = found key store e.entry.message.reference } ∷ ts)
-      (taken-all key store (n + (if (is_some (found key store e.entry.message.reference)) then 1 else 0)) (k + 1) running es)
+  taken-all : (n running : ℕ) (ts : List (Taken O)) → within_room 0 running n ts ≡ ts
+  taken-all n running [] = refl
+  taken-all n running (t ∷ ts) = ap (λ us. t ∷ us) (taken-all (found_with n t.object) running ts)
 
   -- what is found among pairs that are keyed is found among their objects
   found-pairs : (key : O → Reference) (ps : List (Reference × O)) (r : Reference) → AllByRecursion (λ s. s.0 ≡ key s.1) ps
@@ -145,10 +146,10 @@ module _ {O : Type 0} (t : ObjectType) (meta : O → ObjectMeta) where
     open_now = or-three (is_shut h) false (gave_up (world_of t meta) (exchanges h)) s.unshut refl (ap (λ (z : Pause (Unit {0})). z.given_up) s.kept.calm)
 
     -- what happens to the queue before the takes
-    events-now : turn_events (world_of t meta) h (events_of (world_of t meta) h) tn [] xs ≡ requested_and_settled (events_of (world_of t meta) h) at (map (requested_at at) (requested xs))
+    events-now : turn_events (world_of t meta) h (events_of (world_of t meta) h) tn nothing_read [] xs ≡ requested_and_settled (events_of (world_of t meta) h) at (map (requested_at at) (requested xs))
     events-now = ap (λ b. if b then [] else requested_and_settled (events_of (world_of t meta) h) at (map (requested_at at) (requested xs))) open_now
 
-    waiting-now : map (λ f. f.entry.message) (waiting_in (world_of t meta) h tn [] xs) ≡ waiting_after xs
+    waiting-now : map (λ f. f.entry.message) (waiting_in (world_of t meta) h tn nothing_read [] xs) ≡ waiting_after xs
     waiting-now =
         ap (λ es. map (λ f. f.entry.message) (waiting same_message 0 (events_of (world_of t meta) h ++ es))) events-now
         ∙ waiting-requested (events_of (world_of t meta) h) at (requested xs) (numbered-history (world_of t meta) h) s.quiet early
@@ -157,21 +158,21 @@ module _ {O : Type 0} (t : ObjectType) (meta : O → ObjectMeta) where
     running-now = unfinished-none (running h)
 
     -- what is taken
-    nothing-waits : requested xs ≡ [] → taken_in (world_of t meta) h tn [] xs ≡ map (take_of q.stored) (waiting_after xs)
+    nothing-waits : requested xs ≡ [] → taken_in (world_of t meta) h tn nothing_read [] xs ≡ map (take_of q.stored) (waiting_after xs)
     nothing-waits e =
-        ap (λ es. if ((reads_of (world_of t meta) h tn xs).is_ready && not (is_over (world_of t meta) h tn xs))
-        then taken_of (world_of t meta).key 0 (reads_of (world_of t meta) h tn xs).looked_up (running_in (world_of t meta) h tn) es else [])
-        (map-nil (λ f. f.entry.message) (waiting_in (world_of t meta) h tn [] xs) (waiting-now ∙ ap (last_of_each same_message) e))
-        ∙ if-same ((reads_of (world_of t meta) h tn xs).is_ready && not (is_over (world_of t meta) h tn xs)) []
+        ap (λ es. if ((stored_in (world_of t meta) h tn nothing_read xs).is_ready && not (is_over (world_of t meta) h tn xs))
+        then taken_of 0 (stored_in (world_of t meta) h tn nothing_read xs).found_of (running_in (world_of t meta) h tn) es else [])
+        (map-nil (λ f. f.entry.message) (waiting_in (world_of t meta) h tn nothing_read [] xs) (waiting-now ∙ ap (last_of_each same_message) e))
+        ∙ if-same ((stored_in (world_of t meta) h tn nothing_read xs).is_ready && not (is_over (world_of t meta) h tn xs)) []
         ∙ sym (ap (λ ms. map (take_of q.stored) (last_of_each same_message ms)) e)
 
-    all-taken : is_listed p.state ≡ false → is_listed q.state ≡ true → taken_in (world_of t meta) h tn [] xs ≡ map (take_of q.stored) (waiting_after xs)
+    all-taken : is_listed p.state ≡ false → is_listed q.state ≡ true → taken_in (world_of t meta) h tn nothing_read [] xs ≡ map (take_of q.stored) (waiting_after xs)
     all-taken l m =
-        ap (λ b. if (b && not (is_over (world_of t meta) h tn xs)) then taken_of (world_of t meta).key 0 (λ n. store) (running_in (world_of t meta) h tn) (waiting_in (world_of t meta) h tn [] xs) else []) (kept_now.ready m)
-        ∙ ap (λ b. if (not b) then taken_of (world_of t meta).key 0 (λ n. store) (running_in (world_of t meta) h tn) (waiting_in (world_of t meta) h tn [] xs) else []) not-over
-        ∙ ap (λ rs. taken_of (world_of t meta).key 0 (λ n. store) rs (waiting_in (world_of t meta) h tn [] xs)) (running-now ∙ s.idle l)
-        ∙ ap (taken_from (world_of t meta).key (has_room 0 0) (λ n. store) 0 0) (candidates-all O (waiting_in (world_of t meta) h tn [] xs))
-        ∙ taken-all (world_of t meta).key store 0 0 0 (waiting_in (world_of t meta) h tn [] xs)
+        ap (λ b. if (b && not (is_over (world_of t meta) h tn xs)) then taken_of 0 (found_in (world_of t meta).key store) (running_in (world_of t meta) h tn) (waiting_in (world_of t meta) h tn nothing_read [] xs) else []) (kept_now.ready m)
+        ∙ ap (λ b. if (not b) then taken_of 0 (found_in (world_of t meta).key store) (running_in (world_of t meta) h tn) (waiting_in (world_of t meta) h tn nothing_read [] xs) else []) not-over
+        ∙ ap (λ rs. taken_of 0 (found_in (world_of t meta).key store) rs (waiting_in (world_of t meta) h tn nothing_read [] xs)) (running-now ∙ s.idle l)
+        ∙ ap (λ es. within_room 0 0 0 (found_in (world_of t meta).key store (map (λ f. f.entry.message) es))) (candidates-all O (waiting_in (world_of t meta) h tn nothing_read [] xs))
+        ∙ taken-all 0 0 (found_in (world_of t meta).key store (map (λ f. f.entry.message) (waiting_in (world_of t meta) h tn nothing_read [] xs)))
         ∙ ap (map (λ (m : Message). record { message = m; object = found (world_of t meta).key store m.reference })) waiting-now
         ∙ map-same (λ (m : Message). record { message = m; object = found (world_of t meta).key store m.reference }) (take_of q.stored)
         (λ m. ap (λ o. record { message = m; object = o })
@@ -181,24 +182,24 @@ module _ {O : Type 0} (t : ObjectType) (meta : O → ObjectMeta) where
         store : List O
         store = store_of (world_of t meta).key (exchanges_of 0 (exchanges_with h tn xs))
 
-    taken-now : taken_in (world_of t meta) h tn [] xs ≡ map (take_of q.stored) (waiting_after xs)
+    taken-now : taken_in (world_of t meta) h tn nothing_read [] xs ≡ map (take_of q.stored) (waiting_after xs)
     taken-now = go (is_listed p.state) refl
       where
-        started_now : is_listed p.state ≡ false → (xs ≡ []) ⊎ (is_listed q.state ≡ true) → taken_in (world_of t meta) h tn [] xs ≡ map (take_of q.stored) (waiting_after xs)
+        started_now : is_listed p.state ≡ false → (xs ≡ []) ⊎ (is_listed q.state ≡ true) → taken_in (world_of t meta) h tn nothing_read [] xs ≡ map (take_of q.stored) (waiting_after xs)
         started_now l (inl e) = nothing-waits (ap requested e)
         started_now l (inr m) = all-taken l m
 
-        go : (b : Bool) → is_listed p.state ≡ b → taken_in (world_of t meta) h tn [] xs ≡ map (take_of q.stored) (waiting_after xs)
+        go : (b : Bool) → is_listed p.state ≡ b → taken_in (world_of t meta) h tn nothing_read [] xs ≡ map (take_of q.stored) (waiting_after xs)
         go true l = nothing-waits (listed-all at p q xs raws a l).0
         go false l = started_now l (listed-or-none at p q xs raws a)
 
     -- why the root is asked no more
-    stops-now : stop_of (world_of t meta) h tn xs 0 ≡ (if (any_not_ready xs) then stops.NotReady else stops.Budget)
+    stops-now : stop_of (world_of t meta) budget (exchanges h) (dated at xs) (was_asked (world_of t meta) h tn) 0 ≡ (if (any_not_ready xs) then stops.NotReady else stops.Budget)
     stops-now =
-        ap (λ ys. if (list_any (λ x. is_not_ready x.answer) ys || false) then stops.NotReady
+        by-own (λ n b. if (b || false) then stops.NotReady
         else if (is_over (world_of t meta) h tn xs) then stops.Shutdown
-        else if (nat_lt (length ys) (slice_index budget 0)) then stops.Paused
-        else stops.Budget) (made-all xs made.0.roots)
+        else if (nat_lt n (slice_index budget 0)) then stops.Paused
+        else stops.Budget) at xs made.0.roots
         ∙ ap (λ b. if (any_not_ready xs || false) then stops.NotReady
         else if b then stops.Shutdown
         else if (nat_lt (length xs) (slice_index budget 0)) then stops.Paused
@@ -219,7 +220,7 @@ module _ {O : Type 0} (t : ObjectType) (meta : O → ObjectMeta) where
         ended (inl e) = by (any_not_ready xs) (nat_lt (length xs) (slice_index budget 0)) (inl (full (length xs) (slice_index budget 0) e))
         ended (inr e) = by (any_not_ready xs) (nat_lt (length xs) (slice_index budget 0)) (inr e)
 
-    determined : rec ≡ record_with (world_of t meta) h tn [] xs
+    determined : rec ≡ record_with (world_of t meta) h tn nothing_read [] xs
     determined =
         let w = world_of t meta in
         λ i. record {
@@ -230,7 +231,7 @@ module _ {O : Type 0} (t : ObjectType) (meta : O → ObjectMeta) where
           taken = sym taken-now i;
           store = (if show then Some (kept_now.stored i) else None);
           runner = None;
-          ended = sym (ended-now (taken_in w h tn [] xs)) i;
+          ended = sym (ended-now (taken_in w h tn nothing_read [] xs)) i;
         }
       where
         ended-now : (ts : List (Taken O)) → false || (is_over (world_of t meta) h tn xs && (length (running_in (world_of t meta) h tn ++ filter_map started ts) == 0)) || false ≡ false
@@ -249,7 +250,7 @@ module _ {O : Type 0} (t : ObjectType) (meta : O → ObjectMeta) where
 
     -- the record is the definitions'
     pub is-record : IsRecord (world_of t meta) h tn rec
-    is-record = record { valid = valid; finishes = tt; asked = made.0.next; done = made.1; determined = determined }
+    is-record = record { valid = valid; finishes = refl; asked = made.0.next; done = made.1; reads = refl; determined = determined }
 
     messages-taken : (ms : List Message) → map (λ (u : Taken O). u.message) (map (take_of q.stored) ms) ≡ ms
     messages-taken [] = refl
@@ -258,7 +259,7 @@ module _ {O : Type 0} (t : ObjectType) (meta : O → ObjectMeta) where
     -- what is kept then stands for the history with it
     pub stands-now : Stands t meta (h ++ step tn rec ∷ []) q at
     stands-now = record {
-      kept = subst (λ ds. IsKept t meta ds q) (sym (exchanges-push h tn rec)) kept_now;
+      kept = subst (λ ds. IsKept t meta ds q) (sym (exchanges-push h tn (unread rec))) kept_now;
       quiet = λ m.
           ap (λ es. entry same_message 0 es m) (events-push (world_of t meta) h (step tn rec))
           ∙ ap (λ es. entry same_message 0 (events_of (world_of t meta) h ++ es ++ took (map (take_of q.stored) (waiting_after xs))) m) events-now

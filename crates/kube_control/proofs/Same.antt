@@ -1,5 +1,5 @@
 -- What an exchange of a watched root is, is determined by those before it, its moment, and how the call was answered.
-use Rattle.std.proofs.Common.{◌≡◌, ℕ, zero, suc, Bool, true, false, ◌==◌, IsTrue, List, [], ◌∷◌, ◌++◌, map, Option, Some, None, if◌then◌else◌, unwrap_or, refl, sym, ap, ap₂, subst, ◌∙◌, inl, inr, arith}
+use Rattle.std.proofs.Common.{◌≡◌, ℕ, zero, suc, Bool, true, false, IsTrue, List, [], ◌∷◌, ◌++◌, map, Option, Some, None, if◌then◌else◌, unwrap_or, refl, sym, ap, ap₂, subst, ◌∙◌, inl, inr, arith}
 use Rattle.std.specs.List.{flat_map}
 use Rattle.std.proofs.lemmas.Grind.{flat_map-append}
 use Rattle.std.proofs.lemmas.List.{map-append}
@@ -14,7 +14,7 @@ use Rattle.kube_model.specs.Cuts.{from_last, up_to_last}
 use Rattle.kube_model.specs.History.{Exchange, Dated, Message, dated_of, exchanges_of}
 use Rattle.kube_model.specs.Owed.{is_next, is_opened, mark, marks, owed}
 use Rattle.kube_model.specs.Store.{arrived, changes_of, completes, is_list_start, is_page, listed, listed_by, listed_to, paged}
-use Rattle.kube_model.specs.Fits.{ContentFits, ErrorFits, IsFitting, error_of, idle_fits, is_window_over, put_of, requests_of_watch, silent_since, updated}
+use Rattle.kube_model.specs.Fits.{ErrorFits, IsAnswered, IsFitting, IsOfSource, error_of, idle_fits, is_window_over, put_of, requests_of_watch, silent_since, updated}
 use Rattle.kube_model.specs.Raw.{Raw, RawAnswer, NextAsked, Waits, Fails, GivesPage, Opens, GivesAdded, GivesModified, GivesDeleted, GivesBookmark, GivesError, Ends}
 use Rattle.kube_model.specs.Recorded.{AsItCame, IsAnsweredBy, IsRecorded, PastItsWindow, answer_of, raw_call}
 use Rattle.kube_model.specs.World.{Streamed, Watched, World, default_settings, feed_of, window_of}
@@ -152,8 +152,8 @@ module _ {O : Type 0} (t : ObjectType) (meta : O → ObjectMeta) where
         source = zero;
         owes = subst (λ s. x.call ≡ owed (feed_of w s) (exchanges_of s ds)) zero f.owes;
         idle = subst (λ s. IsTrue (is_next x.call) → IsTrue (idle_fits (is_window_over (window_of (feed_of w s)) (silent_since (dated_of s ds)) at) x.answer)) zero f.idle;
-        error = subst (λ s. ErrorFits (mark (exchanges_of s ds) x)) zero f.error;
-        requests = (subst (λ s. ContentFits w (s == 0) ds x) zero f.content).1;
+        error = (subst (λ s. IsAnswered (exchanges_of s ds) x) zero f.answer).error;
+        requests = (subst (λ s. IsOfSource w s (exchanges_of s ds) x) zero f.content).requests;
       }
 
   is-next : (x : Exchange O) (raw : Raw O) → raw_call default_settings x.call ≡ Some raw.call → raw.call ≡ NextAsked → IsTrue (is_next x.call)

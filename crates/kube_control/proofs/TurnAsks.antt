@@ -1,19 +1,21 @@
 -- The asks of a turn: each is the next one, none is left to make, and each is recorded as it came.
-use Rattle.std.proofs.Common.{◌≡◌, ℕ, ◌+◌, ◌-◌, ◌<◌, ◌≤◌, Bool, true, false, not, ◌&&◌, ◌||◌, nat_lt, List, [], ◌∷◌, ◌++◌, length, Option, Some, None, if◌then◌else◌, slice_index, refl, sym, ap, subst, ◌∙◌, ◌⊎◌, inl, inr, append_assoc, append-nil, length-append, arith}
+use Rattle.std.proofs.Common.{◌≡◌, ℕ, ◌+◌, ◌-◌, ◌<◌, ◌≤◌, Bool, true, false, not, ◌&&◌, ◌||◌, nat_lt, List, [], ◌∷◌, ◌++◌, length, Option, Some, None, if◌then◌else◌, slice_index, refl, sym, ap, ap₂, subst, ◌∙◌, ◌⊎◌, inl, inr, append_assoc, append-nil, length-append, arith}
 use Rattle.std.specs.List.{find, list_any, last_or, range_with_len, AllByRecursion, AllZip}
 use Rattle.std.proofs.lemmas.Bool.{eq-eqb}
+use Rattle.std.proofs.lemmas.List.{length-map}
 use Rattle.std.proofs.lemmas.Bool.Decides.{nat_tests}
 use Rattle.kube_meta.specs.declared.metadata.ObjectMeta.{ObjectMeta}
 use Rattle.kube_meta.specs.Reference.{ObjectType}
 use Rattle.kube_model.specs.declared.call.Answer.TheVariants.{Page}
 use Rattle.kube_model.specs.World.{default_settings}
 use Rattle.kube_model.specs.Raw.{Raw}
-use Rattle.kube_model.specs.History.{Exchange, Dated, Turn, Step, exchanges, exchanges_with}
+use Rattle.kube_model.specs.History.{Exchange, Dated, Turn, Step, dated, dated_of, exchanges, exchanges_with}
 use Rattle.kube_model.specs.Owed.{is_not_ready}
 use Rattle.kube_model.specs.Fits.{nonempty}
 use Rattle.kube_model.specs.Pause.{Pause, gave_up, is_paused}
-use Rattle.kube_model.specs.Requests.{is_shut, asks_shutdown, is_over}
-use Rattle.kube_model.specs.Turns.{made_by, in_turn, in_turn_after, may_be_asked, next_source}
+use Rattle.kube_model.specs.Shutdowns.{is_shut, asks_shutdown}
+use Rattle.kube_model.specs.Asks.{in_turn, in_turn_after, may_be_asked, next_asked}
+use Rattle.kube_model.specs.Turns.{next_source}
 use Rattle.kube_model.specs.Traces.{EachIsNext}
 use Rattle.kube_model.specs.Recorded.{IsRecorded, AsItCame, raw_call}
 use Rattle.kube_model.specs.Cuts.{last}
@@ -41,9 +43,28 @@ module _ {O : Type 0} where
   abbrev AreRoots : List (Exchange O) → Type 0
   AreRoots xs = AllByRecursion (λ x. x.source ≡ 0) xs
 
-  pub made-all : (xs : List (Exchange O)) → AreRoots xs → made_by 0 xs ≡ xs
-  made-all [] h = refl
-  made-all (x ∷ xs) h = ap (λ b. if b then x ∷ made_by 0 xs else made_by 0 xs) (eq-eqb x.source 0 h.0) ∙ ap (λ ys. x ∷ ys) (made-all xs h.1)
+  -- all exchanges at a moment are the root's
+  made-all : (at : ℕ) (xs : List (Exchange O)) → AreRoots xs → dated_of 0 (dated at xs) ≡ dated at xs
+  made-all at [] h = refl
+  made-all at (x ∷ xs) h =
+      ap (λ b. if b then record { at = at; exchange = x } ∷ dated_of 0 (dated at xs) else dated_of 0 (dated at xs)) (eq-eqb x.source 0 h.0)
+      ∙ ap (λ ys. record { at = at; exchange = x } ∷ ys) (made-all at xs h.1)
+
+  length-dated : (at : ℕ) (xs : List (Exchange O)) → length (dated at xs) ≡ length xs
+  length-dated at xs =
+      let f : Exchange O → Dated O = λ x. record { at = at; exchange = x } in
+      length-map xs f
+
+  any-dated : (at : ℕ) (xs : List (Exchange O)) → list_any (λ d. is_not_ready d.exchange.answer) (dated at xs) ≡ any_not_ready xs
+  any-dated at [] = refl
+  any-dated at (x ∷ xs) = ap (λ b. is_not_ready x.answer || b) (any-dated at xs)
+
+  -- what is made of them, by their number and whether one is not ready
+  pub by-own : {A : Type 0} (f : ℕ → Bool → A) (at : ℕ) (xs : List (Exchange O)) → AreRoots xs
+      → f (length (dated_of 0 (dated at xs))) (list_any (λ d. is_not_ready d.exchange.answer) (dated_of 0 (dated at xs))) ≡ f (length xs) (any_not_ready xs)
+  by-own f at xs r =
+      ap (λ ds. f (length ds) (list_any (λ d. is_not_ready d.exchange.answer) ds)) (made-all at xs r)
+      ∙ ap₂ f (length-dated at xs) (any-dated at xs)
 
 module _ {O : Type 0} (t : ObjectType) (meta : O → ObjectMeta) where
   -- an exchange of whatever kind is recorded as it came
@@ -78,10 +99,9 @@ module _ {O : Type 0} (t : ObjectType) (meta : O → ObjectMeta) where
         go (Some d) e = ap (λ n. range_with_len (n + 1) (1 - (n + 1)) ++ range_with_len 0 (n + 1)) (last-all (λ d. d.exchange.source ≡ 0) ds d k e)
 
     going : (p : Kept O) (before : List (Exchange O)) → IsKept t meta (exchanges_with h tn before) p
-        → is_over (world_of t meta) h tn before || is_paused (world_of t meta) tn.at (exchanges_with h tn before) ≡ false
+        → gave_up (world_of t meta) (exchanges_with h tn before) || is_paused (world_of t meta) tn.at (exchanges_with h tn before) ≡ false
     going p before k =
-        ap (λ b. b || is_paused (world_of t meta) tn.at (exchanges_with h tn before))
-        (or-three (is_shut h) (asks_shutdown tn.shutdown) (gave_up (world_of t meta) (exchanges_with h tn before)) unshut open_turn (ap (λ (z : Pause (Unit {0})). z.given_up) k.calm))
+        ap (λ b. b || is_paused (world_of t meta) tn.at (exchanges_with h tn before)) (ap (λ (z : Pause (Unit {0})). z.given_up) k.calm)
         ∙ ap (λ (z : Pause (Unit {0})). nat_lt tn.at z.over_at) k.calm ∙ never tn.at
       where
         never : (n : ℕ) → nat_lt n 0 ≡ false
@@ -91,9 +111,10 @@ module _ {O : Type 0} (t : ObjectType) (meta : O → ObjectMeta) where
     next-is : (p : Kept O) (before : List (Exchange O)) → IsKept t meta (exchanges_with h tn before) p → AreRoots before
         → next_source (world_of t meta) h tn before ≡ (if (nat_lt (length before) (slice_index tn.budget 0) && not (any_not_ready before || false)) then Some 0 else None)
     next-is p before k r =
-        ap (λ b. if b then None else find (may_be_asked (world_of t meta) h tn before) (in_turn (world_of t meta) (exchanges_with h tn before))) (going p before k)
-        ∙ ap (find (may_be_asked (world_of t meta) h tn before)) (root-turn (exchanges_with h tn before) k.root)
-        ∙ ap (λ ys. if (nat_lt (length ys) (slice_index tn.budget 0) && not (list_any (λ x. is_not_ready x.answer) ys || false)) then Some 0 else None) (made-all before r)
+        ap (λ b. if b then None else next_asked (world_of t meta) tn.budget (exchanges h) (dated tn.at before) tn.at) (ap₂ (λ b c. b || c) unshut open_turn)
+        ∙ ap (λ b. if b then None else find (may_be_asked (world_of t meta) tn.budget (exchanges h) (dated tn.at before)) (in_turn (world_of t meta) (exchanges_with h tn before))) (going p before k)
+        ∙ ap (find (may_be_asked (world_of t meta) tn.budget (exchanges h) (dated tn.at before))) (root-turn (exchanges_with h tn before) k.root)
+        ∙ by-own (λ n b. if (nat_lt n (slice_index tn.budget 0) && not (b || false)) then Some 0 else None) tn.at before r
 
     pub next-root : (p : Kept O) (before : List (Exchange O)) → IsKept t meta (exchanges_with h tn before) p → AreRoots before → any_not_ready before ≡ false
         → length before < slice_index tn.budget 0 → next_source (world_of t meta) h tn before ≡ Some 0

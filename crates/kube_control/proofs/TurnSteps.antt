@@ -2,6 +2,7 @@
 use Rattle.std.proofs.Common.{◌≡◌, ℕ, false, ◌||◌, List, [], ◌∷◌, ◌++◌, map, length, Option, Some, None, if◌then◌else◌, slice_index, refl, sym, ap, ap₂, subst, ◌∙◌, append_assoc, append-nil, arith}
 use Rattle.std.specs.List.{cons_option, filter_map, list_any, AllZip}
 use Rattle.std.proofs.lemmas.Grind.{flat_map-append}
+use Rattle.std.proofs.lemmas.List.{map-append}
 use Rattle.kube_meta.specs.declared.metadata.ObjectMeta.{ObjectMeta}
 use Rattle.kube_meta.specs.Reference.{ObjectType}
 use Rattle.kube_model.specs.declared.turn.Stop.TheVariants as stops
@@ -9,7 +10,10 @@ use Rattle.kube_model.specs.Raw.{Raw}
 use Rattle.kube_model.specs.Owed.{is_not_ready}
 use Rattle.kube_model.specs.World.{World, default_settings}
 use Rattle.kube_model.specs.History.{Exchange, Turn, TurnRecord, Step, dated}
-use Rattle.kube_model.specs.Traces.{step, steps, IsRecord, IsTrace, has_ended}
+use Rattle.kube_model.specs.Traces.{has_ended}
+use Rattle.kube_model.specs.Traces as model
+use Rattle.kube_model.specs.Traces.{unread}
+use Rattle.kube_control.specs.PlainTraces.{unasked, step, steps, IsRecord, IsTrace}
 use Rattle.kube_model.specs.Recorded.{IsRecorded}
 use Rattle.kube_model.proofs.Joins.{joined}
 use Rattle.kube_control.specs.declared.watcher.Root.{Root}
@@ -116,7 +120,7 @@ pub trace-push : {O B : Type 0} (w : World O B) (h : List (Step O)) (ts : List T
     → IsTrace w h ts rs → has_ended (h ++ steps ts rs) ≡ false → IsRecord w (h ++ steps ts rs) t r
     → IsTrace w h (ts ++ t ∷ []) (rs ++ r ∷ []) × (h ++ steps (ts ++ t ∷ []) (rs ++ r ∷ []) ≡ (h ++ steps ts rs) ++ step t r ∷ [])
 trace-push w h ts rs t r e k going made =
-    (joined w h ts (t ∷ []) rs (r ∷ []) k (going, made, refl), ap (λ ss. h ++ ss) (steps-push ts rs t r e) ∙ sym (append_assoc h (steps ts rs) (step t r ∷ [])))
+    (subst (model.IsTrace w unasked h (ts ++ t ∷ [])) (sym (map-append unread rs (r ∷ []))) (joined w unasked h ts (t ∷ []) (map unread rs) (unread r ∷ []) k (going, made, refl)), ap (λ ss. h ++ ss) (steps-push ts rs t r e) ∙ sym (append_assoc h (steps ts rs) (step t r ∷ [])))
 
 -- the same where the lists are known to be longer by one
 pub trace-goes-on : {O B : Type 0} (w : World O B) (h : List (Step O)) (ts us : List Turn) (rs qs : List (TurnRecord O)) (t : Turn) (r : TurnRecord O)

@@ -11,6 +11,7 @@ pub mod Stores
 pub mod Unbuilt
 pub mod Views
 pub mod Worlds
+pub mod PlainTraces
 pub mod Stands
 pub mod Records
 pub mod StandsFor

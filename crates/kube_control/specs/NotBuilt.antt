@@ -12,7 +12,8 @@ use Rattle.kube_model.specs.Owed.{owed}
 use Rattle.kube_model.specs.Fits.{is_window_over, silent_since}
 use Rattle.kube_model.specs.Recorded.{IsRecorded, raw_call}
 use Rattle.kube_model.specs.Turns.{next_source}
-use Rattle.kube_model.specs.Traces.{EachIsNext, has_ended, last_moment, steps}
+use Rattle.kube_model.specs.Traces.{EachIsNext, has_ended, last_moment}
+use Rattle.kube_control.specs.PlainTraces.{steps}
 use Rattle.kube_control.specs.Calls.{AreMadeBy, AreMoves, dated_in, made_at}
 use Rattle.kube_control.specs.Exchanges.{HasUnnamed, window}
 use Rattle.kube_control.specs.Unbuilt.{DoesMore, IsUnbuiltPage, IsUnbuiltOpening, IsUnbuiltNext}

@@ -11,7 +11,8 @@ use Rattle.kube_model.specs.Owed.{owed, is_initial}
 use Rattle.kube_model.specs.Store.{store_of, is_ready}
 use Rattle.kube_model.specs.Fits.{silent_since}
 use Rattle.kube_model.specs.Pause.{pause_of}
-use Rattle.kube_model.specs.Requests.{is_shut, entry_in}
+use Rattle.kube_model.specs.Shutdowns.{is_shut}
+use Rattle.kube_model.specs.Requests.{entry_in}
 use Rattle.kube_model.specs.Takes.{running}
 use Rattle.kube_model.specs.Traces.{has_ended, last_moment}
 use Rattle.kube_control.specs.declared.watcher.State.{State}

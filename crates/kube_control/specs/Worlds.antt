@@ -17,5 +17,4 @@ world_of t meta = record {
   backoff = tt;
   next = λ b at. (None, b);
   reset = λ b. b;
-  reads = [];
 }

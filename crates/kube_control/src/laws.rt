@@ -4,7 +4,7 @@ ghost use Rattle.std.specs.Prelude.{◌≡◌, ◌++◌, List, length, take};
 ghost use Rattle.std.specs.List.{AllZip};
 ghost use Rattle.kube_meta.specs.Reference.{ObjectType};
 ghost use Rattle.kube_model.specs.History.{Step, Turn, TurnRecord};
-ghost use Rattle.kube_model.specs.Traces.{IsTrace};
+ghost use Rattle.kube_control.specs.PlainTraces.{IsTrace};
 ghost use Rattle.kube_control.specs.Built.{IsBuilt};
 ghost use Rattle.kube_control.specs.Calls.{AreMadeBy, IsOneWay, dated_in};
 ghost use Rattle.kube_control.specs.NotBuilt.{IsNotBuiltAfter};

@@ -5,7 +5,8 @@ use Rattle.kube_meta.specs.Reading.{ObjectData}
 use Rattle.kube_meta.specs.Reference.{ObjectType}
 use Rattle.kube_meta.specs.Resources.{resource_type}
 use Rattle.kube_model.specs.History.{Step, Turn, TurnRecord}
-use Rattle.kube_model.specs.Traces.{IsTrace, has_ended, steps}
+use Rattle.kube_model.specs.Traces.{has_ended}
+use Rattle.kube_control.specs.PlainTraces.{IsTrace, steps}
 use Rattle.kube_api.specs.TestScript as api
 use Rattle.kube_control.specs.Built.{IsBuilt}
 use Rattle.kube_control.specs.Calls.{AreMadeBy, IsOneWay, dated_in}

@@ -7,7 +7,8 @@ use Rattle.std.specs.declared.alloc.Global.{Global}
 use Rattle.std.proofs.lemmas.List.{map-id}
 use Rattle.kube_meta.specs.Reading.{ObjectData}
 use Rattle.kube_model.specs.History.{Step, Turn, TurnRecord}
-use Rattle.kube_model.specs.Traces.{IsTrace, has_ended, step, steps}
+use Rattle.kube_model.specs.Traces.{has_ended}
+use Rattle.kube_control.specs.PlainTraces.{IsTrace, step, steps}
 use Rattle.kube_model.specs.World.{World}
 use Rattle.kube_api.specs.TestScript as api
 use Rattle.kube_control.specs.Built.{IsBuilt}

@@ -6,7 +6,8 @@ use Rattle.kube_meta.specs.Reading.{ObjectData}
 use Rattle.kube_meta.specs.Resources.{resource_type}
 use Rattle.kube_model.specs.History.{Turn, TurnRecord}
 use Rattle.kube_model.specs.Raw.{Raw}
-use Rattle.kube_model.specs.Traces.{IsTrace, has_ended, steps}
+use Rattle.kube_model.specs.Traces.{has_ended}
+use Rattle.kube_control.specs.PlainTraces.{IsTrace, steps}
 use Rattle.kube_model.specs.World.{World}
 use Rattle.kube_api.specs.TestScript as api
 use Rattle.kube_control.specs.Built.{IsBuilt}

@@ -5,7 +5,7 @@ ghost use Rattle.std.specs.List.{filter_map, AllByRecursion, AllZip};
 ghost use Rattle.kube_model.specs.History.{Step, Turn as PlainTurn, TurnRecord as PlainRecord};
 ghost use Rattle.kube_model.specs.Raw.{grown_by};
 ghost use Rattle.kube_model.specs.Settled.{IsSettled};
-ghost use Rattle.kube_model.specs.Traces.{IsTrace, steps};
+ghost use Rattle.kube_control.specs.PlainTraces.{IsTrace, steps};
 ghost use Rattle.kube_control.specs.Built.{IsBuilt, TakesSomething};
 ghost use Rattle.kube_control.specs.Calls.{AreMadeBy, dated_in};
 ghost use Rattle.kube_control.specs.Controllers.{is_spent, api_of, dyntype_of, records_before, IfNotBuiltTurn, IfSpent, IsSpent};

@@ -4,7 +4,7 @@ ghost use Rattle.std.specs.Prelude.{◌≡◌, ◌≤◌, ◌++◌, [], ◌∷�
 ghost use Rattle.std.specs.List.{filter_map, AllByRecursion, AllZip};
 ghost use Rattle.kube_model.specs.History.{Step, dated};
 ghost use Rattle.kube_model.specs.Raw.{grown_by};
-ghost use Rattle.kube_model.specs.Traces.{IsRecord, IsTrace, step, steps};
+ghost use Rattle.kube_control.specs.PlainTraces.{IsRecord, IsTrace, step, steps};
 ghost use Rattle.kube_control.specs.Built.{IsBuilt, TakesSomething};
 ghost use Rattle.kube_control.specs.Calls.{AreMadeBy, dated_in};
 ghost use Rattle.kube_control.specs.Controllers.{api_of, dyntype_of};

@@ -3,7 +3,7 @@ use Rattle.std.specs.List.{AllZip}
 use Rattle.std.proofs.lemmas.List.{length-map, take-map}
 use Rattle.kube_meta.specs.Reading.{ObjectData}
 use Rattle.kube_meta.specs.Resources.{resource_type}
-use Rattle.kube_model.specs.Traces.{IsTrace}
+use Rattle.kube_control.specs.PlainTraces.{IsTrace}
 use Rattle.kube_api.specs.TestScript as api
 use Rattle.kube_control.specs.Built.{IsBuilt}
 use Rattle.kube_control.specs.Controllers.{api_of, dyntype_of, records_before}

@@ -1,9 +1,11 @@
-use Rattle.std.proofs.Common.{◌≡◌, ◌++◌, ◌+◌, ◌<◌, [], ◌∷◌, length, take, slice_get, option_map, false, refl, sym, ap, subst, ◌∙◌, append-nil, length-append, arith}
+use Rattle.std.proofs.Common.{◌≡◌, ◌++◌, map, ◌+◌, ◌<◌, [], ◌∷◌, length, take, slice_get, option_map, false, refl, sym, ap, subst, ◌∙◌, append-nil, length-append, arith}
 use Rattle.std.specs.List.{filter_map, AllByRecursion, AllZip}
 use Rattle.std.proofs.lemmas.List.{map-append, length-map, length-take-le, take-map, take_more}
 use Rattle.std.proofs.lemmas.List.Elements.{filter_map-append}
 use Rattle.kube_model.specs.Raw.{grown_by}
-use Rattle.kube_model.specs.Traces.{IsRecord, has_ended, steps}
+use Rattle.kube_model.specs.Traces.{has_ended}
+use Rattle.kube_model.specs.Traces.{unread}
+use Rattle.kube_control.specs.PlainTraces.{IsRecord, steps}
 use Rattle.kube_control.specs.Built.{IsBuilt, TakesSomething}
 use Rattle.kube_control.specs.Calls.{AreMadeBy, dated_in}
 use Rattle.kube_control.specs.Controllers.{api_of, dyntype_of}
@@ -28,7 +30,7 @@ loop-turn-init g c =
     record {
       count = ap length c.requires;
       spent = refl;
-      trace = λ h s. (none, subst (λ z. StandsFor type_of g.A.Value.Resource.meta_of z c.args.controller.now) (sym (append-nil h)) s);
+      trace = λ h s. (ap (map unread) none, subst (λ z. StandsFor type_of g.A.Value.Resource.meta_of z c.args.controller.now) (sym (append-nil h)) s);
       talk =
           subst (λ rs. AreMadeBy g.A.ApiMode.moves g.A.ApiMode.talk (world type_of g.A.Value.Resource.meta_of c.args.controller.now).version (dated_in rs) (api_of c.args.controller.now) (api_of c.args.controller.now)) (sym none)
           (made-none g.A.ApiMode.moves g.A.ApiMode.talk (world type_of g.A.Value.Resource.meta_of c.args.controller.now).version (api_of c.args.controller.now));

@@ -2,7 +2,7 @@ use Rattle.std.proofs.Common.{◌≡◌, ◌++◌, List, length, take}
 use Rattle.std.specs.List.{filter_map, AllByRecursion, AllZip}
 use Rattle.kube_model.specs.History.{Step}
 use Rattle.kube_model.specs.Raw.{grown_by}
-use Rattle.kube_model.specs.Traces.{IsTrace, steps}
+use Rattle.kube_control.specs.PlainTraces.{IsTrace, steps}
 use Rattle.kube_control.specs.Built.{IsBuilt, TakesSomething}
 use Rattle.kube_control.specs.Calls.{AreMadeBy, dated_in}
 use Rattle.kube_control.specs.Controllers.{api_of, dyntype_of}

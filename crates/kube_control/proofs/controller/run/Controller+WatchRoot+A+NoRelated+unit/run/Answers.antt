@@ -1,7 +1,8 @@
-use Rattle.std.proofs.Common.{◌++◌, refl, sym, ap, subst}
+use Rattle.std.proofs.Common.{◌++◌, map, refl, sym, ap, subst}
 use Rattle.kube_model.specs.Pause.{Pause}
 use Rattle.kube_model.specs.Settled.{IsSettled}
-use Rattle.kube_model.specs.Traces.{steps}
+use Rattle.kube_model.specs.Traces.{unread}
+use Rattle.kube_control.specs.PlainTraces.{unasked, steps}
 use Rattle.kube_model.specs.World.{default_settings}
 use Rattle.kube_model.proofs.SettledSteps.{settled-steps, settled-trace}
 use Rattle.kube_control.specs.Calls.{AreMadeBy, dated_in}
@@ -15,9 +16,9 @@ pub returns-in-Ok-clause-settled : goal.returns-in-Ok-clause-settled
 returns-in-Ok-clause-settled g c ts rs k s =
     let w = world g.A.Value.Resource.type_of g.A.Value.Resource.meta_of c.args.self.now in
     let t = c.in-Ok.ensures.trace (steps ts rs) s in
-    let before : IsSettled w (steps ts rs) = settled-trace w default_settings refl ts rs k s.stands.unshut (ap (λ (p : Pause (Unit {0})). p.given_up) s.stands.kept.calm) in
+    let before : IsSettled w (steps ts rs) = settled-trace w default_settings refl unasked ts (map unread rs) k s.stands.unshut (ap (λ (p : Pause (Unit {0})). p.given_up) s.stands.kept.calm) in
     subst (λ us. IsSettled w (steps ts rs ++ steps (turns_of g.A.Value.Resource.type_of us) (records_of g.A.Value.Resource.type_of c.take_turns.new.records))) c.as_slice.ensures.value
-    (settled-steps w default_settings refl (steps ts rs) (turns_of g.A.Value.Resource.type_of c.as_slice.result.now) (records_of g.A.Value.Resource.type_of c.take_turns.new.records)
+    (settled-steps w default_settings refl unasked (steps ts rs) (turns_of g.A.Value.Resource.type_of c.as_slice.result.now) (map unread (records_of g.A.Value.Resource.type_of c.take_turns.new.records))
     t.0 before t.1.stands.unshut (ap (λ (p : Pause (Unit {0})). p.given_up) t.1.stands.kept.calm))
 
 pub returns-then-self-clause-talk_before : goal.returns-then-self-clause-talk_before
