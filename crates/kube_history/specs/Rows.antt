@@ -12,8 +12,8 @@ use Rattle.kube_history.specs.CoreEvents.{CoreEvent, Answered, Finished, Settled
 use Rattle.kube_history.specs.PoolHistory.{PoolEntry, Single, SettledAndTook}
 
 -- no limit, no debounce
-abbrev pub core : CoreWorld Thing
-core = core_world plain_world
+abbrev pub plain_core : CoreWorld Thing
+plain_core = core_world plain_world
 
 abbrev pub about_a : Reason → Message
 about_a reason = record { reference = reference_to a; reason = reason }

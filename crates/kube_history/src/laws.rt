@@ -7,7 +7,7 @@ ghost use Rattle.std.specs.List.{count_by, filter_map};
 ghost use Rattle.kube_meta.specs.Reference.{Reference, same_reference};
 ghost use Rattle.kube_model.specs.World.{World, Settings, Watched, feed_of};
 ghost use Rattle.kube_model.specs.Reads.{Reads, nothing_read};
-ghost use Rattle.kube_model.specs.History.{same_message, Message, Dated, Exchange, exchanges, exchanges_of, exchanges_with, Finished, Step, Taken, Turn, TurnRecord};
+ghost use Rattle.kube_model.specs.History.{same_message, Message, Dated, Exchange, exchanges, exchanges_of, exchanges_with, Finish, Finished, Step, Taken, Turn, TurnRecord};
 ghost use Rattle.kube_model.specs.Owed.{owed};
 ghost use Rattle.kube_model.specs.Fits.{IsFitting};
 ghost use Rattle.kube_model.specs.Store.{under_way};
@@ -171,6 +171,13 @@ pub fn requests_then_settle()
 /// A turn takes what it finishes from what runs, and adds what it starts.
 pub fn turn_changes_what_runs<O>()
     ensures { (h : List (Step O)) (s : Step O) → running (h ++ s ∷ []) ≡ unfinished (running h) s.turn.finishes ++ filter_map started s.made.taken }
+{}
+
+/// Finishes of a valid turn come one after another: each takes its reference from what runs, and finds it running.
+pub fn finishes_one_after_another<O>()
+    ensures left { (rs : List (Running O)) (front rest : List Finish) → unfinished rs (front ++ rest) ≡ unfinished (unfinished rs front) rest }
+    ensures ran { (h : List (Step O)) (t : Turn) (front : List Finish) (f : Finish) (rest : List Finish) → IsValid h t → t.finishes ≡ front ++ f ∷ rest
+        → runs (unfinished (running h) front) f.reference ≡ true }
 {}
 
 /// In a legal list no two equal references run at once, and at most as many as the limit (0: any).
