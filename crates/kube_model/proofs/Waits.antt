@@ -97,7 +97,7 @@ module _ {M : Type 0} (same : M → M → Bool) (equiv : IsEquivalence same) (de
   abbrev IsOwn : List (QueueEvent M) → Frozen M → Type 0
   IsOwn events f = (entry same debounce events f.entry.message ≡ Some f.entry) × (f.entry.settle ≡ Some f.settle)
 
-  frozen-own : (events : List (QueueEvent M)) (q : Request M) (f : Frozen M) → frozen_by q.number (entry same debounce events q.message) ≡ Some f
+  pub frozen-own : (events : List (QueueEvent M)) (q : Request M) (f : Frozen M) → frozen_by q.number (entry same debounce events q.message) ≡ Some f
       → IsOwn events f × (f.entry.number ≡ q.number) × (same f.entry.message q.message ≡ true)
   frozen-own events q f h = go (entry same debounce events q.message) refl h
     where

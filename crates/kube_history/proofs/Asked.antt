@@ -1,0 +1,192 @@
+-- What the asks of a turn do to the queue, all in one way.
+use Rattle.std.proofs.Common.{◌≡◌, ℕ, ◌+◌, Bool, true, false, cond, ◌||◌, List, [], ◌∷◌, ◌++◌, map, length, Option, Some, None, if◌then◌else◌, refl, sym, ap, ◌∙◌, append_assoc, append-nil, arith}
+use Rattle.std.specs.List.{flat_map, count_by, fold, AllByRecursion}
+use Rattle.std.proofs.lemmas.List.{map-append}
+use Rattle.std.proofs.lemmas.Grind.{flat_map-append}
+use Rattle.kube_meta.specs.Reference.{Reference, reference_before}
+use Rattle.kube_model.specs.Reason.{Reason, Unknown, BulkReconcile}
+use Rattle.kube_model.specs.World.{World}
+use Rattle.kube_model.specs.History.{Message, Exchange, Outcome, Succeeded, Failed, Turn, Finished}
+use Rattle.kube_model.specs.Queue.{QueueEvent, is_request, is_settle, sorted_by, plus}
+use Rattle.kube_model.specs.Requests.{Timed, requested_at, retry_reason, numbered, requests_of_action, requests_of_finish, requests_of_exchanges, named_requests, reload_requests, requests_of_turn}
+use Rattle.kube_history.specs.CoreEvents.{CoreEvent, Answered, Requested, Reloaded, Finished as Ended, Settled, Took, Shut, was_shut, queue_after, queue_by, requests_by, retry_of, action_requests, cache_of}
+use Rattle.kube_history.proofs.Numbering.{count-from, numbered-append, split-count}
+use Rattle.kube_history.specs.CoreWorld.{CoreWorld, core_world}
+use Rattle.kube_history.specs.TurnEvents.{is_success, finish_event, reload_events, asks}
+use Rattle.kube_history.proofs.Segments.{shut-append}
+
+module _ {O : Type 0} where
+  -- an event that requests at this moment, and does nothing else to the queue
+  abbrev pub IsAsk : ℕ → CoreEvent O → Type 0
+  IsAsk now (Answered at x) = at ≡ now
+  IsAsk now (Requested at reference) = at ≡ now
+  IsAsk now (Reloaded at) = at ≡ now
+  IsAsk now (Ended at reference ok action ran) = at ≡ now
+  IsAsk now (Settled at) = ⊥
+  IsAsk now (Took at taken) = ⊥
+  IsAsk now (Shut at) = ⊥
+
+  pub asks-append : (now : ℕ) (es fs : List (CoreEvent O)) → AllByRecursion (IsAsk now) es → AllByRecursion (IsAsk now) fs → AllByRecursion (IsAsk now) (es ++ fs)
+  asks-append now [] fs a b = b
+  asks-append now (e ∷ es) fs a b = (a.0, asks-append now es fs a.1 b)
+
+  ask-open : (now : ℕ) (e : CoreEvent O) → IsAsk now e → was_shut (e ∷ []) ≡ false
+  ask-open now (Answered at x) a = refl
+  ask-open now (Requested at reference) a = refl
+  ask-open now (Reloaded at) a = refl
+  ask-open now (Ended at reference ok action ran) a = refl
+  ask-open now (Settled at) a = absurd a
+  ask-open now (Took at taken) a = absurd a
+  ask-open now (Shut at) a = absurd a
+
+  pub push-open : (now : ℕ) (before : List (CoreEvent O)) (e : CoreEvent O) → IsAsk now e → was_shut before ≡ false → was_shut (before ++ e ∷ []) ≡ false
+  push-open now before e a h = shut-append before (e ∷ []) ∙ (ap (λ b. b || was_shut (e ∷ [])) h ∙ ask-open now e a)
+
+  pub asks-open : (now : ℕ) (before es : List (CoreEvent O)) → AllByRecursion (IsAsk now) es → was_shut before ≡ false → was_shut (before ++ es) ≡ false
+  asks-open now before [] a h = ap was_shut (append-nil before) ∙ h
+  asks-open now before (e ∷ es) a h = ap was_shut (sym (append_assoc before (e ∷ []) es)) ∙ asks-open now (before ++ e ∷ []) es a.1 (push-open now before e a.0 h)
+
+module _ (O : Type 0) where
+  -- the parts of a turn are asks
+  ask-finishes : (at : ℕ) (fs : List Finished) → AllByRecursion (IsAsk {O = O} at) (map (finish_event at) fs)
+  ask-finishes at [] = tt
+  ask-finishes at (f ∷ fs) = (refl, ask-finishes at fs)
+
+  ask-reload : (at : ℕ) (b : Bool) → AllByRecursion (IsAsk {O = O} at) (reload_events at b)
+  ask-reload at true = (refl, tt)
+  ask-reload at false = tt
+
+  ask-named : (at : ℕ) (ns : List Reference) → AllByRecursion (IsAsk {O = O} at) (map (Requested at) ns)
+  ask-named at [] = tt
+  ask-named at (n ∷ ns) = (refl, ask-named at ns)
+
+module _ {O : Type 0} where
+  ask-answers : (at : ℕ) (xs : List (Exchange O)) → AllByRecursion (IsAsk at) (map (Answered at) xs)
+  ask-answers at [] = tt
+  ask-answers at (x ∷ xs) = (refl, ask-answers at xs)
+
+  pub are-asks : (t : Turn) (fs : List Finished) (xs : List (Exchange O)) → AllByRecursion (IsAsk t.at) (asks t fs xs)
+  are-asks t fs xs =
+      let f = map (finish_event t.at) fs in
+      let r = reload_events t.at t.reload in
+      let n = map (Requested t.at) t.on in
+      asks-append t.at (f ++ r ++ n) (map (Answered t.at) xs)
+      (asks-append t.at (f ++ r) n (asks-append t.at f r (ask-finishes O t.at fs) (ask-reload O t.at t.reload)) (ask-named O t.at t.on))
+      (ask-answers t.at xs)
+
+-- settles among requests: none
+settles-from : (n c : ℕ) (now : ℕ) (qs : List Timed) → fold (λ a x. a + cond (is_settle x) 1 0) c (numbered n now qs) ≡ c
+settles-from n c now [] = refl
+settles-from n c now (q ∷ qs) = settles-from (n + 1) (c + 0) now qs ∙ omega arith
+
+settles-split : (xs : List (QueueEvent Message)) (c : ℕ) (ys : List (QueueEvent Message))
+    → fold (λ a x. a + cond (is_settle x) 1 0) c (xs ++ ys) ≡ fold (λ a x. a + cond (is_settle x) 1 0) (fold (λ a x. a + cond (is_settle x) 1 0) c xs) ys
+settles-split [] c ys = refl
+settles-split (x ∷ xs) c ys = settles-split xs (c + cond (is_settle x) 1 0) ys
+
+pub settles-same : (qs : List (QueueEvent Message)) (n now : ℕ) (rs : List Timed) → count_by is_settle (qs ++ numbered n now rs) ≡ count_by is_settle qs
+settles-same qs n now rs = settles-split qs 0 (numbered n now rs) ∙ settles-from n (count_by is_settle qs) now rs
+
+module _ {O : Type 0} (core : CoreWorld O) where
+  -- what these request, one after another
+  abbrev pub asked_by : List (CoreEvent O) → List (CoreEvent O) → List Timed
+  asked_by before [] = []
+  asked_by before (e ∷ es) = requests_by core before e ++ asked_by (before ++ e ∷ []) es
+
+  pub asked-append : (before es fs : List (CoreEvent O)) → asked_by before (es ++ fs) ≡ asked_by before es ++ asked_by (before ++ es) fs
+  asked-append before [] fs = ap (λ b. asked_by b fs) (sym (append-nil before))
+  asked-append before (e ∷ es) fs =
+      ap (λ rs. requests_by core before e ++ rs) (asked-append (before ++ e ∷ []) es fs ∙ ap (λ b. asked_by (before ++ e ∷ []) es ++ asked_by b fs) (append_assoc before (e ∷ []) es))
+      ∙ sym (append_assoc (requests_by core before e) (asked_by (before ++ e ∷ []) es) (asked_by (before ++ e ∷ es) fs))
+
+  only : (before : List (CoreEvent O)) (k at now : ℕ) (rs : List Timed) → was_shut before ≡ false → at ≡ now
+      → cond (was_shut before) [] (numbered k at rs ++ []) ≡ numbered k now rs
+  only before k at now rs h e = ap (λ b. cond b [] (numbered k at rs ++ [])) h ∙ (append-nil (numbered k at rs) ∙ ap (λ n. numbered k n rs) e)
+
+  ask-one : (before : List (CoreEvent O)) (qs : List (QueueEvent Message)) (now : ℕ) (e : CoreEvent O) → IsAsk now e → was_shut before ≡ false
+      → queue_by core before qs e ≡ numbered (count_by is_request qs) now (requests_by core before e)
+  ask-one before qs now (Answered at x) a h = only before (count_by is_request qs) at now (requests_by core before (Answered at x)) h a
+  ask-one before qs now (Requested at reference) a h = only before (count_by is_request qs) at now (requests_by core before (Requested at reference)) h a
+  ask-one before qs now (Reloaded at) a h = only before (count_by is_request qs) at now (requests_by core before (Reloaded at)) h a
+  ask-one before qs now (Ended at reference ok action ran) a h = only before (count_by is_request qs) at now (requests_by core before (Ended at reference ok action ran)) h a
+  ask-one before qs now (Settled at) a h = absurd a
+  ask-one before qs now (Took at taken) a h = absurd a
+  ask-one before qs now (Shut at) a h = absurd a
+
+  -- asks one after another are requests together
+  pub asks-queue : (before : List (CoreEvent O)) (qs : List (QueueEvent Message)) (now : ℕ) (es : List (CoreEvent O)) → AllByRecursion (IsAsk now) es → was_shut before ≡ false
+      → queue_after core before qs es ≡ qs ++ numbered (count_by is_request qs) now (asked_by before es)
+  asks-queue before qs now [] a h = sym (append-nil qs)
+  asks-queue before qs now (e ∷ es) a h =
+      let one = requests_by core before e in
+      let more = asked_by (before ++ e ∷ []) es in
+      let k = count_by is_request qs in
+      let mid = qs ++ queue_by core before qs e in
+      let is : mid ≡ qs ++ numbered k now one = ap (λ fs. qs ++ fs) (ask-one before qs now e a.0 h) in
+      let count : count_by is_request (qs ++ numbered k now one) ≡ k + length one = split-count qs 0 (numbered k now one) ∙ count-from k k now one in
+      asks-queue (before ++ e ∷ []) mid now es a.1 (push-open now before e a.0 h)
+      ∙ (ap (λ fs. fs ++ numbered (count_by is_request fs) now more) is
+      ∙ (ap (λ n. (qs ++ numbered k now one) ++ numbered n now more) count
+      ∙ (append_assoc qs (numbered k now one) (numbered (k + length one) now more)
+      ∙ ap (λ fs. qs ++ fs) (sym (numbered-append k now one more)))))
+
+  -- What the parts of a turn request.
+
+  same-reason : (o : Outcome) → retry_of (is_success o) ≡ retry_reason o
+  same-reason (Succeeded action) = refl
+  same-reason Failed = refl
+
+  asked-finish : (at : ℕ) (f : Finished) (a : Option ℕ) → action_requests at f.finish.reference (is_success f.finish.outcome) a ≡ requests_of_action at f a
+  asked-finish at f None = refl
+  asked-finish at f (Some nanos) =
+      ap (λ (r : Reason). record { message = record { reference = f.finish.reference; reason = r }; run_at = plus at nanos } ∷ []) (same-reason f.finish.outcome)
+
+  asked-finishes : (before : List (CoreEvent O)) (at : ℕ) (fs : List Finished) → asked_by before (map (finish_event at) fs) ≡ flat_map (requests_of_finish at) fs
+  asked-finishes before at [] = refl
+  asked-finishes before at (f ∷ fs) =
+      ap (λ rs. rs ++ asked_by (before ++ finish_event at f ∷ []) (map (finish_event at) fs)) (asked-finish at f f.action)
+      ∙ ap (λ rs. requests_of_finish at f ++ rs) (asked-finishes (before ++ finish_event at f ∷ []) at fs)
+
+  asked-reload : (before : List (CoreEvent O)) (at : ℕ) (b : Bool) (store : List O) → cache_of core before ≡ store
+      → asked_by before (reload_events at b)
+      ≡ (if b then map (λ r. requested_at at (record { reference = r; reason = BulkReconcile })) (sorted_by reference_before (map core.key store)) else [])
+  asked-reload before at true store e =
+      append-nil (map (λ r. requested_at at (record { reference = r; reason = BulkReconcile })) (sorted_by reference_before (map core.key (cache_of core before))))
+      ∙ ap (λ os. map (λ r. requested_at at (record { reference = r; reason = BulkReconcile })) (sorted_by reference_before (map core.key os))) e
+  asked-reload before at false store e = refl
+
+  asked-named : (before : List (CoreEvent O)) (at : ℕ) (ns : List Reference)
+      → asked_by before (map (Requested at) ns) ≡ map (λ r. requested_at at (record { reference = r; reason = Unknown })) ns
+  asked-named before at [] = refl
+  asked-named before at (n ∷ ns) = ap (λ rs. requested_at at (record { reference = n; reason = Unknown }) ∷ rs) (asked-named (before ++ Requested at n ∷ []) at ns)
+
+  asked-answers : (before : List (CoreEvent O)) (at : ℕ) (xs : List (Exchange O)) → asked_by before (map (Answered at) xs) ≡ requests_of_exchanges at xs
+  asked-answers before at [] = refl
+  asked-answers before at (x ∷ xs) =
+      ap (λ rs. requests_of_exchanges at (x ∷ []) ++ rs) (asked-answers (before ++ Answered at x ∷ []) at xs) ∙ sym joined
+    where
+      joined : requests_of_exchanges at (x ∷ xs) ≡ requests_of_exchanges at (x ∷ []) ++ requests_of_exchanges at xs
+      joined =
+          ap (map (requested_at at)) (flat_map-append (λ (y : Exchange O). y.requests) (x ∷ []) xs)
+          ∙ map-append (requested_at at) (flat_map (λ (y : Exchange O). y.requests) (x ∷ [])) (flat_map (λ (y : Exchange O). y.requests) xs)
+
+module _ {O B : Type 0} (w : World O B) where
+  -- all of them
+  pub asked-turn : (before : List (CoreEvent O)) (t : Turn) (fs : List Finished) (xs : List (Exchange O)) (store : List O)
+      → cache_of (core_world w) (before ++ map (finish_event t.at) fs) ≡ store
+      → asked_by (core_world w) before (asks t fs xs) ≡ requests_of_turn w store t fs xs
+  asked-turn before t fs xs store e =
+      let f = map (finish_event t.at) fs in
+      let r = reload_events t.at t.reload in
+      let n = map (Requested t.at) t.on in
+      let x = map (Answered t.at) xs in
+      let core = core_world w in
+      asked-append core before (f ++ r ++ n) x
+      ∙ (ap (λ us. us ++ asked_by core (before ++ (f ++ r ++ n)) x) (
+      asked-append core before (f ++ r) n
+      ∙ (ap (λ us. us ++ asked_by core (before ++ (f ++ r)) n) (
+      asked-append core before f r
+      ∙ (ap (λ us. us ++ asked_by core (before ++ f) r) (asked-finishes core before t.at fs)
+      ∙ ap (λ us. flat_map (requests_of_finish t.at) fs ++ us) (asked-reload core (before ++ f) t.at t.reload store e)))
+      ∙ ap (λ us. (flat_map (requests_of_finish t.at) fs ++ reload_requests w store t) ++ us) (asked-named core (before ++ (f ++ r)) t.at t.on)))
+      ∙ ap (λ us. (flat_map (requests_of_finish t.at) fs ++ reload_requests w store t ++ named_requests t) ++ us) (asked-answers core (before ++ (f ++ r ++ n)) t.at xs))
