@@ -248,6 +248,50 @@ fn namespaces_and_types_are_compared(rt: HostRuntime) -> Result<(), Fail> {
     Ok(())
 }
 
+/// Namespaces and names in their order.
+const IN_ORDER: [(Option<&str>, &str); 7] = [
+    (None, "a"),
+    (None, "aa"),
+    (None, "b"),
+    (Some(""), "a"),
+    (Some("a"), "b"),
+    (Some("a-"), "a"),
+    (Some("é"), "a"),
+];
+
+/// The reference of a pod.
+fn pod_of(
+    alloc: Global,
+    name: &str,
+    namespace: Option<&str>,
+) -> Result<ObjectRef<DynamicObject>, Fail> {
+    of_object(alloc, "Pod", "", name, namespace)
+}
+
+/// How two of them are to each other.
+fn order(
+    alloc: Global,
+    a: (Option<&str>, &str),
+    b: (Option<&str>, &str),
+) -> Result<Ordering, Fail> {
+    let (a_namespace, a_name) = a;
+    let (b_namespace, b_name) = b;
+    let a = pod_of(alloc, a_name, a_namespace)?;
+    let b = pod_of(alloc, b_name, b_namespace)?;
+    Ok(a.cmp_by_name(&b))
+}
+
+#[test]
+fn none_comes_first_and_then_bytes_decide(rt: HostRuntime) -> Result<(), Fail> {
+    for i in 0..IN_ORDER.len() {
+        for j in 0..IN_ORDER.len() {
+            let found = order(rt.alloc(), IN_ORDER[i], IN_ORDER[j])?;
+            assert_eq!(rt; found, i.cmp(&j), "{i} {j}");
+        }
+    }
+    Ok(())
+}
+
 fn deployments(alloc: Global) -> Result<Arc<ApiResource>, Fail> {
     resource(alloc, "Deployment", "apps", "deployments")
 }
