@@ -29,6 +29,8 @@ pub trait ApiMode: Drop {
     ghost moves: { Self → ℕ → Raw Self.Value → Self → Type 0 } = { λ _ _ _ _. ⊤ };
 
     /// A page of a list.
+    ///
+    /// Errors: `NoMemory`, and the API has told nothing. A fault of the API is an answer.
     fn list(
         &mut self,
         alloc: Global,
@@ -42,6 +44,8 @@ pub trait ApiMode: Drop {
         ensures rises { faults self.old ≤ faults self.new };
 
     /// A watch from a version, which takes the place of the open one.
+    ///
+    /// Errors: `NoMemory`, and the API has told nothing; the open watch stays. A fault of the API is an answer.
     fn watch(
         &mut self,
         alloc: Global,
@@ -56,6 +60,8 @@ pub trait ApiMode: Drop {
         ensures rises { faults self.old ≤ faults self.new };
 
     /// The next event of the open watch; none where it is over, or where no watch was opened.
+    ///
+    /// Errors: `NoMemory`, and the API has told nothing. A fault of the API is an answer.
     fn next(
         &mut self,
         alloc: Global,

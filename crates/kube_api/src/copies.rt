@@ -13,6 +13,8 @@ use std::alloc::Global;
 use std::sync::Arc;
 
 /// Equal parameters of a list call.
+///
+/// Errors: `NoMemory`.
 pub fn copy_list_params(alloc: Global, params: &ListParams) -> Result<ListParams, NoMemory>
     ensures { IfOk result (λ p. p ≡ params.now) }
 {
@@ -27,6 +29,8 @@ pub fn copy_list_params(alloc: Global, params: &ListParams) -> Result<ListParams
 }
 
 /// Equal parameters of a watch call.
+///
+/// Errors: `NoMemory`.
 pub fn copy_watch_params(alloc: Global, params: &WatchParams) -> Result<WatchParams, NoMemory>
     ensures { IfOk result (λ p. p ≡ params.now) }
 {
@@ -40,6 +44,8 @@ pub fn copy_watch_params(alloc: Global, params: &WatchParams) -> Result<WatchPar
 }
 
 /// An equal status.
+///
+/// Errors: `NoMemory`.
 pub fn copy_status(alloc: Global, status: &Status) -> Result<Status, NoMemory>
     ensures { IfOk result (λ s. s ≡ status.now) }
 {
@@ -52,6 +58,8 @@ pub fn copy_status(alloc: Global, status: &Status) -> Result<Status, NoMemory>
 }
 
 /// An equal fault.
+///
+/// Errors: `NoMemory`.
 pub fn copy_error(alloc: Global, error: &ApiError) -> Result<ApiError, NoMemory>
     ensures { IfOk result (λ e. e ≡ error.now) }
 {
@@ -63,6 +71,8 @@ pub fn copy_error(alloc: Global, error: &ApiError) -> Result<ApiError, NoMemory>
 }
 
 /// The same objects, which are shared.
+///
+/// Errors: `NoMemory`.
 pub fn share_all<K: Drop>(alloc: Global, objects: &[Arc<K>]) -> Result<List<Arc<K>>, NoMemory>
     ensures { IfOk result (λ l. map arc_value l ≡ map arc_value objects.now) }
 {
@@ -74,6 +84,8 @@ pub fn share_all<K: Drop>(alloc: Global, objects: &[Arc<K>]) -> Result<List<Arc<
 }
 
 /// The entry of a script's lists.
+///
+/// Errors: `NoMemory`.
 pub fn copy_listed<K: Drop>(
     alloc: Global,
     entry: &Result<Page<K>, ApiError>,
@@ -91,6 +103,8 @@ pub fn copy_listed<K: Drop>(
 }
 
 /// The same event; its object is shared.
+///
+/// Errors: `NoMemory`.
 pub fn copy_event<K: Drop>(alloc: Global, event: &WatchEvent<K>) -> Result<WatchEvent<K>, NoMemory>
     ensures { IfOk result (λ e. event_answer e ≡ event_answer event.now) }
 {
@@ -107,6 +121,8 @@ pub fn copy_event<K: Drop>(alloc: Global, event: &WatchEvent<K>) -> Result<Watch
 }
 
 /// An event of a script's watches.
+///
+/// Errors: `NoMemory`.
 pub fn copy_given<K: Drop>(
     alloc: Global,
     event: &Result<WatchEvent<K>, ApiError>,

@@ -43,7 +43,9 @@ impl<K: Drop> ResultPage<K> {
         }
     }
 
-    /// The page with this token, or with none. The page is gone where there is no memory for it.
+    /// The page with this token, or with none.
+    ///
+    /// Errors: `NoMemory`; the page is dropped.
     pub fn continue_token(
         self,
         alloc: Global,
@@ -58,7 +60,9 @@ impl<K: Drop> ResultPage<K> {
         })
     }
 
-    /// The page with this version, or with none. The page is gone where there is no memory for it.
+    /// The page with this version, or with none.
+    ///
+    /// Errors: `NoMemory`; the page is dropped.
     pub fn resource_version(
         self,
         alloc: Global,

@@ -40,17 +40,6 @@ fn fault(alloc: Global, text: &str) -> Result<ApiError, NoMemory> {
     Ok(ApiError::Transport(Text::new(alloc, text)?))
 }
 
-/// A page with one object of a name, and a version.
-fn page(alloc: Global, name: &str, version: &str) -> Result<Listed, NoMemory> {
-    let mut items = List::new(alloc);
-    items.push(Arc::new(alloc, object(alloc, name)?)?)?;
-    Ok(Ok(Page {
-        items,
-        token: None,
-        version: Some(Text::new(alloc, version)?),
-    }))
-}
-
 fn object(alloc: Global, name: &str) -> Result<DynamicObject, NoMemory> {
     Ok(DynamicObject::bare(ObjectMeta {
         name: Some(Text::new(alloc, name)?),
@@ -58,16 +47,45 @@ fn object(alloc: Global, name: &str) -> Result<DynamicObject, NoMemory> {
     }))
 }
 
-/// An object of a name was added.
-fn added(alloc: Global, name: &str) -> Result<Event, NoMemory> {
-    Ok(Ok(WatchEvent::Added(Arc::new(alloc, object(alloc, name)?)?)))
+/// A list with one object of a name.
+fn objects(alloc: Global, name: &str) -> Result<List<Arc<DynamicObject>>, NoMemory> {
+    let mut items = List::new(alloc);
+    items.push(Arc::new(alloc, object(alloc, name)?)?)?;
+    Ok(items)
 }
 
-fn bookmark(alloc: Global, version: &str) -> Result<Event, NoMemory> {
-    Ok(Ok(WatchEvent::Bookmark(Bookmark {
+/// A page with one object of a name, and a version.
+fn page(alloc: Global, name: &str, version: &str) -> Result<Page<DynamicObject>, NoMemory> {
+    Ok(Page {
+        items: objects(alloc, name)?,
+        token: None,
+        version: Some(Text::new(alloc, version)?),
+    })
+}
+
+/// An entry of the lists: a page of one object of a name and a version, or a fault where the version is empty.
+fn entry(alloc: Global, name: &str, version: &str) -> Result<Listed, NoMemory> {
+    if version.is_empty() {
+        return Ok(Err(fault(alloc, name)?));
+    }
+    Ok(Ok(page(alloc, name, version)?))
+}
+
+/// A step of a watch.
+#[derive(Clone, Copy)]
+enum Step {
+    Added(&'static str),
+    Bookmark(&'static str),
+    Fault(&'static str),
+    Nothing,
+    Wait(u64),
+}
+
+fn bookmark(alloc: Global, version: &str) -> Result<Bookmark, NoMemory> {
+    Ok(Bookmark {
         version: Text::new(alloc, version)?,
         annotations: TextMap::new(alloc),
-    })))
+    })
 }
 
 /// A step with one event.
@@ -75,6 +93,33 @@ fn one(alloc: Global, event: Event) -> Result<SequenceStep<DynamicObject>, NoMem
     let mut events = VecDeque::new(alloc);
     events.push_back(event)?;
     Ok(SequenceStep::List(events))
+}
+
+fn make_step(alloc: Global, step: Step) -> Result<SequenceStep<DynamicObject>, NoMemory> {
+    match step {
+        Step::Added(name) => {
+            let object = Arc::new(alloc, object(alloc, name)?)?;
+            one(alloc, Ok(WatchEvent::Added(object)))
+        }
+        Step::Bookmark(version) => {
+            let bookmark = bookmark(alloc, version)?;
+            one(alloc, Ok(WatchEvent::Bookmark(bookmark)))
+        }
+        Step::Fault(text) => {
+            let fault = fault(alloc, text)?;
+            one(alloc, Err(fault))
+        }
+        Step::Nothing => Ok(SequenceStep::List(VecDeque::new(alloc))),
+        Step::Wait(nanos) => Ok(SequenceStep::Wait(nanos)),
+    }
+}
+
+fn sequence(alloc: Global, steps: &[Step]) -> Result<Sequence<DynamicObject>, NoMemory> {
+    let mut all = Vec::new(alloc);
+    for step in steps {
+        all.push(make_step(alloc, *step)?)?;
+    }
+    Ok(Sequence::new(all))
 }
 
 /// The name of an object, or that it has none.
@@ -121,13 +166,22 @@ fn shown(answer: &Polled<Option<Event>>) -> &str {
     }
 }
 
+/// The parameters of a list's second page.
+fn second_page(alloc: Global) -> Result<ListParams, NoMemory> {
+    Ok(ListParams {
+        continue_token: Some(Text::new(alloc, "t")?),
+        ..any_list()
+    })
+}
+
 /// A list call is answered so.
 fn lists<R: Abort + AllocGlobal>(
     rt: &R,
     api: &mut TestMode<DynamicObject>,
+    params: &ListParams,
     wanted: &str,
 ) -> Result<(), Fail> {
-    let answer = api.list(rt.alloc(), &any_list(), Moment(0))?;
+    let answer = api.list(rt.alloc(), params, Moment(0))?;
     assert_eq!(rt; shown_list(&answer), wanted);
     Ok(())
 }
@@ -136,10 +190,11 @@ fn lists<R: Abort + AllocGlobal>(
 fn watches<R: Abort + AllocGlobal>(
     rt: &R,
     api: &mut TestMode<DynamicObject>,
+    version: &str,
     moment: u64,
     wanted: &str,
 ) -> Result<(), Fail> {
-    let answer = api.watch(rt.alloc(), &any_watch(), "1", Moment(moment))?;
+    let answer = api.watch(rt.alloc(), &any_watch(), version, Moment(moment))?;
     assert_eq!(rt; shown_watch(&answer), wanted);
     Ok(())
 }
@@ -156,104 +211,134 @@ fn polls<R: Abort + AllocGlobal>(
     Ok(())
 }
 
+/// A call.
+#[derive(Clone, Copy)]
+enum Ask {
+    List,
+    SecondPage,
+    Watch(&'static str),
+    Next,
+}
+
+/// A call at a moment is answered so.
+fn asks<R: Abort + AllocGlobal>(
+    rt: &R,
+    api: &mut TestMode<DynamicObject>,
+    ask: Ask,
+    moment: u64,
+    wanted: &str,
+) -> Result<(), Fail> {
+    match ask {
+        Ask::List => lists(rt, api, &any_list(), wanted),
+        Ask::SecondPage => lists(rt, api, &second_page(rt.alloc())?, wanted),
+        Ask::Watch(version) => watches(rt, api, version, moment, wanted),
+        Ask::Next => polls(rt, api, moment, wanted),
+    }
+}
+
+/// Calls, their moments and their answers.
+fn plays<R: Abort + AllocGlobal>(
+    rt: &R,
+    api: &mut TestMode<DynamicObject>,
+    calls: &[(Ask, u64, &str)],
+) -> Result<(), Fail> {
+    for (ask, moment, wanted) in calls {
+        asks(rt, api, *ask, *moment, wanted)?;
+    }
+    Ok(())
+}
+
 /// An API that answers two pages, and a fault between them.
 fn listed(alloc: Global) -> Result<TestMode<DynamicObject>, NoMemory> {
     let mut lists = Vec::new(alloc);
-    lists.push(page(alloc, "a", "1")?)?;
-    lists.push(Err(fault(alloc, "unreachable")?))?;
-    lists.push(page(alloc, "b", "2")?)?;
+    for (name, version) in [("a", "1"), ("unreachable", ""), ("b", "2")] {
+        lists.push(entry(alloc, name, version)?)?;
+    }
     Ok(TestMode::new(alloc, lists, Vec::new(alloc)))
 }
 
 #[test]
 fn lists_are_answered_until_none_is_left(rt: HostRuntime) -> Result<(), Fail> {
-    let mut api = listed(rt.alloc())?;
-    for wanted in ["a", "unreachable", "b", "empty", "empty"] {
-        lists(&rt, &mut api, wanted)?;
-    }
-    Ok(())
+    let calls = [
+        (Ask::List, 0, "a"),
+        (Ask::List, 0, "unreachable"),
+        (Ask::List, 0, "b"),
+        (Ask::List, 0, "empty"),
+        (Ask::List, 0, "empty"),
+    ];
+    plays(&rt, &mut listed(rt.alloc())?, &calls)
 }
 
 /// A silence of 5 from the poll that meets it, one of 0, and a step without events.
-fn waiting(alloc: Global) -> Result<Sequence<DynamicObject>, NoMemory> {
-    let mut steps = Vec::new(alloc);
-    steps.push(one(alloc, added(alloc, "a")?)?)?;
-    steps.push(SequenceStep::Wait(5))?;
-    steps.push(SequenceStep::List(VecDeque::new(alloc)))?;
-    steps.push(one(alloc, bookmark(alloc, "7")?)?)?;
-    steps.push(SequenceStep::Wait(0))?;
-    steps.push(one(alloc, Err(fault(alloc, "torn")?))?)?;
-    Ok(Sequence::new(steps))
-}
+const WAITING: [Step; 6] = [
+    Step::Added("a"),
+    Step::Wait(5),
+    Step::Nothing,
+    Step::Bookmark("7"),
+    Step::Wait(0),
+    Step::Fault("torn"),
+];
 
 /// An API that is watched once.
 fn watched(alloc: Global) -> Result<TestMode<DynamicObject>, NoMemory> {
     let mut watches = Vec::new(alloc);
-    watches.push(waiting(alloc)?)?;
+    watches.push(sequence(alloc, &WAITING)?)?;
     Ok(TestMode::new(alloc, Vec::new(alloc), watches))
 }
 
 #[test]
 fn silences_and_events_come_in_their_order(rt: HostRuntime) -> Result<(), Fail> {
-    let mut api = watched(rt.alloc())?;
-    // No watch is open.
-    polls(&rt, &mut api, 0, "end")?;
-    watches(&rt, &mut api, 1, "open")?;
-    let wanted = [
-        (2, "a"),
-        (10, "not ready"),
-        (14, "not ready"),
-        (9, "not ready"),
-        (15, "7"),
-        (15, "torn"),
-        (15, "end"),
-        (16, "end"),
+    let calls = [
+        // No watch is open.
+        (Ask::Next, 0, "end"),
+        (Ask::Watch("1"), 1, "open"),
+        (Ask::Next, 2, "a"),
+        (Ask::Next, 10, "not ready"),
+        (Ask::Next, 14, "not ready"),
+        (Ask::Next, 9, "not ready"),
+        (Ask::Next, 15, "7"),
+        (Ask::Next, 15, "torn"),
+        (Ask::Next, 15, "end"),
+        (Ask::Next, 16, "end"),
     ];
-    for (moment, wanted) in wanted {
-        polls(&rt, &mut api, moment, wanted)?;
-    }
-    Ok(())
+    plays(&rt, &mut watched(rt.alloc())?, &calls)
 }
 
 /// Two bookmarks.
-fn bookmarks(alloc: Global) -> Result<Sequence<DynamicObject>, NoMemory> {
-    let mut steps = Vec::new(alloc);
-    steps.push(one(alloc, bookmark(alloc, "8")?)?)?;
-    steps.push(one(alloc, bookmark(alloc, "9")?)?)?;
-    Ok(Sequence::new(steps))
-}
+const BOOKMARKS: [Step; 2] = [Step::Bookmark("8"), Step::Bookmark("9")];
 
 /// An API that is watched three times, the last time without an event.
 fn watched_thrice(alloc: Global) -> Result<TestMode<DynamicObject>, NoMemory> {
     let mut watches = Vec::new(alloc);
-    watches.push(waiting(alloc)?)?;
-    watches.push(bookmarks(alloc)?)?;
+    watches.push(sequence(alloc, &WAITING)?)?;
+    watches.push(sequence(alloc, &BOOKMARKS)?)?;
     watches.push(Sequence::default(alloc))?;
     Ok(TestMode::new(alloc, Vec::new(alloc), watches))
 }
 
 #[test]
 fn a_watch_takes_the_place_of_the_open_one(rt: HostRuntime) -> Result<(), Fail> {
-    let mut api = watched_thrice(rt.alloc())?;
     let calls = [
-        ("open", "a"),
-        ("open", "8"),
-        ("open", "end"),
-        ("TestMode watch sequence exhausted", "end"),
+        (Ask::Watch("1"), 0, "open"),
+        (Ask::Next, 0, "a"),
+        (Ask::Watch("1"), 0, "open"),
+        (Ask::Next, 0, "8"),
+        (Ask::Watch("1"), 0, "open"),
+        (Ask::Next, 0, "end"),
+        (Ask::Watch("1"), 0, "TestMode watch sequence exhausted"),
+        (Ask::Next, 0, "end"),
     ];
-    for (wanted, event) in calls {
-        watches(&rt, &mut api, 0, wanted)?;
-        polls(&rt, &mut api, 0, event)?;
-    }
-    Ok(())
+    plays(&rt, &mut watched_thrice(rt.alloc())?, &calls)
 }
 
 #[test]
 fn a_watch_that_fails_leaves_the_open_one(rt: HostRuntime) -> Result<(), Fail> {
-    let mut api = watched(rt.alloc())?;
-    watches(&rt, &mut api, 0, "open")?;
-    watches(&rt, &mut api, 0, "TestMode watch sequence exhausted")?;
-    polls(&rt, &mut api, 0, "a")
+    let calls = [
+        (Ask::Watch("1"), 0, "open"),
+        (Ask::Watch("1"), 0, "TestMode watch sequence exhausted"),
+        (Ask::Next, 0, "a"),
+    ];
+    plays(&rt, &mut watched(rt.alloc())?, &calls)
 }
 
 /// Which call it is.
@@ -293,58 +378,22 @@ fn check_calls(
     Ok(())
 }
 
-fn ask_list(
-    alloc: Global,
-    api: &mut TestMode<DynamicObject>,
-    params: &ListParams,
-) -> Result<(), NoMemory> {
-    let _page = api.list(alloc, params, Moment(0))?;
-    Ok(())
-}
-
-/// The parameters of a list's second page.
-fn second_page(alloc: Global) -> Result<ListParams, NoMemory> {
-    Ok(ListParams {
-        continue_token: Some(Text::new(alloc, "t")?),
-        ..any_list()
-    })
-}
-
-/// Two pages.
-fn ask_pages(alloc: Global, api: &mut TestMode<DynamicObject>) -> Result<(), NoMemory> {
-    ask_list(alloc, api, &any_list())?;
-    ask_list(alloc, api, &second_page(alloc)?)
-}
-
-fn ask_watch(
-    alloc: Global,
-    api: &mut TestMode<DynamicObject>,
-    version: &str,
-    moment: u64,
-) -> Result<(), NoMemory> {
-    let _opened = api.watch(alloc, &any_watch(), version, Moment(moment))?;
-    Ok(())
-}
-
-fn ask_next(alloc: Global, api: &mut TestMode<DynamicObject>) -> Result<(), NoMemory> {
-    let _event = api.next(alloc, Moment(1))?;
-    Ok(())
-}
-
-/// A watch, a look at it, and another watch.
-fn ask_watches(alloc: Global, api: &mut TestMode<DynamicObject>) -> Result<(), NoMemory> {
-    ask_watch(alloc, api, "9", 0)?;
-    ask_next(alloc, api)?;
-    ask_watch(alloc, api, "", 2)
+/// An API that answers by nothing.
+fn empty(alloc: Global) -> TestMode<DynamicObject> {
+    TestMode::new(alloc, Vec::new(alloc), Vec::new(alloc))
 }
 
 #[test]
 fn calls_are_recorded_in_their_order(rt: HostRuntime) -> Result<(), Fail> {
-    let alloc = rt.alloc();
-    let mut api = TestMode::new(alloc, Vec::new(alloc), Vec::new(alloc));
-    check_calls(&rt, &api, &[])?;
-    ask_pages(alloc, &mut api)?;
-    ask_watches(alloc, &mut api)?;
+    let calls = [
+        (Ask::List, 0, "empty"),
+        (Ask::SecondPage, 0, "empty"),
+        (Ask::Watch("9"), 0, "TestMode watch sequence exhausted"),
+        (Ask::Next, 1, "end"),
+        (Ask::Watch(""), 2, "TestMode watch sequence exhausted"),
+    ];
+    let mut api = empty(rt.alloc());
+    plays(&rt, &mut api, &calls)?;
     let wanted = [
         ("list", "first"),
         ("list", "t"),
@@ -353,6 +402,11 @@ fn calls_are_recorded_in_their_order(rt: HostRuntime) -> Result<(), Fail> {
         ("watch", ""),
     ];
     check_calls(&rt, &api, &wanted)
+}
+
+#[test]
+fn no_call_is_recorded_before_the_first(rt: HostRuntime) -> Result<(), Fail> {
+    check_calls(&rt, &empty(rt.alloc()), &[])
 }
 
 /// The names of a page's objects, its token and its version.
@@ -378,11 +432,18 @@ fn an_empty_page_has_nothing(rt: HostRuntime) -> Result<(), Fail> {
     check_page(&rt, &empty, &[], None, None)
 }
 
-/// A page of two objects with a token and a version.
-fn two_objects(alloc: Global) -> Result<Page<DynamicObject>, NoMemory> {
+/// Two objects.
+fn two_objects(alloc: Global) -> Result<Vec<Arc<DynamicObject>>, NoMemory> {
     let mut items = Vec::new(alloc);
-    items.push(Arc::new(alloc, object(alloc, "a")?)?)?;
-    items.push(Arc::new(alloc, object(alloc, "b")?)?)?;
+    for name in ["a", "b"] {
+        items.push(Arc::new(alloc, object(alloc, name)?)?)?;
+    }
+    Ok(items)
+}
+
+/// A page of them with a token and a version.
+fn whole_page(alloc: Global) -> Result<Page<DynamicObject>, NoMemory> {
+    let items = two_objects(alloc)?;
     let page = ResultPage::empty(alloc).continue_token(alloc, Some("t"))?;
     let page = page.resource_version(alloc, Some("9"))?;
     Ok(page.items(items).into_page())
@@ -390,14 +451,17 @@ fn two_objects(alloc: Global) -> Result<Page<DynamicObject>, NoMemory> {
 
 #[test]
 fn pages_are_made_part_by_part(rt: HostRuntime) -> Result<(), Fail> {
-    let page = two_objects(rt.alloc())?;
+    let page = whole_page(rt.alloc())?;
     check_page(&rt, &page, &["a", "b"], Some("t"), Some("9"))
+}
+
+/// A page whose token was taken away.
+fn last_page(alloc: Global) -> Result<Page<DynamicObject>, NoMemory> {
+    let page = ResultPage::empty(alloc).continue_token(alloc, Some("t"))?;
+    Ok(page.continue_token(alloc, None)?.into_page())
 }
 
 #[test]
 fn the_last_token_stays(rt: HostRuntime) -> Result<(), Fail> {
-    let alloc = rt.alloc();
-    let page = ResultPage::empty(alloc).continue_token(alloc, Some("t"))?;
-    let last = page.continue_token(alloc, None)?.into_page();
-    check_page(&rt, &last, &[], None, None)
+    check_page(&rt, &last_page(rt.alloc())?, &[], None, None)
 }

@@ -4,3 +4,4 @@ pub mod Loops
 pub mod Escapes
 pub mod Commas
 pub mod ReadBack
+pub mod ReferenceOrder

@@ -3,6 +3,7 @@
 
 pub mod action;
 pub mod dynamic;
+pub mod laws;
 pub mod list;
 pub mod memory;
 pub mod metadata;

@@ -40,6 +40,8 @@ impl<T: Drop> List<T> {
     }
 
     /// Adds an item at the end.
+    ///
+    /// Errors: `NoMemory`, and the list stays as it was; the item is dropped.
     pub fn push(&mut self, item: T) -> Result<(), NoMemory>
         ensures ok { OnOk result (self.new ≡ self.old ++ item ∷ []) }
         ensures err { OnErr result (self.new ≡ self.old) }

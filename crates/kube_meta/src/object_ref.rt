@@ -2,7 +2,10 @@
 
 ghost use Rattle.std.specs.Prelude.{◌≡◌, Some, None, IfOk, IfErr, IsErrOf, ◌↔◌, false, true, option_copied, option_map, string_bytes, if◌then◌else◌};
 ghost use Rattle.std.specs.Arc.{arc_value};
-ghost use Rattle.kube_meta.specs.Reference.{api_version as joined_version};
+ghost use Rattle.std.specs.Ordering.{is_lt, is_gt, nat_cmp};
+ghost use Rattle.std.specs.Option.{option_cmp};
+ghost use Rattle.std.specs.Cmp.Lexicographic.{slice_cmp};
+ghost use Rattle.kube_meta.specs.Reference.{api_version as joined_version, reference_before};
 ghost use Rattle.kube_meta.specs.Resources.{resource_type};
 ghost use Rattle.kube_meta.specs.Keys.{reference_of, is_named, key_of, extra_of, no_extra, is_of_type, owner_ref, object_reference};
 
@@ -12,6 +15,7 @@ use crate::metadata::OwnerReference;
 use crate::resource::{Resource, TypeInfo};
 use crate::text::{Text, copy_option};
 use std::alloc::Global;
+use std::cmp::Ordering;
 use std::fmt;
 use std::hash::{Hash, Hasher};
 use std::sync::Arc;
@@ -57,6 +61,8 @@ impl Extra {
     }
 
     /// Equal texts in memory of their own.
+    ///
+    /// Errors: `NoMemory`.
     pub fn copy(&self, alloc: Global) -> Result<Extra, NoMemory>
         ensures { IfOk result (λ e. e ≡ self.now) }
     {
@@ -170,13 +176,17 @@ impl<K: Resource> fmt::Display for ObjectRef<K> {
 
 impl<K: Resource<DynamicType = ()>> ObjectRef<K> {
     /// A reference without a namespace, to an object of a type that is known.
+    ///
+    /// Errors: `NoMemory`.
     pub fn new(alloc: Global, name: &str) -> Result<ObjectRef<K>, NoMemory>
         ensures { IfOk result (λ r. r ≡ record { dyntype = tt; name = name.now; namespace = None; extra = no_extra }) }
     {
         ObjectRef::new_with(alloc, name, ())
     }
 
-    /// The reference of an object of a type that is known, or `Unnamed` where it has no name.
+    /// The reference of an object of a type that is known.
+    ///
+    /// Errors: `Unnamed` where the object has no name, and `NoMemory`.
     pub fn from_obj(alloc: Global, object: &K) -> Result<ObjectRef<K>, RefError>
         ensures named { IfOk result (λ r. is_named (K.meta_of object.now) ≡ true) }
         ensures reference { IfOk result (λ r. reference_of K.type_of r ≡ key_of (K.type_of tt) (K.meta_of object.now)) }
@@ -189,6 +199,8 @@ impl<K: Resource<DynamicType = ()>> ObjectRef<K> {
 
 impl<K: Resource> ObjectRef<K> {
     /// A reference without a namespace.
+    ///
+    /// Errors: `NoMemory`; the dynamic type is dropped.
     pub fn new_with(alloc: Global, name: &str, t: K::DynamicType) -> Result<ObjectRef<K>, NoMemory>
         ensures { IfOk result (λ r. r ≡ record { dyntype = t; name = name.now; namespace = None; extra = no_extra }) }
     {
@@ -200,7 +212,9 @@ impl<K: Resource> ObjectRef<K> {
         })
     }
 
-    /// The reference in this namespace. It is consumed where memory can't be had.
+    /// The reference in this namespace.
+    ///
+    /// Errors: `NoMemory`; the reference is dropped.
     pub fn within(self, alloc: Global, namespace: &str) -> Result<ObjectRef<K>, NoMemory>
         ensures { IfOk result (λ r. r ≡ record self { namespace = Some namespace.now }) }
     {
@@ -219,6 +233,8 @@ impl<K: Resource> ObjectRef<K> {
     }
 
     /// An equal reference in memory of its own.
+    ///
+    /// Errors: `NoMemory`.
     pub fn copy(&self, alloc: Global) -> Result<ObjectRef<K>, NoMemory>
         ensures reference { IfOk result (λ r. reference_of K.type_of r ≡ reference_of K.type_of self.now) }
         ensures extra { IfOk result (λ r. r.extra ≡ self.now.extra) }
@@ -232,7 +248,20 @@ impl<K: Resource> ObjectRef<K> {
         })
     }
 
-    /// The reference of an object, or `Unnamed` where it has no name.
+    /// Which of two references comes first: by namespace, none before any, and then by name, both by their bytes.
+    ///
+    /// What else the references are is not looked at. It takes no memory.
+    pub fn cmp_by_name(&self, other: &ObjectRef<K>) -> Ordering
+        ensures before { is_lt result ≡ reference_before (reference_of K.type_of self.now) (reference_of K.type_of other.now) }
+        ensures after { is_gt result ≡ reference_before (reference_of K.type_of other.now) (reference_of K.type_of self.now) }
+    {
+        let by_namespace = compare_namespaces(&self.namespace, &other.namespace);
+        by_namespace.then(self.name.as_str().cmp(other.name.as_str()))
+    }
+
+    /// The reference of an object, of the type that is handed in.
+    ///
+    /// Errors: `Unnamed` where the object has no name, and `NoMemory`.
     pub fn from_obj_with(
         alloc: Global,
         object: &K,
@@ -240,6 +269,7 @@ impl<K: Resource> ObjectRef<K> {
     ) -> Result<ObjectRef<K>, RefError>
         ensures named { IfOk result (λ r. is_named (K.meta_of object.now) ≡ true) }
         ensures reference { IfOk result (λ r. reference_of K.type_of r ≡ key_of (K.type_of t) (K.meta_of object.now)) }
+        ensures dyntype { IfOk result (λ r. r.dyntype ≡ t) }
         ensures extra { IfOk result (λ r. r.extra ≡ extra_of (K.meta_of object.now)) }
         ensures unnamed { IsErrOf result RefError.Unnamed → is_named (K.meta_of object.now) ≡ false }
     {
@@ -249,6 +279,8 @@ impl<K: Resource> ObjectRef<K> {
     /// The reference to an owner in this namespace, or none where the owner's kind or `apiVersion` is of another type.
     ///
     /// The namespace is that of the object that has the owner, also where the owner is cluster-scoped.
+    ///
+    /// Errors: `NoMemory`. An owner of another type is no error.
     pub fn from_owner_ref(
         alloc: Global,
         namespace: Option<&str>,
@@ -293,6 +325,8 @@ impl<K: Resource> ObjectRef<K> {
     }
 
     /// The reference as one to an object whose type is known only as the program runs. It looks the same.
+    ///
+    /// Errors: `NoMemory`; the reference is dropped.
     pub fn erase(self, alloc: Global) -> Result<ObjectRef<DynamicObject>, NoMemory>
         ensures reference { IfOk result (λ r. reference_of (λ t. resource_type (arc_value t)) r ≡ reference_of K.type_of self) }
         ensures api_version { IfOk result (λ r. (arc_value r.dyntype).api_version ≡ joined_version (K.type_of self.dyntype).group (K.type_of self.dyntype).version) }
@@ -309,6 +343,8 @@ impl<K: Resource> ObjectRef<K> {
     }
 
     /// The reference as the Kubernetes API has it.
+    ///
+    /// Errors: `NoMemory`; the reference is dropped.
     pub fn into_reference(self, alloc: Global) -> Result<ObjectReference, NoMemory>
         ensures { IfOk result (λ r. r ≡ object_reference (reference_of K.type_of self) self.extra) }
     {
@@ -335,6 +371,18 @@ impl<K: Resource> ObjectRef<K> {
     }
 }
 
+/// None comes before any text, and texts by their bytes.
+fn compare_namespaces(a: &Option<Text>, b: &Option<Text>) -> Ordering
+    ensures { result ≡ option_cmp (slice_cmp nat_cmp) a.now b.now }
+{
+    match (a, b) {
+        (None, None) => Ordering::Equal,
+        (None, Some(_)) => Ordering::Less,
+        (Some(_), None) => Ordering::Greater,
+        (Some(a), Some(b)) => a.as_str().cmp(b.as_str()),
+    }
+}
+
 /// A type's `apiVersion`.
 fn type_version<K: Resource>(alloc: Global, t: &K::DynamicType) -> Result<Text, NoMemory>
     ensures { IfOk result (λ v. v ≡ joined_version (K.type_of t.now).group (K.type_of t.now).version) }
@@ -343,6 +391,8 @@ fn type_version<K: Resource>(alloc: Global, t: &K::DynamicType) -> Result<Text, 
 }
 
 /// A group and a version as an object's `apiVersion` has them (Kubernetes API concept "API groups").
+///
+/// Errors: `NoMemory`.
 pub fn api_version(alloc: Global, group: &str, version: &str) -> Result<Text, NoMemory>
     ensures { IfOk result (λ v. v ≡ joined_version group.now version.now) }
 {
@@ -377,6 +427,8 @@ pub trait Lookup: Resource {
         ensures { result.now ≡ (Self.type_of t.now).version };
 
     /// The version where the group is empty, else `group/version`.
+    ///
+    /// Errors: `NoMemory`.
     fn api_version(alloc: Global, t: &Self::DynamicType) -> Result<String, NoMemory>
         ensures { IfOk result (λ v. string_bytes v ≡ joined_version (Self.type_of t.now).group (Self.type_of t.now).version) };
 
@@ -400,7 +452,9 @@ pub trait Lookup: Resource {
     fn uid(&self) -> Option<&str>
         ensures { option_copied result ≡ (Self.meta_of self.now).uid };
 
-    /// The reference of the object, or `Unnamed` where it has no name.
+    /// The reference of the object, of the type that is handed in.
+    ///
+    /// Errors: `Unnamed` where the object has no name, and `NoMemory`.
     fn to_object_ref(
         &self,
         alloc: Global,
@@ -408,6 +462,7 @@ pub trait Lookup: Resource {
     ) -> Result<ObjectRef<Self>, RefError>
         ensures named { IfOk result (λ r. is_named (Self.meta_of self.now) ≡ true) }
         ensures reference { IfOk result (λ r. reference_of Self.type_of r ≡ key_of (Self.type_of t) (Self.meta_of self.now)) }
+        ensures dyntype { IfOk result (λ r. r.dyntype ≡ t) }
         ensures extra { IfOk result (λ r. r.extra ≡ extra_of (Self.meta_of self.now)) }
         ensures unnamed { IsErrOf result RefError.Unnamed → is_named (Self.meta_of self.now) ≡ false };
 }

@@ -26,6 +26,8 @@ use std::alloc::Global;
 /// A fault is the first one: of the value itself, of `apiVersion`, of `kind`, which are there both or neither, of
 /// `metadata` and its members in the order of `ObjectMeta`, and then a number in the other members, in the order of
 /// their names.
+///
+/// Errors: `Shape` and `Fraction` with the place of the first fault (a JSON pointer, RFC 6901), and `NoMemory`.
 #[tactic(auto, unfolding(crate::specs::Reading::object_data_at))]
 pub fn read_object(alloc: Global, value: Value) -> Result<DynamicObject, ObjectFault>
     ensures { Gives seen_object result (object_data_at (view value)) }

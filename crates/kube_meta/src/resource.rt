@@ -14,6 +14,8 @@ use std::hash::Hash;
 /// What tells one type of objects from another (the bounds of `Resource::DynamicType` in `kube`).
 pub trait TypeInfo: Eq + Hash + Drop {
     /// An equal value.
+    ///
+    /// Errors: `NoMemory`.
     fn share(&self, alloc: Global) -> Result<Self, NoMemory>
         ensures { IfOk result (λ t. Self.eq self.now t ≡ true) };
 }

@@ -141,6 +141,8 @@ impl Selector {
     }
 
     /// Adds an expression at the end.
+    ///
+    /// Errors: `NoMemory`, and the selector stays as it was; the expression is dropped.
     pub fn push(&mut self, expression: Expression) -> Result<(), NoMemory>
         ensures ok { OnOk result (self.new ≡ self.old ++ expression ∷ []) }
         ensures err { OnErr result (self.new ≡ self.old) }

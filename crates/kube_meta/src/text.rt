@@ -30,6 +30,8 @@ impl Model for Text {
 
 impl Text {
     /// A copy of a text.
+    ///
+    /// Errors: `NoMemory`.
     pub fn new(alloc: Global, text: &str) -> Result<Text, NoMemory>
         ensures { IfOk result (λ t. t ≡ text.now) }
     {
@@ -46,6 +48,8 @@ impl Text {
     }
 
     /// The same text in memory of its own.
+    ///
+    /// Errors: `NoMemory`.
     pub fn copy(&self, alloc: Global) -> Result<Text, NoMemory>
         ensures { IfOk result (λ t. t ≡ self.now) }
     {
@@ -127,6 +131,8 @@ impl fmt::Display for Text {
 }
 
 /// A copy of a text that may be absent.
+///
+/// Errors: `NoMemory`.
 pub fn copy_option(alloc: Global, text: &Option<Text>) -> Result<Option<Text>, NoMemory>
     ensures { IfOk result (λ t. t ≡ text.now) }
 {

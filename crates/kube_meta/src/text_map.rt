@@ -66,6 +66,8 @@ impl TextMap {
     }
 
     /// Puts a text under a key, in the place of the one that was there.
+    ///
+    /// Errors: `NoMemory`, and the map stays as it was; the text is dropped.
     pub fn insert(&mut self, alloc: Global, key: &str, text: Text) -> Result<(), NoMemory>
         ensures ok { OnOk result (self.new ≡ with_pair key.now text self.old) }
         ensures err { OnErr result (self.new ≡ self.old) }
@@ -76,6 +78,8 @@ impl TextMap {
     }
 
     /// An equal map in memory of its own.
+    ///
+    /// Errors: `NoMemory`.
     pub fn copy(&self) -> Result<TextMap, NoMemory>
         ensures { IfOk result (λ m. m ≡ self.now) }
     {

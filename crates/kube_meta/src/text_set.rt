@@ -51,6 +51,8 @@ impl TextSet {
     }
 
     /// Puts a text into the set.
+    ///
+    /// Errors: `NoMemory`, and the set stays as it was.
     pub fn insert(&mut self, alloc: Global, text: &str) -> Result<(), NoMemory>
         ensures ok { OnOk result (self.new ≡ with_text text.now self.old) }
         ensures err { OnErr result (self.new ≡ self.old) }
@@ -61,6 +63,8 @@ impl TextSet {
     }
 
     /// An equal set in memory of its own.
+    ///
+    /// Errors: `NoMemory`.
     pub fn copy(&self) -> Result<TextSet, NoMemory>
         ensures { IfOk result (λ s. s ≡ self.now) }
     {

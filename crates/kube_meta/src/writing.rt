@@ -21,6 +21,8 @@ use std::alloc::Global;
 ///
 /// It leaves out what is absent, empty lists and maps of the metadata, and members of the content that are named
 /// `apiVersion`, `kind` or `metadata`. The member `metadata` is always there.
+///
+/// Errors: `NoMemory`.
 pub fn write_object(alloc: Global, object: &DynamicObject) -> Result<Value, NoMemory>
     ensures members { IfOk result (λ v. view v ≡ object_data (seen_object object.now)) }
     ensures reads_back { IfOk result (λ v. IsContent (view object.now.content)

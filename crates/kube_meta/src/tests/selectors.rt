@@ -1,12 +1,10 @@
 //! Selectors, shown and matched.
 
-use crate::{Expression, Selector, Text, TextMap, TextSet};
+use super::text;
+use crate::{Expression, Selector, TextMap, TextSet};
 use std::alloc::Global;
+use std::process::Abort;
 use std::test::Fail;
-
-fn text(alloc: Global, text: &str) -> Result<Text, Fail> {
-    Ok(Text::new(alloc, text)?)
-}
 
 /// The set of two texts.
 fn both(alloc: Global, a: &str, b: &str) -> Result<TextSet, Fail> {
@@ -26,23 +24,86 @@ fn labels(alloc: Global, env: &str, y: Option<&str>) -> Result<TextMap, Fail> {
     Ok(labels)
 }
 
-fn three(alloc: Global) -> Result<Selector, Fail> {
+fn shown(alloc: Global, selector: &Selector) -> Result<String, Fail> {
+    Ok(format!(in alloc; "{selector}")?)
+}
+
+/// A form of expressions.
+#[derive(Clone, Copy)]
+enum Form {
+    In,
+    InNone,
+    NotIn,
+    Equal,
+    NotEqual,
+    Exists,
+    DoesNotExist,
+}
+
+/// An expression of this form, of a key and of two values of which it may take fewer.
+fn expression(alloc: Global, form: Form, key: &str, a: &str, b: &str) -> Result<Expression, Fail> {
+    match form {
+        Form::In => Ok(Expression::In(text(alloc, key)?, both(alloc, a, b)?)),
+        Form::InNone => Ok(Expression::In(text(alloc, key)?, TextSet::new(alloc))),
+        Form::NotIn => Ok(Expression::NotIn(text(alloc, key)?, both(alloc, a, b)?)),
+        Form::Equal => Ok(Expression::Equal(text(alloc, key)?, text(alloc, a)?)),
+        Form::NotEqual => Ok(Expression::NotEqual(text(alloc, key)?, text(alloc, a)?)),
+        Form::Exists => Ok(Expression::Exists(text(alloc, key)?)),
+        Form::DoesNotExist => Ok(Expression::DoesNotExist(text(alloc, key)?)),
+    }
+}
+
+/// The selector of one expression.
+fn selector(alloc: Global, expression: Expression) -> Result<Selector, Fail> {
     let mut selector = Selector::new(alloc);
-    selector.push(Expression::In(text(alloc, "env")?, both(alloc, "b", "a")?))?;
-    selector.push(Expression::NotEqual(text(alloc, "x")?, text(alloc, "1")?))?;
-    selector.push(Expression::DoesNotExist(text(alloc, "y")?))?;
+    selector.push(expression)?;
     Ok(selector)
 }
 
-#[test]
-fn three_expressions_are_shown(rt: HostRuntime) -> Result<(), Fail> {
-    let alloc = rt.alloc();
-    let selector = three(alloc)?;
+/// A selector is shown so, and holds of the label `env=a` or not.
+fn holds<R: Abort + AllocGlobal>(
+    rt: &R,
+    selector: &Selector,
+    holds: bool,
+    wanted: &str,
+) -> Result<(), Fail> {
+    assert_eq!(rt; shown(rt.alloc(), selector)?.as_str(), wanted);
     assert_eq!(rt;
-        format!(in alloc; "{selector}")?.as_str(),
-        "env in (a,b),x!=1,!y"
+        selector.matches(&labels(rt.alloc(), "a", None)?),
+        holds,
+        "{wanted}"
     );
     Ok(())
+}
+
+/// Expressions, whether each holds of the label `env=a`, and how it is shown.
+const ALONE: [(Form, &str, &str, &str, bool, &str); 7] = [
+    (Form::NotIn, "k", "v", "u", true, "k notin (u,v)"),
+    (Form::NotIn, "env", "a", "a", false, "env notin (a)"),
+    (Form::InNone, "k", "", "", false, "k in ()"),
+    (Form::Equal, "env", "a", "", true, "env=a"),
+    (Form::Exists, "k", "", "", false, "k"),
+    (Form::NotEqual, "env", "a", "", false, "env!=a"),
+    (Form::DoesNotExist, "k", "", "", true, "!k"),
+];
+
+#[test]
+fn single_expressions(rt: HostRuntime) -> Result<(), Fail> {
+    let alloc = rt.alloc();
+    for (form, key, a, b, is_met, wanted) in ALONE {
+        let expression = expression(alloc, form, key, a, b)?;
+        holds(&rt, &selector(alloc, expression)?, is_met, wanted)?;
+    }
+    holds(&rt, &Selector::new(alloc), true, "")
+}
+
+/// One of `a` and `b` as `env`, no `1` as `x`, and no `y`.
+fn three(alloc: Global) -> Result<Selector, Fail> {
+    let mut selector = Selector::new(alloc);
+    selector.push(expression(alloc, Form::In, "env", "b", "a")?)?;
+    selector.push(expression(alloc, Form::NotEqual, "x", "1", "")?)?;
+    selector.push(expression(alloc, Form::DoesNotExist, "y", "", "")?)?;
+    Ok(selector)
 }
 
 /// Whether the three hold of labels.
@@ -50,62 +111,16 @@ fn three_hold(alloc: Global, env: &str, y: Option<&str>) -> Result<bool, Fail> {
     Ok(three(alloc)?.matches(&labels(alloc, env, y)?))
 }
 
+/// Whether the selector without an expression holds of no label.
+fn empty_holds(alloc: Global) -> bool {
+    Selector::new(alloc).matches(&TextMap::new(alloc))
+}
+
 #[test]
 fn three_expressions(rt: HostRuntime) -> Result<(), Fail> {
-    let alloc = rt.alloc();
-    assert!(rt; three_hold(alloc, "a", None)?);
-    assert!(rt; !three_hold(alloc, "a", Some("1"))?);
-    assert!(rt; !three_hold(alloc, "c", None)?);
-    Ok(())
-}
-
-/// Where there is no label `k`: an expression holds as is told, and is shown so.
-fn alone(alloc: Global, expression: Expression, holds: bool, wanted: &str) -> Result<bool, Fail> {
-    let mut selector = Selector::new(alloc);
-    selector.push(expression)?;
-    let shown = format!(in alloc; "{selector}")?;
-    Ok(shown.as_str() == wanted && selector.matches(&labels(alloc, "a", None)?) == holds)
-}
-
-#[test]
-fn absent_labels_are_not_in(rt: HostRuntime) -> Result<(), Fail> {
-    let alloc = rt.alloc();
-    let expression = Expression::NotIn(text(alloc, "k")?, both(alloc, "v", "u")?);
-    assert!(rt; alone(alloc, expression, true, "k notin (u,v)")?);
-    Ok(())
-}
-
-#[test]
-fn labels_are_not_in_where_they_are_none_of_the_values(rt: HostRuntime) -> Result<(), Fail> {
-    let alloc = rt.alloc();
-    let expression = Expression::NotIn(text(alloc, "env")?, both(alloc, "a", "a")?);
-    assert!(rt; alone(alloc, expression, false, "env notin (a)")?);
-    Ok(())
-}
-
-#[test]
-fn no_label_is_in_no_values(rt: HostRuntime) -> Result<(), Fail> {
-    let alloc = rt.alloc();
-    let expression = Expression::In(text(alloc, "k")?, TextSet::new(alloc));
-    assert!(rt; alone(alloc, expression, false, "k in ()")?);
-    Ok(())
-}
-
-#[test]
-fn single_values(rt: HostRuntime) -> Result<(), Fail> {
-    let alloc = rt.alloc();
-    let equal = Expression::Equal(text(alloc, "env")?, text(alloc, "a")?);
-    assert!(rt; alone(alloc, equal, true, "env=a")?);
-    let exists = Expression::Exists(text(alloc, "k")?);
-    assert!(rt; alone(alloc, exists, false, "k")?);
-    Ok(())
-}
-
-#[test]
-fn no_expression_holds_of_all(rt: HostRuntime) -> Result<(), Fail> {
-    let alloc = rt.alloc();
-    let empty = Selector::new(alloc);
-    assert!(rt; empty.matches(&TextMap::new(alloc)));
-    assert_eq!(rt; format!(in alloc; "{empty}")?.as_str(), "");
-    Ok(())
+    assert!(rt; three_hold(rt.alloc(), "a", None)?);
+    assert!(rt; !three_hold(rt.alloc(), "a", Some("1"))?);
+    assert!(rt; !three_hold(rt.alloc(), "c", None)?);
+    assert!(rt; empty_holds(rt.alloc()));
+    holds(&rt, &three(rt.alloc())?, true, "env in (a,b),x!=1,!y")
 }
