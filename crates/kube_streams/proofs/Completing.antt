@@ -85,13 +85,12 @@ module _ {S F I : Type 0} (g : Once F (Unit {0}) (Unit {0})) (polls : S → ℕ 
 
   ended-poll : (fault : Option StreamFault) (f : Option F) (now fuel : ℕ) (c : Completing S F) (answer : Answer I) (d : Completing S F) → fault ≡ None → f ≡ None → Completed g polls fault f now fuel c answer d
       → (answer ≡ Ok End) × (d ≡ c)
-  ended-poll (Some fault) f now fuel c answer d no none e = absurd (cc)
-  ended-poll None (Some f) now fuel c answer d no none e = absurd (cc)
-  ended-poll None None now fuel c answer d no none e = e
+  ended-poll fault f now fuel c answer d faultless called e =
+      subst (λ x. Completed g polls x None now fuel c answer d) faultless (subst (λ y. Completed g polls fault y now fuel c answer d) called e)
 
   pub only-ends : (c : Completing S F) (ps : List (ℕ × ℕ × Answer I)) (d : Completing S F) → c.fault ≡ None → c.f ≡ None
       → PolledInTurn (λ (c : Completing S F) now fuel answer d. Completed g polls c.fault c.f now fuel c answer d) c ps d → OnlyEnds c ps d
-  only-ends c [] d no none e = e
-  only-ends c (p ∷ ps) d no none e =
-      let one = ended-poll c.fault c.f p.0 p.1 c p.2 e.0 no none e.1 in
-      (one.0, only-ends c ps d no none (subst (λ m. PolledInTurn (λ (c : Completing S F) now fuel answer d. Completed g polls c.fault c.f now fuel c answer d) m ps d) one.1 e.2))
+  only-ends c [] d faultless called e = e
+  only-ends c (p ∷ ps) d faultless called e =
+      let one = ended-poll c.fault c.f p.0 p.1 c p.2 e.0 faultless called e.1 in
+      (one.0, only-ends c ps d faultless called (subst (λ m. PolledInTurn (λ (c : Completing S F) now fuel answer d. Completed g polls c.fault c.f now fuel c answer d) m ps d) one.1 e.2))

@@ -1,13 +1,13 @@
 -- What a filter forgets.
-use Rattle.std.proofs.Common.{◌≡◌, ◌⊎◌, ℕ, Bool, true, false, cond, List, Option, Some, None, refl, sym, ap, subst, ◌∙◌, inl, inr}
+use Rattle.std.proofs.Common.{◌≡◌, ◌⊎◌, ℕ, ◌-◌, nat_lt, Bool, true, false, cond, if◌then◌else◌, List, Option, Some, None, refl, sym, ap, subst, ◌∙◌, inl, inr}
 use Rattle.std.specs.List.{IsDistinct, filter}
 use Rattle.std.specs.Map.{keys_of, lookup}
 use Rattle.std.proofs.lemmas.Map.Entries.{option_filter, lookup-filter-values}
-use Rattle.kube_streams.specs.Filters.{Key, Sight, same_key, is_fresh, DoesNotCount}
+use Rattle.kube_streams.specs.Filters.{Key, Sight, Filtering, same_key, is_fresh, swept, DoesNotCount, KeepsSettings}
 use Rattle.kube_streams.specs.FilterLaws.{same_key_equiv}
 
 module _ (ttl now : ℕ) where
-  at-sight : (s : Sight) (b : Bool) → is_fresh ttl now s ≡ b → (cond b (Some s) None ≡ Some s) ⊎ ((cond b (Some s) None ≡ None {A = Sight}) × (is_fresh ttl now s ≡ false))
+  at-sight : (s : Sight) (b : Bool) → is_fresh ttl now s ≡ b → (cond b (Some s) None ≡ Some s) ⊎ ((cond b (Some s) None ≡ None) × (is_fresh ttl now s ≡ false))
   at-sight s true fresh = inl refl
   at-sight s false old = inr (refl, old)
 
@@ -22,3 +22,19 @@ module _ (ttl now : ℕ) where
   kept-fresh es distinct key =
       let same = lookup-filter-values same_key_equiv (is_fresh ttl now) key es distinct in
       elim (left-of (lookup (same_key key) es)) [ inl p ↦ inl (same ∙ p) | inr p ↦ inr (same ∙ p.0, p.1) ]
+
+module _ {P : Type 0} (now : ℕ) (f : Filtering P) where
+  abbrev after_sweep : List (Key × Sight) → Filtering P
+  after_sweep es = record f { kept = es; evicted = now }
+
+  -- it is swept where that is due
+  pub swept-is : (kept : List (Key × Sight)) → nat_lt (now - f.evicted) f.ttl ≡ false → kept ≡ filter (λ e. is_fresh f.ttl now e.1) f.kept → after_sweep kept ≡ swept now f
+  swept-is kept due same =
+      ap after_sweep same ∙ sym (ap (λ b. if b then f else after_sweep (filter (λ e. is_fresh f.ttl now e.1) f.kept)) due)
+
+  keeps : (b : Bool) → KeepsSettings f (if b then f else after_sweep (filter (λ e. is_fresh f.ttl now e.1) f.kept))
+  keeps true = (refl, refl)
+  keeps false = (refl, refl)
+
+  pub swept-keeps : KeepsSettings f (swept now f)
+  swept-keeps = keeps (nat_lt (now - f.evicted) f.ttl)

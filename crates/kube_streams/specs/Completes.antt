@@ -51,6 +51,11 @@ is_end (Err fault) = false
 abbrev pub has_ended : {I : Type 0} → List (ℕ × ℕ × Answer I) → Bool
 has_ended ps = list_any (λ p. is_end p.2) ps
 
+-- every answer is the end, and nothing changed
+abbrev pub OnlyEnds : {S F I : Type 0} → Completing S F → List (ℕ × ℕ × Answer I) → Completing S F → Type 0
+OnlyEnds c [] d = d ≡ c
+OnlyEnds c (p ∷ ps) d = (p.2 ≡ Ok End) × OnlyEnds c ps d
+
 module _ {S F I : Type 0} (g : Once F (Unit {0}) (Unit {0})) (polls : S → ℕ → ℕ → Answer I → S → Type 0) where
   -- the stream is asked, and its answer is given
   pub record Passed (now fuel : ℕ) (c : Completing S F) (answer : Answer I) (d : Completing S F) : Type 0 where
@@ -72,8 +77,3 @@ module _ {S F I : Type 0} (g : Once F (Unit {0}) (Unit {0})) (polls : S → ℕ 
     pub passed_on : PassedOn polls c.stream ps d.stream
     pub called : has_ended ps ≡ true → WasCalled g c.f
     pub left : d.f ≡ cond (has_ended ps) None c.f
-
-  -- every answer is the end, and nothing changed
-  abbrev pub OnlyEnds : Completing S F → List (ℕ × ℕ × Answer I) → Completing S F → Type 0
-  OnlyEnds c [] d = d ≡ c
-  OnlyEnds c (p ∷ ps) d = (p.2 ≡ Ok End) × OnlyEnds c ps d

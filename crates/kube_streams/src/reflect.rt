@@ -5,8 +5,8 @@ ghost use Rattle.std.specs.Arc.{arc_value};
 ghost use Rattle.kube_streams.specs.Applies.{AnswerApplied, IsApplied};
 
 use kube_meta::{Moment, Next, Resource};
-use kube_watch::stream::{ask, fault_of};
 use kube_reflect::{WriteError, Writer};
+use kube_watch::stream::{ask, fault_of};
 use kube_watch::{Error, Event, EventStream, StreamFault};
 use std::alloc::Global;
 use std::marker::Model;

@@ -124,7 +124,8 @@ fn changed_events_of_any_cut(rt: HostRuntime) -> Result<(), Fail> {
 }
 
 /// The error comes at 3, and the pause after it is over at 8.
-const PAUSED: &str = "Init;InitApply 1;not ready;error;not ready;not ready;not ready;not ready;Delete 2;InitApply 3;InitDone;Apply 4;end;";
+const PAUSED: &str =
+    "Init;InitApply 1;not ready;error;not ready;not ready;not ready;not ready;Delete 2;InitApply 3;InitDone;Apply 4;end;";
 
 #[test]
 fn events_with_pauses_of_any_cut(rt: HostRuntime) -> Result<(), Fail> {

@@ -102,11 +102,11 @@ impl Readable for Object {
 fn an_object_passes_where_its_generation_changed(rt: HostRuntime) -> Result<(), Fail> {
     let alloc = rt.alloc();
     let all = showing(&[
-            Shown::Object(1, "a"),
-            Shown::Error,
-            Shown::Object(1, "a"),
-            Shown::Object(2, "a"),
-        ]);
+        Shown::Object(1, "a"),
+        Shown::Error,
+        Shown::Object(1, "a"),
+        Shown::Object(2, "a"),
+    ]);
     let mut passed = all.predicate_filter(
         alloc,
         FnPredicate(generation::<DynamicObject>),
@@ -129,11 +129,11 @@ fn an_object_passes_where_its_generation_changed(rt: HostRuntime) -> Result<(), 
 fn objects_of_other_uids_pass(rt: HostRuntime) -> Result<(), Fail> {
     let alloc = rt.alloc();
     let all = showing(&[
-            Shown::Object(1, "uid-1"),
-            Shown::Object(1, "uid-1"),
-            Shown::Object(1, "uid-2"),
-            Shown::Object(2, "uid-3"),
-        ]);
+        Shown::Object(1, "uid-1"),
+        Shown::Object(1, "uid-1"),
+        Shown::Object(1, "uid-2"),
+        Shown::Object(2, "uid-3"),
+    ]);
     let mut passed = all.predicate_filter(
         alloc,
         FnPredicate(generation::<DynamicObject>),
@@ -156,14 +156,14 @@ fn objects_of_other_uids_pass(rt: HostRuntime) -> Result<(), Fail> {
 fn a_sight_counts_for_less_than_the_ttl(rt: HostRuntime) -> Result<(), Fail> {
     let alloc = rt.alloc();
     let all = showing(&[
-            Shown::Object(1, "a"),
-            Shown::Object(1, "a"),
-            Shown::Object(1, "a"),
-            Shown::Object(1, "a"),
-            Shown::Object(1, "a"),
-            Shown::Object(1, "a"),
-            Shown::Object(1, "a"),
-        ]);
+        Shown::Object(1, "a"),
+        Shown::Object(1, "a"),
+        Shown::Object(1, "a"),
+        Shown::Object(1, "a"),
+        Shown::Object(1, "a"),
+        Shown::Object(1, "a"),
+        Shown::Object(1, "a"),
+    ]);
     let mut passed = all.predicate_filter(
         alloc,
         FnPredicate(generation::<DynamicObject>),
@@ -189,12 +189,12 @@ fn a_sight_counts_for_less_than_the_ttl(rt: HostRuntime) -> Result<(), Fail> {
 fn an_object_without_the_property_passes(rt: HostRuntime) -> Result<(), Fail> {
     let alloc = rt.alloc();
     let all = showing(&[
-            Shown::Object(0, "a"),
-            Shown::Object(0, "a"),
-            Shown::Object(1, "a"),
-            Shown::Object(0, "a"),
-            Shown::Object(1, "a"),
-        ]);
+        Shown::Object(0, "a"),
+        Shown::Object(0, "a"),
+        Shown::Object(1, "a"),
+        Shown::Object(0, "a"),
+        Shown::Object(1, "a"),
+    ]);
     let mut passed = all.predicate_filter(
         alloc,
         FnPredicate(generation::<DynamicObject>),
@@ -216,15 +216,15 @@ fn an_object_without_the_property_passes(rt: HostRuntime) -> Result<(), Fail> {
 
 fn eight() -> Objects {
     showing(&[
-            Shown::Object(1, "a"),
-            Shown::Spent,
-            Shown::Object(1, "b"),
-            Shown::Object(1, "a"),
-            Shown::NotReady,
-            Shown::Error,
-            Shown::Object(2, "a"),
-            Shown::Object(1, "b"),
-        ])
+        Shown::Object(1, "a"),
+        Shown::Spent,
+        Shown::Object(1, "b"),
+        Shown::Object(1, "a"),
+        Shown::NotReady,
+        Shown::Error,
+        Shown::Object(2, "a"),
+        Shown::Object(1, "b"),
+    ])
 }
 
 #[test]

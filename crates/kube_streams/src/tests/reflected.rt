@@ -121,7 +121,8 @@ const SAID: [Said; 6] = [
     Said::InitDone,
 ];
 
-const EVENTS: &str = "Init;InitApply(1);not ready;error;Delete(2);InitApply(3);InitDone;Apply(4);end;";
+const EVENTS: &str =
+    "Init;InitApply(1);not ready;error;Delete(2);InitApply(3);InitDone;Apply(4);end;";
 
 #[test]
 fn all_events_are_given(rt: HostRuntime) -> Result<(), Fail> {

@@ -238,7 +238,10 @@ fn shown_answer(alloc: Global, answer: &Answer) -> Result<String, AllocError> {
     }
 }
 
-fn shown_events<K: Resource>(alloc: Global, events: &[Event<Arc<K>>]) -> Result<String, AllocError> {
+fn shown_events<K: Resource>(
+    alloc: Global,
+    events: &[Event<Arc<K>>],
+) -> Result<String, AllocError> {
     let mut shown = String::new(alloc);
     for event in events {
         let one = format!(in alloc; " {event}")?;

@@ -54,7 +54,9 @@ fn page(alloc: Global, name: &str, version: &str) -> Result<Page<Metadata>, NoMe
     };
     let mut items = Vec::new(alloc);
     items.push(Arc::new(alloc, object)?)?;
-    let page = ResultPage::empty(alloc).resource_version(alloc, Some(version))?.items(items);
+    let page = ResultPage::empty(alloc)
+        .resource_version(alloc, Some(version))?
+        .items(items);
     Ok(page.into_page())
 }
 
