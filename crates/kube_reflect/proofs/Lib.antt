@@ -6,5 +6,4 @@ pub mod Staying
 pub mod Relisting
 pub mod Seeing
 pub mod Offering
-pub mod Polling
 pub mod Making

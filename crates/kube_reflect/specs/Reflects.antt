@@ -10,7 +10,8 @@ use Rattle.kube_watch.specs.declared.event.Event.TheVariants.{Apply, Delete, Ini
 use Rattle.kube_watch.specs.declared.stream.StreamFault.{StreamFault}
 use Rattle.kube_watch.specs.declared.stream.StreamFault.TheVariants.{NoMemory, Unnamed}
 use Rattle.kube_watch.specs.Events.{event_map}
-use Rattle.kube_watch.specs.Streams.{Answer, told_after}
+use Rattle.kube_watch.specs.Streams.{Answer}
+pub use Rattle.kube_watch.specs.Asking.{gives_something, Said, Polls, Asked, fault_in}
 use Rattle.kube_reflect.specs.Cached.{applied, has_name}
 use Rattle.kube_reflect.specs.Writers.{Writing, is_lagged, with_offer, with_close}
 
@@ -25,31 +26,6 @@ pub record Reflecting (O A S : Type 0) : Type 0 where
   pub stream : S
   pub held : Option (Held A)
   pub fault : Option StreamFault
-
--- whether an answer gives something: all but that the work of one call was done
-abbrev pub gives_something : {I : Type 0} → Answer I → Bool
-gives_something (Ok (Item i)) = true
-gives_something (Ok NotReady) = true
-gives_something (Ok Spent) = false
-gives_something (Ok End) = true
-gives_something (Err fault) = true
-
--- what a poll of a stream says: what it says of itself, and that the answer is told where it tells its answers
-abbrev pub Said : {S I : Type 0} → (S → ℕ → ℕ → Answer I → S → Type 0) → (S → Option (List (Answer I))) → S → ℕ → ℕ → Answer I → S → Type 0
-Said polls told s now fuel answer s' = polls s now fuel answer s' × (told s' ≡ told_after (told s) answer)
-
-module _ {S I : Type 0} (polls : S → ℕ → ℕ → Answer I → S → Type 0) where
-  -- polls of a stream at one moment, one after another, each with fuel 1
-  abbrev pub Polls : ℕ → S → List (Answer I) → S → Type 0
-  Polls now s [] s' = s ≡ s'
-  Polls now s (a ∷ more) s' = (m : S) × polls s now 1 a m × Polls now m more s'
-
-  -- the stream was asked until it gave something, or `fuel` times: this is its last answer
-  pub record Asked (now fuel : ℕ) (s : S) (last : Answer I) (s' : S) : Type 0 where
-    pub idle : ℕ
-    pub polled : Polls now s (replicate idle (Ok Spent) ++ last ∷ []) s'
-    pub few : idle < fuel
-    pub spent : last ≡ Ok Spent → idle + 1 ≡ fuel
 
 -- the references that an event offers once it is applied: that of an Apply, and all that are stored at an InitDone
 abbrev pub offers_of : {O : Type 0} → (O → Reference) → List (Reference × O) → Event O → List Reference
@@ -78,11 +54,6 @@ module _ {A : Type 0} where
   abbrev pub held_with : Event A → List Reference → Option (Held A)
   held_with event [] = None
   held_with event (r ∷ rs) = Some (record { event = event; references = r ∷ rs })
-
--- the fault that an answer leaves
-abbrev pub fault_in : {I : Type 0} → Answer I → Option StreamFault
-fault_in (Ok a) = None
-fault_in (Err fault) = Some fault
 
 module _ {O A : Type 0} where
   -- a writer offers the references of an event: all, or as far as there is room; or memory can't be had

@@ -1,8 +1,8 @@
 //! A stream that writes what it gives into a cache (the stream of kube-runtime's `reflector`).
 
-ghost use Rattle.std.specs.Prelude.{◌≡◌, ◌≤◌, None};
+ghost use Rattle.std.specs.Prelude.{◌≡◌, None};
 ghost use Rattle.std.specs.Arc.{arc_value};
-ghost use Rattle.kube_reflect.specs.Reflects.{Asked, Answered, fault_in, gives_something, Said};
+ghost use Rattle.kube_reflect.specs.Reflects.{Answered};
 ghost use Rattle.kube_reflect.specs.HeldEvents.{held_of};
 ghost use Rattle.kube_reflect.specs.Writers.{AllStay};
 ghost use Rattle.std.specs.Option.{option_map};
@@ -10,7 +10,8 @@ ghost use Rattle.std.specs.Option.{option_map};
 use crate::held::{Answer, Held, give, take};
 use crate::store::Writer;
 use kube_meta::{Moment, Next, Resource};
-use kube_watch::{Error, Event, EventStream, StreamFault};
+use kube_watch::stream::{ask, fault_of};
+use kube_watch::{Event, EventStream, StreamFault};
 use std::alloc::Global;
 use std::sync::Arc;
 
@@ -40,37 +41,6 @@ impl<K: Resource, St> Reflector<K, St> {
     }
 }
 
-/// Whether an answer gives something.
-fn gives_something<I>(answer: &Result<Next<Result<I, Error>>, StreamFault>) -> bool
-    ensures { result ≡ gives_something answer.now }
-{
-    match answer {
-        Ok(Next::Spent) => false,
-        _ => true,
-    }
-}
-
-/// An answer of a stream that gave something, or the last of so many.
-pub fn ask<St: EventStream>(
-    stream: &mut St,
-    alloc: Global,
-    now: Moment,
-    fuel: u32,
-) -> Result<Next<Result<St::Item, Error>>, StreamFault>
-    requires may { St.can_poll stream.old }
-    requires fuel { 1 ≤ fuel }
-    ensures may { St.can_poll stream.new }
-    ensures asked { Asked (Said St.polls St.told) now.0 fuel stream.old result stream.new }
-{
-    for _idle in 0..fuel - 1 {
-        let answer = stream.poll_next(alloc, now, 1);
-        if gives_something(&answer) {
-            return answer;
-        }
-    }
-    stream.poll_next(alloc, now, 1)
-}
-
 /// What an answer of the stream makes of a reflector that holds nothing.
 fn reflect<K: Resource>(
     writer: &mut Writer<K>,
@@ -89,16 +59,6 @@ fn reflect<K: Resource>(
             Ok(Next::End)
         }
         answer => answer,
-    }
-}
-
-/// The fault of an answer of a stream, if it is one.
-pub fn fault_of<I>(answer: &Result<Next<Result<I, Error>>, StreamFault>) -> Option<StreamFault>
-    ensures { result ≡ fault_in answer.now }
-{
-    match answer {
-        Ok(_) => None,
-        Err(fault) => Some(*fault),
     }
 }
 
@@ -143,6 +103,8 @@ impl<K: Resource, St: EventStream<Item = Event<Arc<K>>>> EventStream for Reflect
     ghost told = { λ _. None };
 
     ghost can_poll = { λ r. St.can_poll r.stream };
+
+    ghost fault = { λ r. r.fault };
 
     ghost polls = { λ r now fuel answer s. Reflected arc_value K.meta_of (Said St.polls St.told) r.fault (reflecting K.type_of r) now fuel answer (reflecting K.type_of s)
         × AllStay r.writer s.writer };

@@ -6,7 +6,7 @@ use Rattle.kube_meta.specs.declared.poll.Next.TheVariants.{Item, NotReady, Spent
 use Rattle.kube_watch.specs.declared.event.Event.{Event}
 use Rattle.kube_watch.specs.declared.stream.StreamFault.{StreamFault}
 use Rattle.kube_watch.specs.Streams.{Answer}
-use Rattle.kube_reflect.specs.Reflects.{fault_in}
+use Rattle.kube_watch.specs.Asking.{fault_in}
 use Rattle.kube_reflect.specs.Writers.{Writing}
 use Rattle.kube_streams.specs.Adapts.{Told, told_in, all_told}
 use Rattle.kube_streams.specs.InOrder.{PolledInTurn}

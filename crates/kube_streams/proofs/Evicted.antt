@@ -1,22 +1,40 @@
 -- What a filter forgets.
-use Rattle.std.proofs.Common.{◌≡◌, ◌⊎◌, ℕ, Bool, true, false, cond, Some, None, refl, sym, ap, subst, ◌∙◌, inl, inr}
-use Rattle.std.specs.Map.{lookup}
-use Rattle.kube_streams.specs.Filters.{Key, Sight, same_key, Filtering, sights_in, DoesNotCount, IsForgotten, IsRemovedAt, IsOldAt}
+use Rattle.std.proofs.Common.{◌≡◌, ◌⊎◌, ℕ, ◌-◌, nat_lt, Bool, true, false, cond, if◌then◌else◌, List, Option, Some, None, refl, sym, ap, subst, ◌∙◌, inl, inr}
+use Rattle.std.specs.List.{IsDistinct, filter}
+use Rattle.std.specs.Map.{keys_of, lookup}
+use Rattle.std.proofs.lemmas.Map.Entries.{option_filter, lookup-filter-values}
+use Rattle.kube_streams.specs.Filters.{Key, Sight, Filtering, same_key, is_fresh, swept, DoesNotCount, KeepsSettings}
 use Rattle.kube_streams.specs.FilterLaws.{same_key_equiv}
 
-module _ {P : Type 0} where
-  -- equal keys have one sight
-  one-sight : (f : Filtering P) (a b : Key) → same_key a b ≡ true → sights_in f a ≡ sights_in f b
-  one-sight f a b e = ap (λ (test : Key → Bool). lookup test f.kept) (λ i k. same_key_equiv.congr a b k e i)
+module _ (ttl now : ℕ) where
+  at-sight : (s : Sight) (b : Bool) → is_fresh ttl now s ≡ b → (cond b (Some s) None ≡ Some s) ⊎ ((cond b (Some s) None ≡ None) × (is_fresh ttl now s ≡ false))
+  at-sight s true fresh = inl refl
+  at-sight s false old = inr (refl, old)
 
-  gone-at : (now : ℕ) (f g : Filtering P) (key : Key) (e : Key × Sight) (b : Bool) → same_key e.0 key ≡ b → (sights_in f e.0 ≡ Some e.1) → DoesNotCount f.ttl now (Some e.1)
-      → sights_in g key ≡ cond b None (sights_in f key) → (sights_in g key ≡ sights_in f key) ⊎ ((sights_in g key ≡ None) × DoesNotCount f.ttl now (sights_in f key))
-  gone-at now f g key e true same one old left = inr (left, subst (λ o. DoesNotCount f.ttl now o) (sym one ∙ one-sight f e.0 key same) old)
-  gone-at now f g key e false same one old left = inl left
+  left-of : (o : Option Sight) → (option_filter (is_fresh ttl now) o ≡ o) ⊎ ((option_filter (is_fresh ttl now) o ≡ None) × DoesNotCount ttl now o)
+  left-of None = inl refl
+  left-of (Some s) = at-sight s (is_fresh ttl now s) refl
 
-  -- the sight at a place is gone, and it didn't count
-  pub removed_old : (place now : ℕ) (f g : Filtering P) → IsOldAt place now f → IsRemovedAt place f g → IsForgotten f.ttl now (sights_in f) (sights_in g)
-  removed_old place now f g old (inl same) key = inl (same key)
-  removed_old place now f g old (inr gone) key =
-      let fact = old gone.0 gone.1 in
-      gone-at now f g key gone.0 (same_key gone.0.0 key) refl fact.0 fact.1 (gone.2 key)
+  -- of distinct keys, those whose sight counts are kept
+  pub kept-fresh : (es : List (Key × Sight)) → IsDistinct same_key (keys_of es) → (key : Key)
+      → (lookup (same_key key) (filter (λ e. is_fresh ttl now e.1) es) ≡ lookup (same_key key) es)
+      ⊎ ((lookup (same_key key) (filter (λ e. is_fresh ttl now e.1) es) ≡ None) × DoesNotCount ttl now (lookup (same_key key) es))
+  kept-fresh es distinct key =
+      let same = lookup-filter-values same_key_equiv (is_fresh ttl now) key es distinct in
+      elim (left-of (lookup (same_key key) es)) [ inl p ↦ inl (same ∙ p) | inr p ↦ inr (same ∙ p.0, p.1) ]
+
+module _ {P : Type 0} (now : ℕ) (f : Filtering P) where
+  abbrev after_sweep : List (Key × Sight) → Filtering P
+  after_sweep es = record f { kept = es; evicted = now }
+
+  -- it is swept where that is due
+  pub swept-is : (kept : List (Key × Sight)) → nat_lt (now - f.evicted) f.ttl ≡ false → kept ≡ filter (λ e. is_fresh f.ttl now e.1) f.kept → after_sweep kept ≡ swept now f
+  swept-is kept due same =
+      ap after_sweep same ∙ sym (ap (λ b. if b then f else after_sweep (filter (λ e. is_fresh f.ttl now e.1) f.kept)) due)
+
+  keeps : (b : Bool) → KeepsSettings f (if b then f else after_sweep (filter (λ e. is_fresh f.ttl now e.1) f.kept))
+  keeps true = (refl, refl)
+  keeps false = (refl, refl)
+
+  pub swept-keeps : KeepsSettings f (swept now f)
+  swept-keeps = keeps (nat_lt (now - f.evicted) f.ttl)

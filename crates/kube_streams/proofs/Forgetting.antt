@@ -2,7 +2,8 @@
 use Rattle.std.proofs.Common.{◌≡◌, ◌⊎◌, ◌≤◌, ℕ, Bool, true, false, cond, nat_eq, not, ◌&&◌, List, [], ◌∷◌, map, Option, Some, None, refl, sym, ap, ap₂, subst, ◌∙◌, inl, inr, arith}
 use Rattle.std.proofs.lemmas.Bool.Decides.{nat_tests}
 use Rattle.kube_meta.specs.declared.metadata.ObjectMeta.{ObjectMeta}
-use Rattle.kube_streams.specs.Filters.{Key, Sight, Sights, same_key, with_sight, is_fresh, passes, lets_pass, sights_after, DoesNotCount, IsForgotten, SameSights, Filtering, filter_key, sights_in, Showing, passing, Passing, NeverFall, Judgement, JudgedInTurn, AreShown, PassedWithoutForgetting}
+use Rattle.kube_streams.specs.Adapts.{NeverFall}
+use Rattle.kube_streams.specs.Filters.{Key, Sight, Sights, same_key, with_sight, is_fresh, passes, lets_pass, sights_after, DoesNotCount, IsForgotten, SameSights, Filtering, filter_key, sights_in, swept, Showing, passing, Passing, Judgement, JudgedInTurn, AreShown, PassedWithoutForgetting}
 
 module _ (ttl : ℕ) where
   -- some sights that don't count are missing
@@ -84,7 +85,7 @@ module _ {P O : Type 0} (gives : P → O → Option ℕ → Type 0) (meta : O �
         shown = ((refl, refl, one.given_by), subst (λ predicate. AreShown gives meta predicate js more.showings) one.settings.0 more.shown);
         moments = ap (λ moments. j.at ∷ moments) more.moments;
         passed = (
-          one.left,
+          sights_in (swept j.at f),
           j.passed,
           sights_in h,
           map (λ x. x.passed) js,

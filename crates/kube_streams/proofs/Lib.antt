@@ -2,6 +2,7 @@
 pub mod Applying
 pub mod Completing
 pub mod Evicted
+pub mod Filtered
 pub mod Folds
 pub mod Forgetting
 pub mod Given

@@ -2,7 +2,7 @@
 use Rattle.std.proofs.Common.{◌≡◌, ℕ, zero, suc, List, [], ◌∷◌, ◌++◌, map, replicate, Ok, refl, sym, ap, ap₂, subst, ◌∙◌, append-nil, append_assoc}
 use Rattle.kube_meta.specs.declared.poll.Next.TheVariants.{Spent}
 use Rattle.kube_watch.specs.Streams.{Answer}
-use Rattle.kube_reflect.specs.Reflects.{Asked, Polls}
+use Rattle.kube_watch.specs.Asking.{Asked, Polls}
 use Rattle.kube_streams.specs.Adapts.{Told, told_in, all_told}
 use Rattle.kube_streams.specs.InOrder.{answers_told, AskedInTurn, Answered, PassedOn, PolledInTurn}
 

@@ -1,11 +1,11 @@
 -- Streams made of other ones: what they give, by what the other one answers. (Crate: the streams of `WatchStreamExt`.)
-use Rattle.std.specs.Prelude.{◌≡◌, ◌⊎◌, ℕ, zero, suc, ◌<◌, ⊤, List, [], ◌∷◌, ◌++◌, Option, Some, None, Result, Ok, Err}
+use Rattle.std.specs.Prelude.{◌≡◌, ◌⊎◌, ℕ, zero, suc, ◌<◌, ◌≤◌, ⊤, List, [], ◌∷◌, ◌++◌, map, Option, Some, None, Result, Ok, Err}
 use Rattle.kube_meta.specs.declared.poll.Next.TheVariants.{Item, NotReady, Spent, End}
 use Rattle.kube_model.specs.declared.error.Error.{Error}
 use Rattle.kube_watch.specs.declared.stream.StreamFault.{StreamFault}
 use Rattle.kube_watch.specs.declared.stream.StreamFault.TheVariants.{NoMemory, Unnamed}
 use Rattle.kube_watch.specs.Streams.{Answer}
-use Rattle.kube_reflect.specs.Reflects.{fault_in}
+use Rattle.kube_watch.specs.Asking.{fault_in}
 
 -- what a stream gives: an item, or an error
 abbrev pub Told : Type 0 → Type 0
@@ -28,6 +28,11 @@ told_in (Err fault) = []
 abbrev pub all_told : {J : Type 0} → List (ℕ × ℕ × Answer J) → List (Told J)
 all_told [] = []
 all_told (p ∷ ps) = told_in p.2 ++ all_told ps
+
+-- moments that never fall, from one on
+abbrev pub NeverFall : ℕ → List ℕ → Type 0
+NeverFall from [] = ⊤
+NeverFall from (moment ∷ more) = (from ≤ moment) × NeverFall moment more
 
 -- a stream S, the state T of what is made of what it gives, what waits, and the fault that is answered from then on
 pub record Adapting (S T J : Type 0) : Type 0 where
@@ -124,3 +129,4 @@ module _ {S T I J : Type 0} (polls : S → ℕ → ℕ → Answer I → S → Ty
     pub given : List (Told J)
     pub came : Came a.stream a.adapt answers given b.stream b.adapt
     pub told : all_told ps ++ b.waiting ≡ a.waiting ++ given
+    pub moments : (from : ℕ) → NeverFall from (map (λ p. p.0) ps) → NeverFall from (map (λ x. x.0) answers)

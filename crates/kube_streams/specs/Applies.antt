@@ -9,7 +9,8 @@ use Rattle.kube_watch.specs.declared.stream.StreamFault.TheVariants.{NoMemory, U
 use Rattle.kube_watch.specs.Events.{event_map}
 use Rattle.kube_watch.specs.Streams.{Answer}
 use Rattle.kube_reflect.specs.Cached.{has_name}
-use Rattle.kube_reflect.specs.Reflects.{Asked, fault_in, with_event}
+use Rattle.kube_reflect.specs.Reflects.{with_event}
+use Rattle.kube_watch.specs.Asking.{Asked, fault_in}
 use Rattle.kube_reflect.specs.Writers.{Writing}
 use Rattle.kube_streams.specs.Adapts.{Told, all_told}
 use Rattle.kube_streams.specs.InOrder.{PassedOn}

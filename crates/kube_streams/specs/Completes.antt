@@ -1,14 +1,14 @@
 -- A stream at whose end a closure is called once. (Crate: `utils`.)
-use Rattle.std.specs.Prelude.{◌≡◌, ℕ, ⊤, Bool, true, false, cond, List, Option, Some, None, Ok, Err}
+use Rattle.std.specs.Prelude.{◌≡◌, ℕ, ⊤, Bool, true, false, cond, List, [], ◌∷◌, Option, Some, None, Ok, Err}
 use Rattle.std.specs.Fn.{Once, FnOnceReturns}
 use Rattle.std.specs.List.{list_any}
 use Rattle.kube_meta.specs.declared.poll.Next.TheVariants.{Item, NotReady, Spent, End}
 use Rattle.kube_watch.specs.Streams.{Answer}
 use Rattle.kube_watch.specs.declared.stream.StreamFault.{StreamFault}
-use Rattle.kube_reflect.specs.Reflects.{Asked, fault_in}
+use Rattle.kube_watch.specs.Asking.{Asked, fault_in}
 use Rattle.kube_streams.specs.InOrder.{PassedOn}
 
--- a stream S, the closure F until it is called, and the fault that is answered from then on
+-- a stream S, the closure F until it is called at the end, and the fault that is answered from then on
 pub record Completing (S F : Type 0) : Type 0 where
   pub stream : S
   pub f : Option F
@@ -51,6 +51,11 @@ is_end (Err fault) = false
 abbrev pub has_ended : {I : Type 0} → List (ℕ × ℕ × Answer I) → Bool
 has_ended ps = list_any (λ p. is_end p.2) ps
 
+-- every answer is the end, and nothing changed
+abbrev pub OnlyEnds : {S F I : Type 0} → Completing S F → List (ℕ × ℕ × Answer I) → Completing S F → Type 0
+OnlyEnds c [] d = d ≡ c
+OnlyEnds c (p ∷ ps) d = (p.2 ≡ Ok End) × OnlyEnds c ps d
+
 module _ {S F I : Type 0} (g : Once F (Unit {0}) (Unit {0})) (polls : S → ℕ → ℕ → Answer I → S → Type 0) where
   -- the stream is asked, and its answer is given
   pub record Passed (now fuel : ℕ) (c : Completing S F) (answer : Answer I) (d : Completing S F) : Type 0 where
@@ -59,10 +64,11 @@ module _ {S F I : Type 0} (g : Once F (Unit {0}) (Unit {0})) (polls : S → ℕ 
     pub f : d.f ≡ left_after c.f answer
     pub fault : d.fault ≡ fault_in answer
 
-  -- a poll: after a fault it answers only that
-  abbrev pub Completed : Option StreamFault → ℕ → ℕ → Completing S F → Answer I → Completing S F → Type 0
-  Completed (Some fault) now fuel c answer d = (answer ≡ Err fault) × (d ≡ c)
-  Completed None now fuel c answer d = Passed now fuel c answer d
+  -- a poll: after a fault it answers only that, and after the end only the end
+  abbrev pub Completed : Option StreamFault → Option F → ℕ → ℕ → Completing S F → Answer I → Completing S F → Type 0
+  Completed (Some fault) f now fuel c answer d = (answer ≡ Err fault) × (d ≡ c)
+  Completed None None now fuel c answer d = (answer ≡ Ok End) × (d ≡ c)
+  Completed None (Some f) now fuel c answer d = Passed now fuel c answer d
 
   -- ---- over many polls
 

@@ -1,10 +1,13 @@
 -- Objects that pass where a property of theirs changed. (Crate: `utils::PredicateFilter`.)
-use Rattle.std.specs.Prelude.{◌≡◌, ◌⊎◌, ◌≤◌, ℕ, ◌-◌, ⊤, Bool, true, false, not, ◌&&◌, cond, nat_lt, nat_eq, bytes_eq, List, [], ◌∷◌, map, Option, Some, None, Ok, Err, unwrap_or}
+use Rattle.std.specs.Prelude.{◌≡◌, ◌⊎◌, ℕ, ◌-◌, ⊤, Bool, true, false, not, ◌&&◌, cond, nat_lt, nat_eq, bytes_eq, List, [], ◌∷◌, ◌++◌, map, Option, Some, None, Ok, Err, unwrap_or, if◌then◌else◌}
 use Rattle.std.specs.Option.{option_eq}
 use Rattle.std.specs.Map.{lookup}
-use Rattle.std.specs.List.{slice_get}
+use Rattle.std.specs.List.{filter}
 use Rattle.kube_meta.specs.declared.metadata.ObjectMeta.{ObjectMeta}
-use Rattle.kube_streams.specs.Adapts.{Told}
+use Rattle.kube_meta.specs.declared.poll.Next.TheVariants.{Item, NotReady, Spent, End}
+use Rattle.kube_watch.specs.Streams.{Answer}
+use Rattle.kube_streams.specs.Adapts.{Told, Adapting, all_told}
+use Rattle.kube_streams.specs.InOrder.{Answered}
 
 -- what says which object it is: its name, empty where it has none, its namespace and its uid
 pub record Key : Type 0 where
@@ -57,24 +60,21 @@ IsForgotten ttl now old new =
 abbrev pub SameSights : Sights → Sights → Type 0
 SameSights a b = (key : Key) → a key ≡ b key
 
--- a predicate, the sights as they are kept, and the ttl in nanoseconds
+-- a predicate, the sights as they are kept, the ttl in nanoseconds, and when the sights that don't count were forgotten last
 pub record Filtering (P : Type 0) : Type 0 where
   pub predicate : P
   pub kept : List (Key × Sight)
   pub ttl : ℕ
+  pub evicted : ℕ
 
 abbrev pub sights_in : {P : Type 0} → Filtering P → Sights
 sights_in f = λ key. lookup (same_key key) f.kept
 
--- the sight at a place of what is kept is gone, if there was one
-abbrev pub IsRemovedAt : {P : Type 0} → ℕ → Filtering P → Filtering P → Type 0
-IsRemovedAt place f g =
-    SameSights (sights_in g) (sights_in f)
-    ⊎ ((e : Key × Sight) × (slice_get f.kept place ≡ Some e) × ((key : Key) → sights_in g key ≡ cond (same_key e.0 key) None (sights_in f key)))
-
--- the sight at a place of what is kept is the last one of its object, and doesn't count
-abbrev pub IsOldAt : {P : Type 0} → ℕ → ℕ → Filtering P → Type 0
-IsOldAt place now f = (e : Key × Sight) → slice_get f.kept place ≡ Some e → (sights_in f e.0 ≡ Some e.1) × (is_fresh f.ttl now e.1 ≡ false)
+-- as it is before it judges an object: where the ttl has passed since it forgot last, only the sights that count are kept
+abbrev pub swept : {P : Type 0} → ℕ → Filtering P → Filtering P
+swept now f =
+    if nat_lt (now - f.evicted) f.ttl then f
+    else record f { kept = filter (λ e. is_fresh f.ttl now e.1) f.kept; evicted = now }
 
 -- only sights changed
 abbrev pub KeepsSettings : {P : Type 0} → Filtering P → Filtering P → Type 0
@@ -97,14 +97,14 @@ abbrev pub Judged : ℕ → ℕ → Sights → Key → Option ℕ → Bool → S
 Judged ttl now sights key property passed after = (passed ≡ lets_pass ttl now sights key property) × SameSights after (sights_after now sights key property)
 
 module _ {P O : Type 0} (gives : P → O → Option ℕ → Type 0) (meta : O → ObjectMeta) where
-  -- an object is judged after some sights may be forgotten
+  -- an object is judged after the sights that don't count are forgotten, where that is due
   pub record JudgedAt (now : ℕ) (f : Filtering P) (object : O) (passed : Bool) (g : Filtering P) : Type 0 where
-    pub left : Sights
     pub property : Option ℕ
-    pub forgotten : IsForgotten f.ttl now (sights_in f) left
+    pub forgotten : IsForgotten f.ttl now (sights_in f) (sights_in (swept now f))
     pub given_by : gives f.predicate object property
-    pub judged : Judged f.ttl now left (filter_key (meta object)) property passed (sights_in g)
+    pub judged : Judged f.ttl now (sights_in (swept now f)) (filter_key (meta object)) property passed (sights_in g)
     pub settings : KeepsSettings f g
+    pub evicted : g.evicted ≡ (swept now f).evicted
 
   -- an object is given where it passes, and so is each error
   abbrev pub Filtered : {A : Type 0} → (A → O) → ℕ → Filtering P → Told A → List (Told A) → Filtering P → Type 0
@@ -130,11 +130,6 @@ Passing ttl sights [] bs = bs ≡ []
 Passing ttl sights (s ∷ ss) bs =
     (left : Sights) × (passed : Bool) × (after : Sights) × (rest : List Bool)
     × IsForgotten ttl s.at sights left × Judged ttl s.at left s.key s.value passed after × Passing ttl after ss rest × (bs ≡ passed ∷ rest)
-
--- moments that never fall, from one on
-abbrev pub NeverFall : ℕ → List ℕ → Type 0
-NeverFall from [] = ⊤
-NeverFall from (moment ∷ more) = (from ≤ moment) × NeverFall moment more
 
 -- an object that a filter judged at a moment, and whether it passed
 pub record Judgement (O : Type 0) : Type 0 where
@@ -164,3 +159,42 @@ module _ {P O : Type 0} (gives : P → O → Option ℕ → Type 0) (meta : O �
     pub showings : List Showing
     pub shown : AreShown f.predicate js showings
     pub passed : map (λ j. j.passed) js ≡ passing f.ttl (sights_in f) showings
+
+-- ---- the stream of a filter
+
+-- the objects that an answer gives, with its moment
+abbrev pub objects_in : {A O : Type 0} → (A → O) → ℕ → Answer A → List (ℕ × O)
+objects_in value now (Ok (Item (Ok object))) = (now, value object) ∷ []
+objects_in value now (Ok (Item (Err e))) = []
+objects_in value now (Ok NotReady) = []
+objects_in value now (Ok Spent) = []
+objects_in value now (Ok End) = []
+objects_in value now (Err fault) = []
+
+abbrev pub objects_of_all : {A O : Type 0} → (A → O) → List (ℕ × Answer A) → List (ℕ × O)
+objects_of_all value [] = []
+objects_of_all value (x ∷ xs) = objects_in value x.0 x.1 ++ objects_of_all value xs
+
+-- what is given of an answer, where this says of each object that is to come whether it passes, and what it says of those after
+abbrev pub through : {A : Type 0} → Answer A → List Bool → List (Told A) × List Bool
+through (Ok (Item (Ok object))) [] = ([], [])
+through (Ok (Item (Ok object))) (b ∷ bs) = (cond b (Ok object ∷ []) [], bs)
+through (Ok (Item (Err e))) bs = (Err e ∷ [], bs)
+through (Ok NotReady) bs = ([], bs)
+through (Ok Spent) bs = ([], bs)
+through (Ok End) bs = ([], bs)
+through (Err fault) bs = ([], bs)
+
+abbrev pub let_through : {A : Type 0} → List (ℕ × Answer A) → List Bool → List (Told A)
+let_through [] bs = []
+let_through (x ∷ xs) bs = (through x.1 bs).0 ++ let_through xs (through x.1 bs).1
+
+module _ {P O A S : Type 0} (gives : P → O → Option ℕ → Type 0) (meta : O → ObjectMeta) (value : A → O) (polls : S → ℕ → ℕ → Answer A → S → Type 0) where
+  -- what was given is what its stream gave without the objects that don't pass, and those pass that would if no sight were forgotten
+  pub record FilteredSoFar (a : Adapting S (Filtering P) A) (ps : List (ℕ × ℕ × Answer A)) (b : Adapting S (Filtering P) A) : Type 0 where
+    pub answers : List (ℕ × Answer A)
+    pub answered : Answered polls a.stream answers b.stream
+    pub judgements : List (Judgement O)
+    pub judged : map (λ j. (j.at, j.object)) judgements ≡ objects_of_all value answers
+    pub passed : PassedWithoutForgetting gives meta a.adapt judgements
+    pub told : all_told ps ++ b.waiting ≡ a.waiting ++ let_through answers (map (λ j. j.passed) judgements)

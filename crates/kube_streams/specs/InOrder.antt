@@ -1,7 +1,7 @@
 -- What a stream gives that passes on each answer of another one. (Crate: the streams of `WatchStreamExt`.)
 use Rattle.std.specs.Prelude.{◌≡◌, ℕ, List, [], ◌∷◌, ◌++◌}
 use Rattle.kube_watch.specs.Streams.{Answer}
-use Rattle.kube_reflect.specs.Reflects.{Asked}
+use Rattle.kube_watch.specs.Asking.{Asked}
 use Rattle.kube_streams.specs.Adapts.{Told, told_in, all_told}
 
 -- what answers give, in order

@@ -7,7 +7,7 @@ use Rattle.kube_watch.specs.declared.event.Event.{Event}
 use Rattle.kube_watch.specs.declared.event.Event.TheVariants.{Apply, Delete, Init, InitApply, InitDone}
 use Rattle.kube_watch.specs.declared.stream.StreamFault.{StreamFault}
 use Rattle.kube_watch.specs.Streams.{Answer}
-use Rattle.kube_reflect.specs.Reflects.{Asked, fault_in}
+use Rattle.kube_watch.specs.Asking.{Asked, fault_in}
 use Rattle.kube_streams.specs.Adapts.{Told, all_told}
 use Rattle.kube_streams.specs.InOrder.{Answered, answers_told}
 

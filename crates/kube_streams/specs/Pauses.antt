@@ -3,7 +3,7 @@ use Rattle.std.specs.Prelude.{◌≡◌, ℕ, ◌+◌, Bool, true, false, nat_lt
 use Rattle.kube_meta.specs.declared.poll.Next.TheVariants.{Item, NotReady, Spent, End}
 use Rattle.kube_watch.specs.declared.stream.StreamFault.{StreamFault}
 use Rattle.kube_watch.specs.Streams.{Answer}
-use Rattle.kube_reflect.specs.Reflects.{Asked, fault_in}
+use Rattle.kube_watch.specs.Asking.{Asked, fault_in}
 use Rattle.kube_streams.specs.Backoffs.{saturated}
 use Rattle.kube_streams.specs.declared.stream_backoff.State.{State}
 use Rattle.kube_streams.specs.declared.stream_backoff.State.TheVariants as states

@@ -1,7 +1,7 @@
 //! Streams made of other ones.
 
 ghost use Rattle.std.specs.Prelude.{◌≡◌, ◌≤◌, [], ◌∷◌, ◌++◌, None, Ok, OnOk};
-ghost use Rattle.kube_reflect.specs.Reflects.{Said};
+ghost use Rattle.kube_watch.specs.Asking.{Said};
 ghost use Rattle.kube_streams.specs.Adapts.{Asked, Comes, IsTaken};
 
 use kube_meta::{Moment, Next, NoMemory};
@@ -79,7 +79,8 @@ impl<S, T, J> Model for Adapted<S, T, J> {
 }
 
 impl<S, T, J> Adapted<S, T, J> {
-    pub(crate) fn new(alloc: Global, stream: S, adapt: T) -> Adapted<S, T, J>
+    /// What `adapt` makes of what `stream` gives. Nothing waits yet.
+    pub fn new(alloc: Global, stream: S, adapt: T) -> Adapted<S, T, J>
         ensures { result ≡ record { stream = stream; adapt = adapt; waiting = []; fault = None } }
     {
         Adapted {
@@ -165,12 +166,14 @@ impl<S: EventStream, J: Drop, T: Adapt<S::Item, J>> Adapted<S, T, J> {
 
 impl<S: EventStream, J: Drop, T: Adapt<S::Item, J>> EventStream for Adapted<S, T, J> {
     ghost use Rattle.std.specs.Prelude.{None};
-    ghost use Rattle.kube_reflect.specs.Reflects.{Said};
+    ghost use Rattle.kube_watch.specs.Asking.{Said};
     ghost use Rattle.kube_streams.specs.Adapts.{Adapted as IsAdapted};
 
     type Item = J;
 
     ghost told = { λ _. None };
+
+    ghost fault = { λ a. a.fault };
 
     ghost can_poll = { λ a. S.can_poll a.stream × T.may a.adapt };
 

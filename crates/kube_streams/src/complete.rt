@@ -4,12 +4,13 @@ ghost use Rattle.std.specs.Prelude.{◌≡◌, Some, None};
 ghost use Rattle.kube_streams.specs.Completes.{CanCall, IsCalledAt, WasCalled, left_after};
 
 use kube_meta::{Moment, Next};
-use kube_reflect::reflecting::{ask, fault_of};
+use kube_watch::stream::{ask, fault_of};
 use kube_watch::{Error, EventStream, StreamFault};
 use std::alloc::Global;
 use std::marker::Model;
 
-/// A stream that calls a closure once, when it ends (the `OnComplete` of kube-runtime's `utils`).
+/// A stream that calls a closure once, when it ends, and is not asked again after that (the `OnComplete` of kube-runtime's
+/// `utils`, which fuses its stream).
 #[derive(Drop)]
 pub struct OnComplete<S, F> {
     stream: S,
@@ -61,16 +62,18 @@ fn complete<F: FnOnce(), I>(f: &mut Option<F>, answer: &Result<Next<Result<I, Er
 
 impl<S: EventStream, F: FnOnce() + Drop> EventStream for OnComplete<S, F> {
     ghost use Rattle.std.specs.Prelude.{None};
-    ghost use Rattle.kube_reflect.specs.Reflects.{Said};
+    ghost use Rattle.kube_watch.specs.Asking.{Said};
     ghost use Rattle.kube_streams.specs.Completes.{CanCall, Completed};
 
     type Item = S::Item;
 
     ghost told = { λ _. None };
 
+    ghost fault = { λ c. c.fault };
+
     ghost can_poll = { λ c. S.can_poll c.stream × CanCall F.IsAlwaysCallable c.f };
 
-    ghost polls = { λ c now fuel answer d. Completed F.FnOnce (Said S.polls S.told) c.fault now fuel c answer d };
+    ghost polls = { λ c now fuel answer d. Completed F.FnOnce (Said S.polls S.told) c.fault c.f now fuel c answer d };
 
     fn poll_next(
         &mut self,
@@ -80,6 +83,9 @@ impl<S: EventStream, F: FnOnce() + Drop> EventStream for OnComplete<S, F> {
     ) -> Result<Next<Result<S::Item, Error>>, StreamFault> {
         if let Some(fault) = self.fault {
             return Err(fault);
+        }
+        if self.f.is_none() {
+            return Ok(Next::End);
         }
         let answer = ask(&mut self.stream, alloc, now, fuel);
         complete(&mut self.f, &answer);

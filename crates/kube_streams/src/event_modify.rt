@@ -5,7 +5,7 @@ ghost use Rattle.std.specs.Fn.{CalledAtMut};
 ghost use Rattle.kube_streams.specs.Modifies.{AnswerChanged, IsChanged};
 
 use kube_meta::{Moment, Next};
-use kube_reflect::reflecting::{ask, fault_of};
+use kube_watch::stream::{ask, fault_of};
 use kube_watch::{Error, Event, EventStream, StreamFault};
 use std::alloc::Global;
 use std::marker::Model;
@@ -81,12 +81,14 @@ fn answer_changed<T, F: FnMut(&mut T)>(
 impl<T: Drop, S: EventStream<Item = Event<T>>, F: FnMut(&mut T) + Drop> EventStream
     for EventModify<S, F> {
     ghost use Rattle.std.specs.Prelude.{None};
-    ghost use Rattle.kube_reflect.specs.Reflects.{Said};
+    ghost use Rattle.kube_watch.specs.Asking.{Said};
     ghost use Rattle.kube_streams.specs.Modifies.{Modified};
 
     type Item = Event<T>;
 
     ghost told = { λ _. None };
+
+    ghost fault = { λ m. m.fault };
 
     ghost can_poll = { λ m. S.can_poll m.stream × F.IsAlwaysCallable m.f };
 

@@ -6,11 +6,11 @@ ghost use Rattle.std.specs.declared.sync.Arc.{Arc as arc_data};
 ghost use Rattle.std.specs.declared.alloc.Global.{Global};
 ghost use Rattle.kube_watch.specs.declared.event.Event.{Event as event_data};
 ghost use Rattle.kube_watch.specs.Streams.{Answer as answer_data};
-ghost use Rattle.kube_reflect.specs.Reflects.{Said};
-ghost use Rattle.kube_streams.specs.Adapts.{Adapting, GivenSoFar, Polled};
+ghost use Rattle.kube_watch.specs.Asking.{Said};
+ghost use Rattle.kube_streams.specs.Adapts.{Adapting, GivenSoFar, NeverFall, Polled};
 ghost use Rattle.kube_streams.specs.Applies.{AppliedSoFar, Applying};
-ghost use Rattle.kube_streams.specs.Completes.{CompletedSoFar, Completing};
-ghost use Rattle.kube_streams.specs.Filters.{Filtering, Judgement, JudgedInTurn, NeverFall, PassedWithoutForgetting, Passing, Showing, Sights, passing};
+ghost use Rattle.kube_streams.specs.Completes.{CompletedSoFar, Completing, OnlyEnds};
+ghost use Rattle.kube_streams.specs.Filters.{Filtering, Judgement, FilteredSoFar, JudgedInTurn, PassedWithoutForgetting, Passing, Showing, Sights, passing};
 ghost use Rattle.kube_streams.specs.InOrder.{AskedInTurn, PassedOn, PolledInTurn};
 ghost use Rattle.kube_streams.specs.Modifies.{ModifiedSoFar, Modifying};
 ghost use Rattle.kube_streams.specs.Pauses.{Pausing};
@@ -21,6 +21,7 @@ use crate::backoff::Backoff;
 use crate::complete::OnComplete;
 use crate::event_modify::EventModify;
 use crate::predicate::Predicate;
+use crate::predicate_filter::PredicateFilter;
 use crate::reflect::Reflect;
 use crate::stream_backoff::StreamBackoff;
 use kube_meta::Resource;
@@ -70,6 +71,13 @@ pub fn on_complete_in_order<S: EventStream, F: FnOnce() + Drop>()
         → CompletedSoFar F.FnOnce (Said S.polls S.told) a ps b }
 {}
 
+/// Once an `OnComplete` answered the end, which took its closure, every later poll answers the end and changes nothing,
+/// whatever its stream would answer: so that isn't asked again.
+pub fn on_complete_is_fused<S: EventStream, F: FnOnce() + Drop>()
+    ensures { (a b : Completing S F) (ps : List (ℕ × ℕ × answer_data S.Item)) → a.fault ≡ None → a.f ≡ None
+        → PolledInTurn ⟦<OnComplete<S, F> as EventStream>⟧.polls a ps b → OnlyEnds a ps b }
+{}
+
 /// Two values combined are none exactly where both are.
 pub fn combined_is_none_where_both_are()
     ensures { (a b : Option ℕ) → (combined a b ≡ None) ↔ ((a ≡ None) × (b ≡ None)) }
@@ -95,4 +103,13 @@ pub fn forgetting_changes_nothing()
 pub fn filter_passes_as_if_it_forgot_nothing<K: Resource, P: Predicate<K>>()
     ensures { (from : ℕ) (f g : Filtering P) (js : List (Judgement K)) → NeverFall from (map (λ (j : Judgement K). j.at) js)
         → JudgedInTurn P.gives K.meta_of f js g → PassedWithoutForgetting P.gives K.meta_of f js }
+{}
+
+/// However the stream of a filter is polled, at moments that never fall and with whatever fuel: what it gave, and what
+/// waits, is what waited at first and then, in order, each error that its stream gave and each of its objects that would
+/// pass if the filter forgot no sight.
+pub fn filtered_in_order<K: Resource, S: EventStream<Item = Arc<K>>, P: Predicate<K>>()
+    ensures { (from : ℕ) (a b : Adapting S (Filtering P) (arc_data K Global)) (ps : List (ℕ × ℕ × answer_data (arc_data K Global))) → NeverFall from (map (λ p. p.0) ps)
+        → PolledInTurn ⟦<PredicateFilter<S, P> as EventStream>⟧.polls a ps b → b.fault ≡ None
+        → FilteredSoFar P.gives K.meta_of arc_value (Said S.polls S.told) a ps b }
 {}

@@ -20,6 +20,7 @@ pub mod split;
 pub mod stream_backoff;
 pub mod watch_ext;
 
+pub use adapted::{Adapt, Adapted};
 pub use backoff::Backoff;
 pub use backoff_reset_timer::{DefaultBackoff, ResetTimerBackoff};
 pub use complete::{OnComplete, on_complete};
@@ -27,7 +28,7 @@ pub use event_decode::EventDecode;
 pub use event_modify::EventModify;
 pub use exponential::ExponentialBackoff;
 pub use kube_watch::{EventStream, StreamFault};
-pub use plain_backoffs::{ConstantBackoff, LinearBackoff};
+pub use plain_backoffs::{ConstantBackoff, LinearBackoff, StopBackoff};
 pub use predicate::{Combine, Fallback, FnPredicate, Predicate};
 pub use predicate_filter::{PredicateConfig, PredicateFilter};
 pub use reflect::Reflect;

@@ -1,6 +1,6 @@
-//! Plain backoffs, for tests.
+//! Plain backoffs.
 
-ghost use Rattle.std.specs.Prelude.{◌≡◌, ◌+◌, Some};
+ghost use Rattle.std.specs.Prelude.{◌≡◌, ◌+◌, Some, None};
 ghost use Rattle.kube_streams.specs.Backoffs.{saturated};
 
 use crate::backoff::Backoff;
@@ -58,4 +58,22 @@ impl Backoff for LinearBackoff {
     fn reset(&mut self) {
         self.next = self.step;
     }
+}
+
+/// No delay at all: a stream with it is given up at its first error.
+#[derive(Clone, Copy, Debug, PartialEq, Eq)]
+pub struct StopBackoff;
+
+impl Backoff for StopBackoff {
+    ghost delay = { λ b now. None };
+
+    ghost delayed = { λ b now. b };
+
+    ghost restarted = { λ b. b };
+
+    fn next(&mut self, _now: Moment) -> Option<u64> {
+        None
+    }
+
+    fn reset(&mut self) {}
 }

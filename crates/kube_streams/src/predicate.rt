@@ -14,12 +14,13 @@ pub trait Predicate<K>: Drop {
     /// The values that it may give of an object.
     ghost gives: { Self → K → Option ℕ → Type 0 };
 
-    /// Whether it may be asked: one that calls a closure says so that the closure may be called.
-    ghost may: { Self → Type 0 } = { λ _. ⊤ };
+    /// Whether it may be asked of an object: one that calls a closure says so that the closure may be called, and one of
+    /// two parts says so which of them it asks.
+    ghost may: { Self → K → Type 0 } = { λ _ _. ⊤ };
 
     /// The value of an object's property; none where the object has no such property.
     fn hash_property(&self, obj: &K) -> Option<u64>
-        requires may { may self.now }
+        requires may { may self.now obj.now }
         ensures gives { gives self.now obj.now result };
 
     /// This property, and another one of the objects that don't have this one.
@@ -54,24 +55,27 @@ pub struct FnPredicate<F>(pub F);
 impl<K, F: Fn(&K) -> Option<u64>> Predicate<K> for FnPredicate<F> {
     ghost gives = { λ p object value. FnReturnsAt F.Fn p.0 object value };
 
-    ghost may = { λ p. F.IsAlwaysCallable p.0 };
+    ghost may = { λ p object. F.IsAlwaysCallable p.0 };
 
     fn hash_property(&self, obj: &K) -> Option<u64> {
         (self.0)(obj)
     }
 }
 
-/// A predicate, and another one where it gives none (what `Predicate::fallback` gives).
-#[derive(Drop)]
+/// A predicate, and another one where it gives none (what `Predicate::fallback` gives). The second is asked exactly of the
+/// objects of which the first gives none: so only of these it must be such that it may be asked.
+#[derive(Clone, Copy, Debug, Drop, PartialEq, Eq)]
 pub struct Fallback<A, B> {
     pub first: A,
     pub second: B,
 }
 
 impl<K, A: Predicate<K>, B: Predicate<K>> Predicate<K> for Fallback<A, B> {
+    ghost use Rattle.std.specs.Prelude.{None};
+
     ghost gives = { λ p object value. FallsBack (A.gives p.first object) (B.gives p.second object) value };
 
-    ghost may = { λ p. A.may p.first × B.may p.second };
+    ghost may = { λ p object. A.may p.first object × (A.gives p.first object None → B.may p.second object) };
 
     fn hash_property(&self, obj: &K) -> Option<u64> {
         match self.first.hash_property(obj) {
@@ -82,7 +86,7 @@ impl<K, A: Predicate<K>, B: Predicate<K>> Predicate<K> for Fallback<A, B> {
 }
 
 /// Two predicates, both of which count (what `Predicate::combine` gives).
-#[derive(Drop)]
+#[derive(Clone, Copy, Debug, Drop, PartialEq, Eq)]
 pub struct Combine<A, B> {
     pub first: A,
     pub second: B,
@@ -124,7 +128,7 @@ fn combined(a: Option<u64>, b: Option<u64>) -> Option<u64>
 impl<K, A: Predicate<K>, B: Predicate<K>> Predicate<K> for Combine<A, B> {
     ghost gives = { λ p object value. Combines (A.gives p.first object) (B.gives p.second object) value };
 
-    ghost may = { λ p. A.may p.first × B.may p.second };
+    ghost may = { λ p object. A.may p.first object × B.may p.second object };
 
     fn hash_property(&self, obj: &K) -> Option<u64> {
         let a = self.first.hash_property(obj);

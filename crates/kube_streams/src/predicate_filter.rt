@@ -3,7 +3,7 @@
 ghost use Rattle.std.specs.Prelude.{◌≡◌, ◌∷◌, [], ◌<◌, IfOk, OnOk, OnErr, Ok, cond, true};
 ghost use Rattle.std.specs.Arc.{arc_value};
 ghost use Rattle.kube_streams.specs.Adapts.{IsTaken};
-ghost use Rattle.kube_streams.specs.Filters.{Filtered, IsForgotten, IsOldAt, JudgedAt, IsRemovedAt, KeepsSettings, SameSights, filter_key, is_fresh as is_fresh_at, passes, sights_in, with_sight};
+ghost use Rattle.kube_streams.specs.Filters.{Filtered, IsForgotten, JudgedAt, KeepsSettings, SameSights, filter_key, is_fresh as is_fresh_at, passes, sights_in, swept, with_sight};
 
 use crate::adapted::{Adapt, Adapted, wait};
 use crate::predicate::Predicate;
@@ -127,7 +127,7 @@ impl<P> Model for Filter<P> {
 
     ghost Value = { Filtering P };
 
-    ghost view = { λ f. record { predicate = f.predicate; kept = f.cache.entries; ttl = f.ttl } };
+    ghost view = { λ f. record { predicate = f.predicate; kept = f.cache.entries; ttl = f.ttl; evicted = f.last_evicted.0 } };
 }
 
 /// What says which object it is.
@@ -157,7 +157,7 @@ fn is_fresh(entry: &CacheEntry, ttl: u64, now: Moment) -> bool
 
 impl<P> Filter<P> {
     pub(crate) fn new(alloc: Global, predicate: P, config: PredicateConfig) -> Filter<P>
-        ensures { result ≡ record { predicate = predicate; kept = []; ttl = config.ttl } }
+        ensures { result ≡ record { predicate = predicate; kept = []; ttl = config.ttl; evicted = 0 } }
     {
         Filter {
             predicate,
@@ -183,6 +183,7 @@ impl<P> Filter<P> {
         ensures passes { IfOk result (λ b. b ≡ passes self.old.ttl now.0 (sights_in self.old key) value) }
         ensures seen { OnOk result (SameSights (sights_in self.new) (with_sight (sights_in self.old) key (record { value = value; seen = now.0 }))) }
         ensures settings { KeepsSettings self.old self.new }
+        ensures evicted { self.new.evicted ≡ self.old.evicted }
     {
         let passed = self.is_changed(now, &key, value);
         let entry = CacheEntry {
@@ -193,47 +194,23 @@ impl<P> Filter<P> {
         Ok(passed)
     }
 
-    // Whether the sight at a place doesn't count.
-    fn is_old_at(&self, place: usize, now: Moment) -> bool
-        ensures { result ≡ true → IsOldAt place now.0 self.now }
-    {
-        match self.cache.get_index(place) {
-            Some((_key, entry)) => !is_fresh(entry, self.ttl, now),
-            None => false,
-        }
-    }
-
-    // Forgets the sight at a place.
-    fn remove_at(&mut self, place: usize)
-        ensures removed { IsRemovedAt place self.old self.new }
-        ensures settings { KeepsSettings self.old self.new }
-    {
-        let removed = self.cache.swap_remove_index(place);
-        drop(removed);
-    }
-
-    // Forgets the sight at a place if it doesn't count.
-    fn evict_at(&mut self, place: usize, now: Moment)
-        ensures forgotten { IsForgotten self.old.ttl now.0 (sights_in self.old) (sights_in self.new) }
-        ensures settings { KeepsSettings self.old self.new }
-    {
-        if self.is_old_at(place, now) {
-            self.remove_at(place);
-        }
-    }
-
-    // Forgets the sights that don't count, once in a while.
+    // Forgets the sights that don't count, if so long passed since it did that last.
     fn evict(&mut self, now: Moment)
+        ensures swept { self.new ≡ swept now.0 self.old }
         ensures forgotten { IsForgotten self.old.ttl now.0 (sights_in self.old) (sights_in self.new) }
-        ensures settings { KeepsSettings self.old self.new }
     {
-        if now.0.saturating_sub(self.last_evicted.0) < self.ttl {
+        let ttl = self.ttl;
+        if now.0.saturating_sub(self.last_evicted.0) < ttl {
             return;
         }
         self.last_evicted = now;
-        for place in (0..self.cache.len()).rev() {
-            self.evict_at(place, now);
-        }
+        // no two of its keys are equal
+        let _count = self.cache.len();
+        self.cache.retain(
+            |_key: &PredicateCacheKey, entry: &mut CacheEntry| -> bool
+                ensures { (result ≡ is_fresh_at ttl now.0 entry.old) × (entry.new ≡ entry.old) }
+            { is_fresh(entry, ttl, now) },
+        );
     }
 }
 
@@ -247,8 +224,8 @@ impl<P> Filter<P> {
     ) -> Result<bool, NoMemory>
     where
         P: Predicate<K>,
-        requires may { P.may self.old.predicate }
-        ensures may { P.may self.new.predicate }
+        requires may { P.may self.old.predicate object.now }
+        ensures same { self.new.predicate ≡ self.old.predicate }
         ensures judged { IfOk result (λ passed. JudgedAt P.gives K.meta_of now.0 self.old object.now passed self.new) }
     {
         self.evict(now);
@@ -270,7 +247,7 @@ impl<K: Resource, P: Predicate<K>> Adapt<Arc<K>, Arc<K>> for Filter<P> {
 
     ghost takes = { λ now f told given g. Filtered P.gives K.meta_of arc_value now f told given g };
 
-    ghost may = { λ f. P.may f.predicate };
+    ghost may = { λ f. (object : K) → P.may f.predicate object };
 
     fn take(
         &mut self,
@@ -279,9 +256,9 @@ impl<K: Resource, P: Predicate<K>> Adapt<Arc<K>, Arc<K>> for Filter<P> {
         told: Result<Arc<K>, Error>,
         waiting: &mut VecDeque<Result<Arc<K>, Error>>,
     ) -> Result<(), StreamFault>
-        requires may { P.may self.old.predicate }
+        requires may { (object : K) → P.may self.old.predicate object }
         requires none { waiting.old.items ≡ [] }
-        ensures may { P.may self.new.predicate }
+        ensures may { (object : K) → P.may self.new.predicate object }
         ensures taken { IsTaken (Filtered P.gives K.meta_of arc_value now.0 self.old told waiting.new.items self.new) ⊥ result }
     {
         match told {

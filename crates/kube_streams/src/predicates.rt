@@ -20,7 +20,8 @@ fn map_value(tag: u8, map: &Option<TextMap>) -> u64
     fold.finish()
 }
 
-/// The generation, which the API server counts up where the desired state changes. None where there is none.
+/// The generation, which the API server counts up where the desired state changes. None where there is none. The
+/// object of a `Delete` may have the generation that was seen before, and is then kept back.
 pub fn generation<K: Resource>(obj: &K) -> Option<u64>
     ensures { result ≡ generation_value (K.meta_of obj.now) }
 {

@@ -5,8 +5,8 @@ ghost use Rattle.std.specs.Arc.{arc_value};
 ghost use Rattle.kube_streams.specs.Applies.{AnswerApplied, IsApplied};
 
 use kube_meta::{Moment, Next, Resource};
-use kube_reflect::reflecting::{ask, fault_of};
 use kube_reflect::{WriteError, Writer};
+use kube_watch::stream::{ask, fault_of};
 use kube_watch::{Error, Event, EventStream, StreamFault};
 use std::alloc::Global;
 use std::marker::Model;
@@ -100,12 +100,14 @@ fn answer_applied<K: Resource>(
 impl<K: Resource, S: EventStream<Item = Event<Arc<K>>>> EventStream for Reflect<S, K> {
     ghost use Rattle.std.specs.Prelude.{None};
     ghost use Rattle.std.specs.Arc.{arc_value};
-    ghost use Rattle.kube_reflect.specs.Reflects.{Said};
+    ghost use Rattle.kube_watch.specs.Asking.{Said};
     ghost use Rattle.kube_streams.specs.Applies.{Applied};
 
     type Item = Event<Arc<K>>;
 
     ghost told = { λ _. None };
+
+    ghost fault = { λ r. r.fault };
 
     ghost can_poll = { λ r. S.can_poll r.stream };
 

@@ -7,6 +7,8 @@ use kube_meta::NoMemory;
 use std::alloc::Global;
 
 /// What is ok, and what is an error, each in order (for kube-runtime's `trystream_split_result`).
+///
+/// Errors: `NoMemory`.
 pub fn split_result<T: Drop, E: Drop>(
     alloc: Global,
     items: Vec<Result<T, E>>,

@@ -2,11 +2,11 @@
 
 ghost use Rattle.std.specs.Prelude.{◌≡◌, ◌≤◌, ◌≤◌, None};
 ghost use Rattle.kube_streams.specs.Pauses.{Passed, backoff_after, state_after};
-ghost use Rattle.kube_reflect.specs.Reflects.{Said, fault_in};
+ghost use Rattle.kube_watch.specs.Asking.{Said, fault_in};
 
 use crate::backoff::Backoff;
 use kube_meta::{Moment, Next};
-use kube_reflect::reflecting::ask;
+use kube_watch::stream::ask;
 use kube_watch::{Error, EventStream, StreamFault};
 use std::alloc::Global;
 use std::marker::Model;
@@ -95,12 +95,14 @@ impl<S: EventStream, B: Backoff> StreamBackoff<S, B> {
 
 impl<S: EventStream, B: Backoff> EventStream for StreamBackoff<S, B> {
     ghost use Rattle.std.specs.Prelude.{None};
-    ghost use Rattle.kube_reflect.specs.Reflects.{Said};
+    ghost use Rattle.kube_watch.specs.Asking.{Said};
     ghost use Rattle.kube_streams.specs.Pauses.{Paused};
 
     type Item = S::Item;
 
     ghost told = { λ _. None };
+
+    ghost fault = { λ p. p.fault };
 
     ghost can_poll = { λ p. S.can_poll p.stream };
 

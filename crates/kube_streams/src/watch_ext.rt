@@ -37,7 +37,7 @@ pub trait WatchStreamExt: EventStream {
         StreamBackoff::new(self, b)
     }
 
-    /// The objects of `Apply` and `InitApply`.
+    /// The objects of `Apply` and `InitApply`, those of a list as they come.
     final fn applied_objects(self, alloc: Global) -> EventDecode<Self>
     where
         Self: Sized,
@@ -78,6 +78,10 @@ pub trait WatchStreamExt: EventStream {
     }
 
     /// The objects of which a property changed, by a predicate, and the errors.
+    ///
+    /// A deleted object is judged like any other, so a predicate that looks at what a deletion leaves alone, as the
+    /// generation or the labels, keeps the deletion back. Where deletions must come through take `resource_version`; where
+    /// something is to be done before an object goes, use a finalizer.
     final fn predicate_filter<P>(
         self,
         alloc: Global,
@@ -86,7 +90,7 @@ pub trait WatchStreamExt: EventStream {
     ) -> PredicateFilter<Self, P>
     where
         Self: Sized,
-        ensures { result ≡ record { stream = self; adapt = record { predicate = p; kept = []; ttl = config.ttl }; waiting = []; fault = None } }
+        ensures { result ≡ record { stream = self; adapt = record { predicate = p; kept = []; ttl = config.ttl; evicted = 0 }; waiting = []; fault = None } }
     {
         Adapted::new(alloc, self, Filter::new(alloc, p, config))
     }
@@ -100,7 +104,8 @@ pub trait WatchStreamExt: EventStream {
         Reflect::new(self, writer)
     }
 
-    /// The events, each applied to the writer and offered to its subscribers first.
+    /// The events, each applied to the writer and offered to its subscribers first. A subscriber that lags behind by all
+    /// its room holds the stream back.
     final fn reflect_shared<K: Resource>(self, writer: Writer<K>) -> Reflector<K, Self>
     where
         Self: Sized,

@@ -1,4 +1,5 @@
 pub mod Annotations
+pub mod Asking
 pub mod Idling
 pub mod Made
 pub mod Orders

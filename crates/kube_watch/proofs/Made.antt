@@ -6,16 +6,18 @@ use Rattle.kube_model.specs.declared.call.Call.TheVariants.{List as ListCall, Wa
 use Rattle.kube_model.specs.declared.call.Answer.{Answer}
 use Rattle.kube_model.specs.World.{Settings, version_zero}
 use Rattle.kube_model.specs.History.{Exchange, Dated}
-use Rattle.kube_model.specs.Owed.{is_initial, is_next, seen}
-use Rattle.kube_model.specs.Fits.{answers}
+use Rattle.kube_model.specs.Owed.{is_initial, is_next, mark, seen}
+use Rattle.kube_model.specs.Fits.{answers, error_of, has_references}
 use Rattle.kube_watch.specs.declared.state.State.{State}
 use Rattle.kube_watch.specs.declared.state.State.TheVariants.{Empty, InitPage, InitialWatch, InitListed, Watching}
-use Rattle.kube_watch.specs.declared.unit.Unit.{Unit as Unit'}
-use Rattle.kube_watch.specs.Agrees.{asks_api}
+use Rattle.kube_watch.specs.declared.unit.Exchange.{Exchange as Asked}
+use Rattle.std.specs.List.{flat_map}
+use Rattle.kube_watch.specs.declared.event.Event.{Event}
+use Rattle.kube_watch.specs.Agrees.{asks_api, objects_of}
 use Rattle.kube_watch.specs.States.{call_in, is_initial_in, state_after, since_after}
 use Rattle.kube_watch.specs.Stands.{IsIn, Stands, exchanges_in, row_of}
 use Rattle.kube_watch.specs.Table.{Row, table}
-use Rattle.kube_watch.specs.Units.{IsMade, exchange_of, events_of}
+use Rattle.kube_watch.specs.Units.{IsMade, as_exchange}
 use Rattle.kube_watch.proofs.Rows.{agrees-at}
 use Rattle.kube_watch.proofs.Steps.{stands-push}
 
@@ -23,11 +25,11 @@ start-look : (b : Bool) → is_next (if b then Watch version_zero true else List
 start-look true = refl
 start-look false = refl
 
-start-asks : (b : Bool) → asks_api (if b then Watch version_zero true else ListCall None) ≡ true
+pub start-asks : (b : Bool) → asks_api (if b then Watch version_zero true else ListCall None) ≡ true
 start-asks true = refl
 start-asks false = refl
 
-asks-in : (settings : Settings) (s : State) → asks_api (call_in settings s) ≡ true
+pub asks-in : (settings : Settings) (s : State) → asks_api (call_in settings s) ≡ true
 asks-in settings Empty = start-asks settings.streaming
 asks-in settings (InitPage token) = refl
 asks-in settings InitialWatch = refl
@@ -51,18 +53,39 @@ module _ {O : Type 0} (settings : Settings) (k : List ℕ) where
   table-in (InitListed version) i c a items same within = no-look false i c a items (ap is_next same)
   table-in (Watching version) i c a items same within = ap (λ j. table settings k j c a items) (sym within.0)
 
-module _ {V : Type 0} (settings : Settings) (s : State) (since : Option ℕ) (now : ℕ) (u : Unit' V) (to : State) (left : Option ℕ) (made : IsMade settings s since now u to left) (ds : List (Dated V)) (h : Stands settings s since ds) where
-  same-row : table settings (seen (exchanges_in ds)) (is_initial_in s) u.call u.answer (map arc_value u.items) ≡ row_of settings (exchanges_in ds) (exchange_of u)
+-- a state whose call is a look says to which watch it belongs
+next-start : (P : Type 0) (b : Bool) → IsTrue (is_next (if b then Watch version_zero true else ListCall None)) → P
+next-start P true next = absurd (cc)
+next-start P false next = absurd (cc)
+
+pub initial-in : (settings : Settings) (s : State) (i : Bool) (k : List ℕ) → IsIn s i k → IsTrue (is_next (call_in settings s)) → is_initial_in s ≡ i
+initial-in settings Empty i k within next = next-start (false ≡ i) settings.streaming next
+initial-in settings (InitPage token) i k within next = absurd (cc)
+initial-in settings InitialWatch i k within next = sym within
+initial-in settings (InitListed version) i k within next = absurd (cc)
+initial-in settings (Watching version) i k within next = sym within.0
+
+module _ {V : Type 0} (settings : Settings) (s : State) (since : Option ℕ) (now : ℕ) (u : Asked V) (to : State) (left : Option ℕ) (made : IsMade settings s since now u to left) (ds : List (Dated V)) (h : Stands settings s since ds) where
+  same-row : table settings (seen (exchanges_in ds)) (is_initial_in s) u.call u.answer (map arc_value u.items) ≡ row_of settings (exchanges_in ds) (as_exchange u)
   same-row = table-in settings (seen (exchanges_in ds)) s (is_initial (exchanges_in ds)) u.call u.answer (map arc_value u.items) made.owes h.within
 
-  pub made-events : events_of u ≡ (row_of settings (exchanges_in ds) (exchange_of u)).events
-  made-events = made.events (seen (exchanges_in ds)) ∙ ap (λ (r : Row V). r.events) same-row
+  asks : asks_api u.call ≡ true
+  asks = ap asks_api made.owes ∙ asks-in settings s
 
-  pub made-error : u.error ≡ (row_of settings (exchanges_in ds) (exchange_of u)).error
+  pub made-row : table settings (seen (exchanges_in ds)) u.initial u.call u.answer (map arc_value u.items) ≡ row_of settings (exchanges_in ds) (as_exchange u)
+  made-row = ap (λ i. table settings (seen (exchanges_in ds)) i u.call u.answer (map arc_value u.items)) made.initial ∙ same-row
+
+  pub made-initial : IsTrue (is_next u.call) → u.initial ≡ is_initial (exchanges_in ds)
+  made-initial next = made.initial ∙ initial-in settings s (is_initial (exchanges_in ds)) (seen (exchanges_in ds)) h.within (subst (λ c. IsTrue (is_next c)) made.owes next)
+
+  pub made-error : u.error ≡ (row_of settings (exchanges_in ds) (as_exchange u)).error
   made-error =
       made.error
-      ∙ (sym (agrees-at settings (is_initial_in s) (seen (exchanges_in ds)) (exchange_of u) (ap asks_api made.owes ∙ asks-in settings s) made.answered).error
+      ∙ (sym (agrees-at settings (is_initial_in s) (seen (exchanges_in ds)) (as_exchange u) asks made.answered).error
       ∙ ap (λ (r : Row V). r.error) same-row)
+
+  pub made-fails : u.error ≡ error_of (mark (exchanges_in ds) (as_exchange u))
+  made-fails = made-error ∙ (agrees-at settings (is_initial (exchanges_in ds)) (seen (exchanges_in ds)) (as_exchange u) asks made.answered).error
 
   pub made-stands : (x : Exchange V) → x.call ≡ u.call → x.answer ≡ u.answer → Stands settings to left (ds ++ record { at = now; exchange = x } ∷ [])
   made-stands x same-call same-answer =
@@ -73,3 +96,9 @@ module _ {V : Type 0} (settings : Settings) (s : State) (since : Option ℕ) (no
       (subst (λ l. Stands settings (state_after s x.answer) l (ds ++ d ∷ []))
       (ap (λ c. since_after since now c x.answer) same-call ∙ (ap (since_after since now u.call) same-answer ∙ sym made.silent))
       (stands-push settings s since ds d h (same-call ∙ made.owes) ok))
+
+-- of what objects the events of an exchange tell
+pub told-objects : {V : Type 0} (settings : Settings) (before : List (Exchange V)) (x : Exchange V) (events : List (Event V)) → asks_api x.call ≡ true → IsTrue (answers x.call x.answer)
+    → events ≡ (row_of settings before x).events → flat_map objects_of events ≡ (if has_references (mark before x) then x.items else [])
+told-objects settings before x events asks ok same =
+    ap (flat_map objects_of) same ∙ (agrees-at settings (is_initial before) (seen before) x asks ok).objects

@@ -1,15 +1,17 @@
 -- What the exchanges of one poll of an object come to.
-use Rattle.std.proofs.Common.{◌≡◌, ℕ, ◌+◌, ◌<◌, Bool, true, false, not, List, [], ◌∷◌, ◌++◌, Some, None, refl, sym, ap, ◌∙◌, subst, append_assoc, append-nil}
+use Rattle.std.proofs.Common.{◌≡◌, ℕ, ◌+◌, ◌<◌, length, Bool, true, false, not, List, [], ◌∷◌, ◌++◌, Some, None, refl, sym, ap, ◌∙◌, subst, append_assoc, append-nil, arith}
+use Rattle.std.proofs.lemmas.List.{length-append}
 use Rattle.kube_meta.specs.declared.poll.Next.{Next}
 use Rattle.kube_meta.specs.declared.poll.Next.TheVariants.{Item, NotReady, Spent}
-use Rattle.kube_model.specs.World.{Settings}
+use Rattle.kube_model.specs.World.{Settings, Watched}
 use Rattle.kube_model.specs.History.{Dated, Exchange}
-use Rattle.kube_model.specs.Owed.{is_not_ready}
+use Rattle.kube_model.specs.Owed.{is_not_ready, owed}
+use Rattle.kube_watch.specs.Calls.{IsAskedOnce}
 use Rattle.kube_watch.specs.Stands.{StandsFor, exchanges_in, row_of, settings_in}
 use Rattle.kube_watch.specs.Watching.{Told, Watching}
-use Rattle.kube_watch.specs.Polls.{look_of, answered_by, polled, told_by, Api, Exchanged, Filled}
+use Rattle.kube_watch.specs.Polls.{look_of, answered_by, polled, told_by, Api, Exchanged, Lost, Filled}
 use Rattle.kube_watch.specs.Objects.{Found, answer_to, answers_to, answers_in, held_after, held_by, held_through, is_held, object_looks, with_answer, Observing, PolledObject}
-use Rattle.kube_watch.proofs.Polls.{quiets, quiets-snoc, ended_by, answered-then, answered-quiet, look-unready, look-ready, exchanged-none, exchanged-more, exchanged-as, told-last}
+use Rattle.kube_watch.proofs.Polls.{quiets, quiets-snoc, ended_by, answered-then, answered-quiet, look-unready, look-ready, exchanged-none, exchanged-more, exchanged-as, told-last, lost-after}
 
 module _ {V : Type 0} (settings : Settings) where
   looks-snoc : (held : Bool) (before xs : List (Exchange V)) (x : Exchange V)
@@ -43,6 +45,7 @@ module _ {A V : Type 0} (api : Api A V) (now : ℕ) where
   pub record AllQuiet (n : ℕ) (old o : Observing A V) : Type 0 where
     pub exchanges : List (Exchange V)
     pub exchanged : Exchanged api now old.watcher exchanges o.watcher
+    pub count : length exchanges ≡ n
     pub quiet : (ds : List (Dated V)) → StandsFor ds old.watcher → object_looks (settings_in old.watcher) (is_held old) (exchanges_in ds) exchanges ≡ quiets n
     pub waiting : o.watcher.waiting ≡ []
     pub held : (ds : List (Dated V)) → StandsFor ds old.watcher → o.held ≡ held_through (settings_in old.watcher) (is_held old) (exchanges_in ds) exchanges
@@ -51,6 +54,7 @@ module _ {A V : Type 0} (api : Api A V) (now : ℕ) where
   none-made o none = record {
     exchanges = [];
     exchanged = exchanged-none api now o.watcher;
+    count = refl;
     quiet = λ ds h. refl;
     waiting = none;
     held = λ ds h. sym (ap (held_by o.held) none);
@@ -61,6 +65,7 @@ module _ {A V : Type 0} (api : Api A V) (now : ℕ) where
     pub exchanges : List (Exchange V)
     pub last : Exchange V
     pub exchanged : Exchanged api now old.watcher (exchanges ++ last ∷ []) o.watcher
+    pub count : length exchanges ≡ n
     pub looked : (ds : List (Dated V)) → StandsFor ds old.watcher
         → object_looks (settings_in old.watcher) (is_held old) (exchanges_in ds) (exchanges ++ last ∷ []) ≡ quiets n ++ look_of (answers_in o) last.answer ∷ []
     pub ready : was_ready ≡ not (is_not_ready last.answer)
@@ -74,6 +79,7 @@ module _ {A V : Type 0} (api : Api A V) (now : ℕ) where
         exchanges = q.exchanges;
         last = f.exchange;
         exchanged = exchanged-more api now old.watcher o.watcher w q.exchanges was_ready q.exchanged f;
+        count = q.count;
         looked = λ ds h.
             looks-snoc settings (is_held old) (exchanges_in ds) q.exchanges f.exchange
             ∙ (ap (λ ls. ls ++ look_of (answers_to (held_through settings (is_held old) (exchanges_in ds) q.exchanges) (told_by (row_of settings (exchanges_in ds ++ q.exchanges) f.exchange))) f.exchange.answer ∷ []) (q.quiet ds h)
@@ -121,6 +127,7 @@ module _ {A V : Type 0} (api : Api A V) (now : ℕ) where
   went-on n old o new b m first left same held ready = record {
     exchanges = m.exchanges ++ m.last ∷ [];
     exchanged = exchanged-as api now old.watcher o.watcher new.watcher (m.exchanges ++ m.last ∷ []) m.exchanged same;
+    count = length-append m.exchanges (m.last ∷ []) ∙ ap (λ k. k + 1) m.count;
     quiet = λ ds h.
         m.looked ds h
         ∙ (ap (λ ws. quiets n ++ look_of ws m.last.answer ∷ []) first
@@ -138,6 +145,15 @@ module _ {A V : Type 0} (api : Api A V) (now : ℕ) where
         ∙ (ap (answered_by fuel) (q.quiet ds h) ∙ (ap (λ k. answered_by fuel (quiets k)) all ∙ (answered-quiet fuel ∙ ap (λ ts. Some (Spent, answers_to o.held ts)) (sym q.waiting))));
     held = λ ds h. ap (held_by o.held) q.waiting ∙ q.held ds h;
   }
+
+  -- memory could not be had after these
+  pub lost-quiet : (n fuel : ℕ) (old o v : Observing A V) (new : Watching A V) → v ≡ o → AllQuiet n old o → n < fuel
+      → ((ds : List (Dated V)) → StandsFor ds v.watcher
+      → IsAskedOnce (settings_in v.watcher) (owed (Watched (settings_in v.watcher)) (exchanges_in ds)) (api.talk v.watcher.api) (api.talk new.api))
+      → Lost api now fuel old.watcher new
+  lost-quiet n fuel old o v new same q less lost =
+      lost-after api now fuel old.watcher v.watcher new q.exchanges (subst (λ (u : Observing A V). Exchanged api now old.watcher q.exchanges u.watcher) (sym same) q.exchanged)
+      (let k = q.count in omega arith) lost
 
   -- the first answer to what waits is given without an exchange
   pub given-first : (fuel : ℕ) (old new : Observing A V) (found : Found V) → answers_in old ≡ found ∷ answers_in new → new.watcher ≡ record old.watcher { waiting = new.watcher.waiting }

@@ -1,16 +1,18 @@
 -- What the exchanges of one poll come to.
-use Rattle.std.proofs.Common.{◌≡◌, ℕ, zero, suc, ◌+◌, ◌<◌, Bool, true, false, not, List, [], ◌∷◌, ◌++◌, map, Option, Some, None, refl, sym, ap, ◌∙◌, subst, append_assoc, append-nil, arith}
+use Rattle.std.proofs.Common.{◌≡◌, ℕ, zero, suc, ◌+◌, ◌<◌, ◌≤◌, length, Bool, true, false, not, List, [], ◌∷◌, ◌++◌, map, Option, Some, None, refl, sym, ap, ◌∙◌, subst, append_assoc, append-nil, inl, arith}
+use Rattle.std.proofs.lemmas.List.{length-append}
 use Rattle.kube_meta.specs.declared.poll.Next.{Next}
 use Rattle.kube_meta.specs.declared.poll.Next.TheVariants.{Item, NotReady, Spent}
 use Rattle.kube_model.specs.declared.call.Answer.{Answer}
 use Rattle.kube_model.specs.declared.call.Answer.TheVariants.{Page, Opened, Added, Modified, Deleted, Bookmark, ErrorItem, Fault, End, NotReady as Unready, Idle, Item as StreamItem, Spent as StreamSpent}
-use Rattle.kube_model.specs.World.{Settings}
+use Rattle.kube_model.specs.World.{Settings, Watched}
 use Rattle.kube_model.specs.History.{Dated, Exchange}
-use Rattle.kube_model.specs.Owed.{is_not_ready}
+use Rattle.kube_model.specs.Owed.{is_not_ready, owed}
+use Rattle.kube_watch.specs.Calls.{IsAskedOnce}
 use Rattle.kube_watch.specs.Configs.{settings_of}
 use Rattle.kube_watch.specs.Stands.{StandsFor, exchanges_in, row_of, settings_in}
 use Rattle.kube_watch.specs.Watching.{Told, Watching}
-use Rattle.kube_watch.specs.Polls.{Look, Tells, Waits, Quiet, look_of, answered_by, polled, told_by, looks, IsNext, AreNext, dated_now, Api, IsCall, AreCalls, Exchanged, Polled, Filled}
+use Rattle.kube_watch.specs.Polls.{Look, Tells, Waits, Quiet, look_of, answered_by, polled, told_by, looks, IsNext, AreNext, dated_now, Api, IsCall, AreCalls, Exchanged, Lost, Polled, Filled}
 
 -- so many exchanges that tell nothing
 abbrev pub quiets : {T : Type 0} → ℕ → List (Look T)
@@ -153,17 +155,19 @@ module _ {A V : Type 0} (api : Api A V) (now : ℕ) where
   pub record AllQuiet (n : ℕ) (old w : Watching A V) : Type 0 where
     pub exchanges : List (Exchange V)
     pub exchanged : Exchanged api now old exchanges w
+    pub count : length exchanges ≡ n
     pub quiet : (ds : List (Dated V)) → StandsFor ds old → looks (settings_in old) (exchanges_in ds) exchanges ≡ quiets n
     pub waiting : w.waiting ≡ []
 
   pub none-made : (w : Watching A V) → w.waiting ≡ [] → AllQuiet 0 w w
-  none-made w none = record { exchanges = []; exchanged = exchanged-none w; quiet = λ ds h. refl; waiting = none }
+  none-made w none = record { exchanges = []; exchanged = exchanged-none w; count = refl; quiet = λ ds h. refl; waiting = none }
 
   -- one more exchange, whatever it tells
   pub record OneMore (n : ℕ) (old w : Watching A V) (was_ready : Bool) : Type 0 where
     pub exchanges : List (Exchange V)
     pub last : Exchange V
     pub exchanged : Exchanged api now old (exchanges ++ last ∷ []) w
+    pub count : length exchanges ≡ n
     pub looked : (ds : List (Dated V)) → StandsFor ds old → looks (settings_in old) (exchanges_in ds) (exchanges ++ last ∷ []) ≡ quiets n ++ look_of w.waiting last.answer ∷ []
     pub ready : was_ready ≡ not (is_not_ready last.answer)
 
@@ -172,6 +176,7 @@ module _ {A V : Type 0} (api : Api A V) (now : ℕ) where
     exchanges = q.exchanges;
     last = f.exchange;
     exchanged = exchanged-more old w new q.exchanges was_ready q.exchanged f;
+    count = q.count;
     looked = λ ds h.
         looks-snoc (settings_in old) (exchanges_in ds) q.exchanges f.exchange
         ∙ (ap (λ ls. ls ++ look_of (told_by (row_of (settings_in old) (exchanges_in ds ++ q.exchanges) f.exchange)) f.exchange.answer ∷ []) (q.quiet ds h)
@@ -209,6 +214,7 @@ module _ {A V : Type 0} (api : Api A V) (now : ℕ) where
       (record {
         exchanges = m.exchanges ++ m.last ∷ [];
         exchanged = m.exchanged;
+        count = length-append m.exchanges (m.last ∷ []) ∙ ap (λ k. k + 1) m.count;
         quiet = λ ds h.
             m.looked ds h
             ∙ (ap (λ ws. quiets n ++ look_of ws m.last.answer ∷ []) waits
@@ -224,6 +230,42 @@ module _ {A V : Type 0} (api : Api A V) (now : ℕ) where
         ap (λ ws. polled ws fuel (looks (settings_in old) (exchanges_in ds) q.exchanges)) none
         ∙ (ap (answered_by fuel) (q.quiet ds h) ∙ (ap (λ k. answered_by fuel (quiets k)) all ∙ (answered-quiet fuel ∙ ap (λ ws. Some (Spent, ws)) (sym q.waiting))));
   }
+
+  -- memory could not be had after these
+  pub lost-after : (fuel : ℕ) (old w new : Watching A V) (xs : List (Exchange V)) → Exchanged api now old xs w → length xs ≤ fuel
+      → ((ds : List (Dated V)) → StandsFor ds w → IsAskedOnce (settings_in w) (owed (Watched (settings_in w)) (exchanges_in ds)) (api.talk w.api) (api.talk new.api))
+      → Lost api now fuel old new
+  lost-after fuel old w new xs e few lost = record {
+    exchanges = xs;
+    reached = w.api;
+    few = few;
+    calls = e.calls;
+    made = e.made;
+    once = λ ds h.
+        subst (λ s. IsAskedOnce s (owed (Watched s) (exchanges_in ds ++ xs)) (api.talk w.api) (api.talk new.api)) (ap settings_of e.config)
+        (subst (λ ys. IsAskedOnce (settings_in w) (owed (Watched (settings_in w)) ys) (api.talk w.api) (api.talk new.api)) (exchanges-with now ds xs)
+        (lost (ds ++ map (dated_now now) xs) (e.stands ds h)));
+  }
+
+  pub lost-quiet : (n fuel : ℕ) (old w new : Watching A V) → AllQuiet n old w → n < fuel
+      → ((ds : List (Dated V)) → StandsFor ds w → IsAskedOnce (settings_in w) (owed (Watched (settings_in w)) (exchanges_in ds)) (api.talk w.api) (api.talk new.api))
+      → Lost api now fuel old new
+  lost-quiet n fuel old w new q less lost = lost-after fuel old w new q.exchanges q.exchanged (let k = q.count in omega arith) lost
+
+  -- nothing was asked
+  pub lost-none : (fuel : ℕ) (old : Watching A V) → Lost api now fuel old old
+  lost-none fuel old = lost-after fuel old old old [] (exchanged-none old) (omega arith) (λ ds h. inl refl)
+
+  -- what waits makes no difference
+  pub lost-as : (fuel : ℕ) (old w new : Watching A V) → w ≡ record old { waiting = w.waiting } → Lost api now fuel w new → Lost api now fuel old new
+  lost-as fuel old w new same l = (let m = subst (λ v. Lost api now fuel v new) same l in record {
+    exchanges = m.exchanges;
+    reached = m.reached;
+    few = m.few;
+    calls = m.calls;
+    made = λ ds h. m.made ds (record { stands = h.stands; unspent = h.unspent });
+    once = λ ds h. m.once ds (record { stands = h.stands; unspent = h.unspent });
+  })
 
   -- what waits is given without an exchange
   pub given-first : (fuel : ℕ) (old new : Watching A V) (told : Told V) → old.waiting ≡ told ∷ new.waiting → new ≡ record old { waiting = new.waiting }

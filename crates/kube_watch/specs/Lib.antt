@@ -3,6 +3,7 @@ pub mod Configs
 pub mod Events
 pub mod Graceful
 pub mod Streams
+pub mod Asking
 pub mod Watching
 pub mod Polls
 pub mod Idling

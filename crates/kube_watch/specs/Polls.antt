@@ -1,5 +1,5 @@
 -- What a poll of a watcher makes of it, by the exchanges that it makes. V is the type of objects. (Crate: `watcher`, as a stream.)
-use Rattle.std.specs.Prelude.{◌≡◌, ℕ, zero, suc, Bool, not, List, [], ◌∷◌, ◌++◌, map, Option, Some, None, Ok, Err, IsTrue, true, false}
+use Rattle.std.specs.Prelude.{◌≡◌, ◌≤◌, ℕ, zero, suc, Bool, not, List, [], ◌∷◌, ◌++◌, map, length, Option, Some, None, Ok, Err, IsTrue, true, false, if◌then◌else◌}
 use Rattle.std.specs.declared.sync.Arc.{Arc}
 use Rattle.std.specs.declared.alloc.Global.{Global}
 use Rattle.kube_meta.specs.declared.poll.Next.{Next}
@@ -12,10 +12,11 @@ use Rattle.kube_model.specs.Owed.{owed, is_next, is_not_ready}
 use Rattle.kube_model.specs.Fits.{answers, idle_fits, is_window_over, silent_since, TextsFit}
 use Rattle.kube_model.specs.Raw.{Raw, grown, FaultRose}
 use Rattle.kube_model.specs.Recorded.{IsRecorded}
-use Rattle.kube_watch.specs.Calls.{is_fault_answer}
+use Rattle.kube_watch.specs.Calls.{IsAskedOnce, is_fault_answer}
 use Rattle.kube_watch.specs.Stands.{StandsFor, exchanges_in, row_of, settings_in}
 use Rattle.kube_watch.specs.Table.{Row}
 use Rattle.kube_watch.specs.declared.event.Event.{Event}
+use Rattle.kube_watch.specs.declared.stream.StreamFault.{StreamFault}
 use Rattle.kube_watch.specs.declared.stream.StreamFault.TheVariants.{NoMemory, Unnamed}
 use Rattle.kube_watch.specs.Streams.{Answer}
 use Rattle.kube_watch.specs.Watching.{Told, Watching, all_told, next_told}
@@ -105,6 +106,16 @@ pub record Polled {A V : Type 0} (api : Api A V) (now fuel : ℕ) (old : Watchin
   pub exchanged : Exchanged api now old exchanges new
   pub answered : (ds : List (Dated V)) → StandsFor ds old → polled old.waiting fuel (looks (settings_in old) (exchanges_in ds) exchanges) ≡ Some (answer, new.waiting)
 
+-- memory could not be had: these exchanges were made, one after another, at most so many, and after them the talk grew at most by the call that is then owed
+pub record Lost {A V : Type 0} (api : Api A V) (now fuel : ℕ) (old new : Watching A V) : Type 0 where
+  pub exchanges : List (Exchange V)
+  pub reached : A
+  pub few : length exchanges ≤ fuel
+  pub calls : AreCalls api (settings_in old) now old.api exchanges reached
+  pub made : (ds : List (Dated V)) → StandsFor ds old → AreNext (settings_in old) ds now exchanges
+  pub once : (ds : List (Dated V)) → StandsFor ds old
+      → IsAskedOnce (settings_in old) (owed (Watched (settings_in old)) (exchanges_in ds ++ exchanges)) (api.talk reached) (api.talk new.api)
+
 -- one exchange was made, which is all that there is to tell, and was ready or not
 pub record Filled {A V : Type 0} (api : Api A V) (now : ℕ) (old : Watching A V) (was_ready : Bool) (new : Watching A V) : Type 0 where
   pub exchange : Exchange V
@@ -115,8 +126,12 @@ pub record Filled {A V : Type 0} (api : Api A V) (now : ℕ) (old : Watching A V
   pub stands : (ds : List (Dated V)) → StandsFor ds old → StandsFor (ds ++ dated_now now exchange ∷ []) new
   pub config : new.config ≡ old.config
 
+-- the fault that a watcher answers from then on: that there was no memory
+abbrev pub fault_of : {A V : Type 0} → Watching A V → Option StreamFault
+fault_of w = if w.is_spent then Some NoMemory else None
+
 -- what a poll did, as that of a stream: a watcher that had no memory is spent, and a spent one stays as it is
 abbrev pub IsPolled : {A V : Type 0} → Api A V → ℕ → ℕ → Watching A V → Answer (Event (Arc V Global)) → Watching A V → Type 0
 IsPolled api now fuel old (Ok answer) new = (old.is_spent ≡ false) × Polled api now fuel old (next_told answer) new
-IsPolled api now fuel old (Err NoMemory) new = (new.is_spent ≡ true) × (old.is_spent ≡ true → new ≡ old)
+IsPolled api now fuel old (Err NoMemory) new = (new.is_spent ≡ true) × (old.is_spent ≡ true → new ≡ old) × Lost api now fuel old new
 IsPolled api now fuel old (Err Unnamed) new = ⊥

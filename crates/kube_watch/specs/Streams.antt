@@ -1,8 +1,10 @@
 -- What a stream answers when it is polled. (Crate: the streams of `WatchStreamExt`.)
-use Rattle.std.specs.Prelude.{List, Option, Result, Ok, Err}
+use Rattle.std.specs.Prelude.{List, Option, Some, None, Result, Ok, Err}
 use Rattle.kube_meta.specs.declared.poll.Next.{Next}
+use Rattle.kube_meta.specs.declared.poll.Next.TheVariants.{Item, NotReady, Spent, End}
 use Rattle.kube_model.specs.declared.error.Error.{Error}
 use Rattle.kube_model.specs.Raw.{grown}
+use Rattle.kube_model.specs.Streams.{StreamAnswer, Gives, GivesError, Waits, GivesNothing, Ends, Unnamed as HasNoName}
 use Rattle.kube_watch.specs.declared.stream.StreamFault.{StreamFault}
 use Rattle.kube_watch.specs.declared.stream.StreamFault.TheVariants.{NoMemory, Unnamed}
 
@@ -15,3 +17,13 @@ abbrev pub told_after : {I : Type 0} → Option (List (Answer I)) → Answer I �
 told_after told (Ok answer) = grown told (Ok answer)
 told_after told (Err Unnamed) = grown told (Err Unnamed)
 told_after told (Err NoMemory) = told
+
+-- an answer in the words of the model, which has none for want of memory; value gives what an item stands for, as the object that is shared
+abbrev pub stream_answer : {I O : Type 0} → (I → O) → Answer I → Option (StreamAnswer O)
+stream_answer value (Ok (Item (Ok item))) = Some (Gives (value item))
+stream_answer value (Ok (Item (Err error))) = Some (GivesError error)
+stream_answer value (Ok NotReady) = Some Waits
+stream_answer value (Ok Spent) = Some GivesNothing
+stream_answer value (Ok End) = Some Ends
+stream_answer value (Err Unnamed) = Some HasNoName
+stream_answer value (Err NoMemory) = None

@@ -51,11 +51,15 @@ pub struct Config {
     /// After how many seconds the server ends a watch. A watch that is silent for 5 seconds more is started again;
     /// 290 seconds are counted where it is absent, and where it is 0 no watch is ever started again for its silence.
     pub timeout: Option<u32>,
+    /// Only lists have it: a start by a watch doesn't look at it.
     pub list_semantic: ListSemantic,
     pub initial_list_strategy: InitialListStrategy,
-    /// At most so many objects in one page of a list; as many as the server will where it is absent.
+    /// At most so many objects in one page of a list; as many as the server will where it is absent. Only lists have pages:
+    /// a start by a watch doesn't look at it.
     pub page_size: Option<u32>,
-    /// Whether the server is asked for bookmarks.
+    /// Whether the server is asked for bookmarks. Without them the version from which a watch goes on is that of its last
+    /// item, which may soon be too old, so that the watcher lists again. A start by a watch ends its initial events by a
+    /// bookmark, and needs them.
     pub bookmarks: bool,
 }
 
@@ -96,6 +100,8 @@ impl Config {
     }
 
     /// With a selector by fields.
+    ///
+    /// Errors: `NoMemory`.
     pub fn fields(self, alloc: Global, field_selector: &str) -> Result<Config, NoMemory>
         ensures { IfOk result (λ c. c ≡ record self { field_selector = Some field_selector.now }) }
     {
@@ -107,6 +113,8 @@ impl Config {
     }
 
     /// With a selector by labels.
+    ///
+    /// Errors: `NoMemory`.
     pub fn labels(self, alloc: Global, label_selector: &str) -> Result<Config, NoMemory>
         ensures { IfOk result (λ c. c ≡ record self { label_selector = Some label_selector.now }) }
     {
@@ -118,6 +126,8 @@ impl Config {
     }
 
     /// With the labels that a selector has, in its text.
+    ///
+    /// Errors: `NoMemory`.
     pub fn labels_from(self, alloc: Global, selector: &Selector) -> Result<Config, NoMemory>
         ensures { IfOk result (λ c. c ≡ record self { label_selector = Some (selector_text selector.now) }) }
     {
@@ -138,14 +148,14 @@ impl Config {
         }
     }
 
-    /// With lists of any version.
+    /// With lists of any version: what a cache of the server has, which may be older than what was seen before.
     pub fn any_semantic(self) -> Config
         ensures { result ≡ record self { list_semantic = ListSemantic.Any } }
     {
         self.list_semantic(ListSemantic::Any)
     }
 
-    /// Without bookmarks.
+    /// Without bookmarks: not with `streaming_lists`, whose initial events a bookmark ends.
     pub fn disable_bookmarks(self) -> Config
         ensures { result ≡ record self { bookmarks = false } }
     {
@@ -155,7 +165,7 @@ impl Config {
         }
     }
 
-    /// With pages of at most so many objects.
+    /// With pages of at most so many objects, which are fewer at once and more calls.
     pub fn page_size(self, page_size: u32) -> Config
         ensures { result ≡ record self { page_size = Some page_size } }
     {
@@ -165,7 +175,8 @@ impl Config {
         }
     }
 
-    /// By watches that send the objects that are there first.
+    /// By watches that send the objects that are there first. The server must know them, and `page_size` and the version of
+    /// lists are then not looked at.
     pub fn streaming_lists(self) -> Config
         ensures { result ≡ record self { initial_list_strategy = InitialListStrategy.StreamingList } }
     {
@@ -176,6 +187,8 @@ impl Config {
     }
 
     /// An equal configuration in memory of its own.
+    ///
+    /// Errors: `NoMemory`.
     pub fn copy(&self, alloc: Global) -> Result<Config, NoMemory>
         ensures { IfOk result (λ c. c ≡ self.now) }
     {

@@ -44,6 +44,8 @@ impl<T> Event<T> {
 
 impl<K: Drop> Event<Arc<K>> {
     /// The same event of the same object, which is shared.
+    ///
+    /// Errors: `NoMemory`.
     pub fn copy(&self) -> Result<Event<Arc<K>>, NoMemory>
         ensures { IfOk result (λ e. event_map arc_value e ≡ event_map arc_value self.now) }
     {

@@ -13,8 +13,8 @@ ghost use Rattle.kube_watch.specs.Idling.{idles};
 ghost use Rattle.kube_watch.specs.Polls.{AreNext};
 ghost use Rattle.kube_watch.specs.Order.{AreMade, IsOrdered, Unbegun, events_after, is_change};
 
-/// The row of an exchange has the error, the owed call, the seen version and the changes that the definitions give,
-/// and tells `InitDone` exactly where they complete.
+/// The row of an exchange has the error, the owed call, the seen version and the changes that the definitions give, tells
+/// `InitDone` exactly where they complete, and tells of exactly the objects that must become references, in order.
 pub fn the_table_agrees<O>()
     ensures { (settings : Settings) (before : List (Exchange O)) (x : Exchange O) → x.call ≡ owed (Watched settings) before
         → asks_api x.call ≡ true → IsTrue (answers x.call x.answer) → Agrees settings before x }

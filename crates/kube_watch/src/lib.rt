@@ -23,7 +23,8 @@ pub use kube_model::error::{ApiError, Error, Status};
 pub use object::{WatchObject, watch_object};
 pub use stream::{EventStream, StreamFault};
 pub use stub_watcher::error_indicates_graceful_watch_seq_exhaustion;
-pub use unit::Unit;
+pub use tell::events_of;
+pub use unit::{Exchange, Unit};
 pub use watching::Watcher;
 
 #[cfg(test)]

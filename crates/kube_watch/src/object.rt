@@ -4,6 +4,7 @@ ghost use Rattle.std.specs.Prelude.{◌≡◌, ◌++◌, [], true, Some, None, I
 ghost use Rattle.std.specs.Option.{option_map};
 ghost use Rattle.kube_model.specs.World.{default_settings};
 ghost use Rattle.kube_watch.specs.Calls.{version_of};
+ghost use Rattle.kube_watch.specs.Polls.{Lost};
 ghost use Rattle.kube_watch.specs.Objects.{IsOpened, PolledObject, TakesAnswer, answer_to, found_of, held_after, next_found};
 ghost use Rattle.kube_watch.specs.Stands.{is_spent};
 ghost use Rattle.kube_watch.specs.Watching.{told_of};
@@ -36,6 +37,11 @@ impl<A: ApiMode> Model for WatchObject<A> {
 }
 
 /// Watches the object of a name (`watch_object`). It lists and watches by the field selector `metadata.name=<name>`.
+///
+/// Where the API is of all namespaces, objects of that name in several of them come as if they were one: take an API of
+/// one namespace, or a watcher.
+///
+/// Errors: `NoMemory`.
 pub fn watch_object<A: ApiMode>(
     alloc: Global,
     api: A,
@@ -97,6 +103,7 @@ impl<A: ApiMode> WatchObject<A> {
     ) -> Result<Next<Result<Option<Arc<A::Value>>, Error>>, NoMemory>
         ensures asked { self.old.watcher.waiting ≡ [] → IfOk result (λ a. PolledObject (record { moves = A.moves; talk = A.talk; faults = A.faults; version = version_of A.Value.meta_of }) now.0 fuel self.old (next_found a) self.new) }
         ensures err { OnErr result (is_spent self.new.watcher ≡ true) }
+        ensures lost { self.old.watcher.waiting ≡ [] → OnErr result (Lost (record { moves = A.moves; talk = A.talk; faults = A.faults; version = version_of A.Value.meta_of }) now.0 fuel self.old.watcher self.new.watcher) }
     {
         for _asked in 0..fuel {
             let ready = self.watcher.fill(alloc, now)?;
@@ -113,7 +120,9 @@ impl<A: ApiMode> WatchObject<A> {
     /// The object where it is there or changed, none where it was deleted or a list did not hold it, or an error.
     ///
     /// `NotReady` where a call was not ready, and its window is not over; `Spent` after `fuel` calls that gave nothing to
-    /// answer. It never ends. Where there is no memory it answers only that from then on.
+    /// answer. It never ends.
+    ///
+    /// Errors: `NoMemory`, and only that from then on.
     pub fn poll_next(
         &mut self,
         alloc: Global,
@@ -122,6 +131,7 @@ impl<A: ApiMode> WatchObject<A> {
     ) -> Result<Next<Result<Option<Arc<A::Value>>, Error>>, NoMemory>
         ensures polled { IfOk result (λ a. PolledObject (record { moves = A.moves; talk = A.talk; faults = A.faults; version = version_of A.Value.meta_of }) now.0 fuel self.old (next_found a) self.new) }
         ensures err { OnErr result (is_spent self.new.watcher ≡ true) }
+        ensures lost { OnErr result (Lost (record { moves = A.moves; talk = A.talk; faults = A.faults; version = version_of A.Value.meta_of }) now.0 fuel self.old.watcher self.new.watcher) }
         ensures spent { is_spent self.old.watcher ≡ true → IsErr result × (self.new ≡ self.old) }
     {
         if self.watcher.is_spent() {

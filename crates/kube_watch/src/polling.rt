@@ -26,11 +26,14 @@ fn is_ready(answer: &Answer) -> bool
 }
 
 impl<A: ApiMode> Watcher<A> {
-    ghost use Rattle.std.specs.Prelude.{[], true, false, IsErr, OnOk};
+    ghost use Rattle.std.specs.Prelude.{List, [], true, false, IsErr, OnOk};
     ghost use Rattle.kube_watch.specs.Watching.{TakesFirst, next_told};
-    ghost use Rattle.kube_watch.specs.Stands.{is_spent};
-    ghost use Rattle.kube_watch.specs.Polls.{Filled, Polled};
-    ghost use Rattle.kube_watch.specs.Calls.{version_of};
+    ghost use Rattle.kube_model.specs.World.{Watched};
+    ghost use Rattle.kube_model.specs.History.{Dated};
+    ghost use Rattle.kube_model.specs.Owed.{owed};
+    ghost use Rattle.kube_watch.specs.Stands.{StandsFor, api_of, exchanges_in, is_spent, settings_in};
+    ghost use Rattle.kube_watch.specs.Polls.{Filled, Lost, Polled};
+    ghost use Rattle.kube_watch.specs.Calls.{IsAskedOnce, version_of};
 
     // Takes the first of what waits.
     pub(crate) fn take_told(&mut self) -> Option<Result<Event<Arc<A::Value>>, Error>>
@@ -54,8 +57,11 @@ impl<A: ApiMode> Watcher<A> {
 
     // Makes the owed call, and keeps what it tells in place of what waits. Whether it was ready.
     pub(crate) fn fill(&mut self, alloc: Global, now: Moment) -> Result<bool, NoMemory>
+        ensures unspent { OnOk result (is_spent self.new ≡ false) }
         ensures filled { IfOk result (λ ready. Filled (record { moves = A.moves; talk = A.talk; faults = A.faults; version = version_of A.Value.meta_of }) now.0 self.old ready self.new) }
         ensures err { OnErr result (is_spent self.new ≡ true) }
+        ensures lost { OnErr result ((ds : List (Dated A.Value)) → StandsFor ds self.old
+            → IsAskedOnce (settings_in self.old) (owed (Watched (settings_in self.old)) (exchanges_in ds)) (A.talk (api_of self.old)) (A.talk (api_of self.new))) }
     {
         let unit = self.poll_unit(alloc, now)?;
         let Unit {
@@ -76,8 +82,10 @@ impl<A: ApiMode> Watcher<A> {
         now: Moment,
         fuel: u32,
     ) -> Result<Next<Result<Event<Arc<A::Value>>, Error>>, NoMemory>
+        ensures unspent { is_spent self.old ≡ false → OnOk result (is_spent self.new ≡ false) }
         ensures asked { self.old.waiting ≡ [] → IfOk result (λ a. Polled (record { moves = A.moves; talk = A.talk; faults = A.faults; version = version_of A.Value.meta_of }) now.0 fuel self.old (next_told a) self.new) }
         ensures err { OnErr result (is_spent self.new ≡ true) }
+        ensures lost { self.old.waiting ≡ [] → OnErr result (Lost (record { moves = A.moves; talk = A.talk; faults = A.faults; version = version_of A.Value.meta_of }) now.0 fuel self.old self.new) }
     {
         for _asked in 0..fuel {
             let ready = self.fill(alloc, now)?;
@@ -94,7 +102,9 @@ impl<A: ApiMode> Watcher<A> {
     /// The next event or error: one that waits, or the first of the first call that tells something.
     ///
     /// `NotReady` where a call was not ready, and its window is not over; `Spent` after `fuel` calls that told nothing.
-    /// A watcher never ends. Where there is no memory it answers only that from then on.
+    /// A watcher never ends. After an error it asks again at the next poll: apply a backoff to it.
+    ///
+    /// Errors: `NoMemory`, and only that from then on.
     pub fn poll_next(
         &mut self,
         alloc: Global,
@@ -103,8 +113,9 @@ impl<A: ApiMode> Watcher<A> {
     ) -> Result<Next<Result<Event<Arc<A::Value>>, Error>>, NoMemory>
         ensures polled { IfOk result (λ a. Polled (record { moves = A.moves; talk = A.talk; faults = A.faults; version = version_of A.Value.meta_of }) now.0 fuel self.old (next_told a) self.new) }
         ensures err { OnErr result (is_spent self.new ≡ true) }
+        ensures lost { OnErr result (Lost (record { moves = A.moves; talk = A.talk; faults = A.faults; version = version_of A.Value.meta_of }) now.0 fuel self.old self.new) }
         ensures spent { is_spent self.old ≡ true → IsErr result × (self.new ≡ self.old) }
-        ensures unspent { OnOk result (is_spent self.old ≡ false) }
+        ensures unspent { OnOk result ((is_spent self.old ≡ false) × (is_spent self.new ≡ false)) }
     {
         if self.spent {
             return Err(NoMemory);
@@ -119,12 +130,14 @@ impl<A: ApiMode> Watcher<A> {
 /// The events and errors of the watcher, one by one.
 impl<A: ApiMode> EventStream for Watcher<A> {
     ghost use Rattle.std.specs.Prelude.{None};
-    ghost use Rattle.kube_watch.specs.Polls.{IsPolled};
+    ghost use Rattle.kube_watch.specs.Polls.{IsPolled, fault_of};
     ghost use Rattle.kube_watch.specs.Calls.{version_of};
 
     type Item = Event<Arc<A::Value>>;
 
     ghost told = { λ _. None };
+
+    ghost fault = { fault_of };
 
     ghost polls = { λ old now fuel answer new. IsPolled (record { moves = A.moves; talk = A.talk; faults = A.faults; version = version_of A.Value.meta_of }) now fuel old answer new };
 

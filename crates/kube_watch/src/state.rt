@@ -1,6 +1,7 @@
 //! How far a watcher has come.
 
-ghost use Rattle.std.specs.Prelude.{◌≡◌, IfOk};
+ghost use Rattle.std.specs.Prelude.{◌≡◌, true, IfOk};
+ghost use Rattle.kube_watch.specs.Agrees.{asks_api};
 ghost use Rattle.kube_watch.specs.Configs.{settings_of};
 ghost use Rattle.kube_watch.specs.States.{call_in, is_initial_in, after_page, after_opened, after_item, after_bookmark, after_fault, after_end, state_after, since_after};
 ghost use Rattle.kube_watch.specs.Units.{nanos_of};
@@ -43,7 +44,8 @@ fn start_call(alloc: Global, config: &Config) -> Result<Call, NoMemory>
 
 /// The call that is owed.
 pub fn owed_call(alloc: Global, config: &Config, state: &State) -> Result<Call, NoMemory>
-    ensures { IfOk result (λ c. c ≡ call_in (settings_of config.now) state.now) }
+    ensures owed { IfOk result (λ c. c ≡ call_in (settings_of config.now) state.now) }
+    ensures asks { IfOk result (λ c. asks_api c ≡ true) }
 {
     match state {
         State::Empty => start_call(alloc, config),

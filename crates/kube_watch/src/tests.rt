@@ -6,3 +6,4 @@ mod event;
 mod params;
 mod polls;
 mod script;
+mod slow;

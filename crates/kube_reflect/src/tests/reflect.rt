@@ -27,12 +27,14 @@ pub enum Given {
     NotReady,
 }
 
-type Answer = Result<Next<Result<Event<Arc<DynamicObject>>, Error>>, StreamFault>;
+type Said = Next<Result<Event<Arc<DynamicObject>>, Error>>;
+
+type Answer = Result<Said, StreamFault>;
 
 /// A stream that gives what a script says, and then ends.
 #[derive(Drop)]
 pub struct Script {
-    answers: VecDeque<Answer>,
+    answers: VecDeque<Said>,
 }
 
 impl EventStream for Script {
@@ -42,26 +44,28 @@ impl EventStream for Script {
 
     ghost told = { λ _. None };
 
+    ghost fault = { λ _. None };
+
     fn poll_next(&mut self, _alloc: Global, _now: Moment, _fuel: u32) -> Answer {
         match self.answers.pop_front() {
-            Some(answer) => answer,
+            Some(said) => Ok(said),
             None => Ok(Next::End),
         }
     }
 }
 
-fn answer_of(alloc: Global, given: &Given) -> Result<Answer, Fail> {
+fn answer_of(alloc: Global, given: &Given) -> Result<Said, Fail> {
     let event = match given {
         Given::Apply(name) => Event::Apply(object(alloc, name, "", "")?),
         Given::Delete(name) => Event::Delete(object(alloc, name, "", "")?),
         Given::Init => Event::Init,
         Given::InitApply(name) => Event::InitApply(object(alloc, name, "", "")?),
         Given::InitDone => Event::InitDone,
-        Given::Fault => return Ok(Ok(Next::Item(Err(Error::NoResourceVersion)))),
-        Given::Spent => return Ok(Ok(Next::Spent)),
-        Given::NotReady => return Ok(Ok(Next::NotReady)),
+        Given::Fault => return Ok(Next::Item(Err(Error::NoResourceVersion))),
+        Given::Spent => return Ok(Next::Spent),
+        Given::NotReady => return Ok(Next::NotReady),
     };
-    Ok(Ok(Next::Item(Ok(event))))
+    Ok(Next::Item(Ok(event)))
 }
 
 fn scripted(alloc: Global, all: &[Given]) -> Result<Script, Fail> {

@@ -1,8 +1,7 @@
 //! Pauses after errors.
 
 use super::scripted::{Poll, Said, Scripted, check};
-use crate::{Backoff, ConstantBackoff, LinearBackoff, WatchStreamExt};
-use kube_meta::Moment;
+use crate::{ConstantBackoff, LinearBackoff, StopBackoff, WatchStreamExt};
 use std::test::Fail;
 
 const SECOND: u64 = 1_000_000_000;
@@ -27,9 +26,9 @@ fn a_constant_pause_after_an_error(rt: HostRuntime) -> Result<(), Fail> {
             Poll(0, 1, "Apply 1"),
             Poll(0, 1, "error"),
             Poll(0, 1, "not ready"),
-            Poll(2, 1, "Apply 3"),
-            Poll(2, 1, "Apply 4"),
-            Poll(2, 1, "end"),
+            Poll(2_000, 1, "Apply 3"),
+            Poll(2_000, 1, "Apply 4"),
+            Poll(2_000, 1, "end"),
         ],
     )
 }
@@ -39,6 +38,7 @@ fn pauses_grow_until_an_item_comes(rt: HostRuntime) -> Result<(), Fail> {
     let alloc = rt.alloc();
     let mut events = Scripted::new(&[
         Said::Error,
+        Said::NotReady,
         Said::Error,
         Said::Apply(4),
         Said::Error,
@@ -51,44 +51,26 @@ fn pauses_grow_until_an_item_comes(rt: HostRuntime) -> Result<(), Fail> {
         &mut events,
         &[
             Poll(0, 1, "error"),
-            Poll(1, 1, "not ready"),
-            Poll(3, 1, "error"),
-            Poll(3, 1, "not ready"),
-            Poll(6, 1, "not ready"),
-            Poll(8, 1, "Apply 4"),
-            Poll(8, 1, "error"),
-            Poll(9, 1, "not ready"),
-            Poll(10, 1, "spent"),
-            Poll(10, 1, "end"),
+            Poll(1_000, 1, "not ready"),
+            // awake, and the stream itself is not ready
+            Poll(3_000, 1, "not ready"),
+            Poll(3_000, 1, "error"),
+            Poll(3_000, 1, "not ready"),
+            Poll(6_000, 1, "not ready"),
+            Poll(8_000, 1, "Apply 4"),
+            Poll(8_000, 1, "error"),
+            Poll(9_000, 1, "not ready"),
+            Poll(10_000, 1, "spent"),
+            Poll(10_000, 1, "end"),
         ],
     )
-}
-
-/// A backoff that gives up at once.
-#[derive(Drop)]
-struct NoBackoff;
-
-impl Backoff for NoBackoff {
-    ghost use Rattle.std.specs.Prelude.{None};
-
-    ghost delay = { λ _ _. None };
-
-    ghost delayed = { λ b _. b };
-
-    ghost restarted = { λ b. b };
-
-    fn next(&mut self, _now: Moment) -> Option<u64> {
-        None
-    }
-
-    fn reset(&mut self) {}
 }
 
 #[test]
 fn without_a_delay_the_stream_ends(rt: HostRuntime) -> Result<(), Fail> {
     let alloc = rt.alloc();
     let mut events = Scripted::new(&[Said::Apply(0), Said::Error, Said::Apply(3)]).backoff(
-        NoBackoff,
+        StopBackoff,
     );
     check(
         &rt,
@@ -98,7 +80,7 @@ fn without_a_delay_the_stream_ends(rt: HostRuntime) -> Result<(), Fail> {
             Poll(0, 1, "Apply 0"),
             Poll(0, 1, "error"),
             Poll(0, 1, "end"),
-            Poll(9, 1, "end"),
+            Poll(9_000, 1, "end"),
         ],
     )
 }
@@ -114,7 +96,7 @@ fn the_default_pauses_for_800_ms(rt: HostRuntime) -> Result<(), Fail> {
         &[
             Poll(0, 1, "error"),
             Poll(0, 1, "not ready"),
-            Poll(1, 1, "Apply 1"),
+            Poll(1_000, 1, "Apply 1"),
         ],
     )
 }

@@ -78,7 +78,7 @@ fn check<P: Predicate<DynamicObject>>(
     object: &DynamicObject,
     wanted: Option<u64>,
 ) -> Result<(), Fail>
-    requires { P.may predicate.now }
+    requires { P.may predicate.now object.now }
 {
     assert_eq!(rt; predicate.hash_property(object), wanted);
     Ok(())

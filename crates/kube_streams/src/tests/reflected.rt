@@ -1,10 +1,13 @@
 //! Events that are applied to a writer, closures at the end, and results apart from errors.
 
+ghost use Rattle.std.specs.Prelude.{◌≤◌};
+
 use super::cuts::{EIGHT, check_fuel};
 use super::scripted::{Poll, Readable, Said, Scripted, check};
 use crate::{EventStream, StreamFault, WatchStreamExt, on_complete, split_result};
 use kube_meta::{ApiResource, DynamicObject, Moment, Next, NoMemory, ObjectMeta, Text};
 use kube_reflect::Writer;
+use kube_watch::stream::fault_of;
 use kube_watch::{Error, Event};
 use std::alloc::{AllocError, Global};
 use std::process::Abort;
@@ -17,11 +20,13 @@ type Object = Arc<DynamicObject>;
 #[derive(Drop)]
 struct Objects {
     script: Scripted,
+    fault: Option<StreamFault>,
 }
 
 fn naming(answers: &'static [Said]) -> Objects {
     Objects {
         script: Scripted::new(answers),
+        fault: None,
     }
 }
 
@@ -43,19 +48,15 @@ fn event(alloc: Global, event: Event<u32>) -> Result<Event<Object>, NoMemory> {
     })
 }
 
-impl EventStream for Objects {
-    ghost use Rattle.std.specs.Prelude.{None};
-
-    type Item = Event<Object>;
-
-    ghost told = { λ _. None };
-
-    fn poll_next(
+impl Objects {
+    fn give(
         &mut self,
         alloc: Global,
         now: Moment,
         fuel: u32,
-    ) -> Result<Next<Result<Event<Object>, Error>>, StreamFault> {
+    ) -> Result<Next<Result<Event<Object>, Error>>, StreamFault>
+        requires { 1 ≤ fuel }
+    {
         Ok(match self.script.poll_next(alloc, now, fuel)? {
             Next::Item(Ok(told)) => Next::Item(Ok(event(alloc, told)?)),
             Next::Item(Err(error)) => Next::Item(Err(error)),
@@ -63,6 +64,30 @@ impl EventStream for Objects {
             Next::Spent => Next::Spent,
             Next::End => Next::End,
         })
+    }
+}
+
+impl EventStream for Objects {
+    ghost use Rattle.std.specs.Prelude.{None};
+
+    type Item = Event<Object>;
+
+    ghost told = { λ _. None };
+
+    ghost fault = { λ o. o.fault };
+
+    fn poll_next(
+        &mut self,
+        alloc: Global,
+        now: Moment,
+        fuel: u32,
+    ) -> Result<Next<Result<Event<Object>, Error>>, StreamFault> {
+        if let Some(fault) = self.fault {
+            return Err(fault);
+        }
+        let answer = self.give(alloc, now, fuel);
+        self.fault = fault_of(&answer);
+        answer
     }
 }
 
@@ -96,7 +121,8 @@ const SAID: [Said; 6] = [
     Said::InitDone,
 ];
 
-const EVENTS: &str = "Init;InitApply(1);error;Delete(2);InitApply(3);InitDone;Apply(4);end;";
+const EVENTS: &str =
+    "Init;InitApply(1);not ready;error;Delete(2);InitApply(3);InitDone;Apply(4);end;";
 
 #[test]
 fn all_events_are_given(rt: HostRuntime) -> Result<(), Fail> {
@@ -121,9 +147,9 @@ fn all_events_are_given(rt: HostRuntime) -> Result<(), Fail> {
 #[test]
 fn applied_events_of_any_cut(rt: HostRuntime) -> Result<(), Fail> {
     let alloc = rt.alloc();
-    for fuel in 1..4 {
+    for index in 0..3 {
         let mut events = naming(&EIGHT).reflect(writer(alloc)?);
-        check_fuel(&rt, alloc, &mut events, fuel, EVENTS)?;
+        check_fuel(&rt, alloc, &mut events, index, [EVENTS, EVENTS, EVENTS])?;
     }
     Ok(())
 }
@@ -211,6 +237,20 @@ fn the_end_calls_once(rt: HostRuntime) -> Result<(), Fail> {
     drop(events);
     assert_eq!(rt; called, 1);
     Ok(())
+}
+
+#[test]
+fn after_the_end_only_the_end_comes(rt: HostRuntime) -> Result<(), Fail> {
+    let mut events = on_complete(
+        Scripted::new(&[Said::Init, Said::End, Said::Apply(1)]),
+        || {},
+    );
+    check(
+        &rt,
+        rt.alloc(),
+        &mut events,
+        &[Poll(0, 9, "Init"), Poll(0, 9, "end"), Poll(0, 9, "end")],
+    )
 }
 
 #[test]

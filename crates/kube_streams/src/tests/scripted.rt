@@ -18,6 +18,7 @@ pub enum Said {
     Error,
     NotReady,
     Spent,
+    End,
 }
 
 /// Gives its answers, one a poll, and then ends.
@@ -43,6 +44,7 @@ fn answer_of(said: Said) -> Next<Result<Event<u32>, Error>> {
         Said::Error => Next::Item(Err(Error::NoResourceVersion)),
         Said::NotReady => Next::NotReady,
         Said::Spent => Next::Spent,
+        Said::End => Next::End,
     }
 }
 
@@ -52,6 +54,8 @@ impl EventStream for Scripted {
     type Item = Event<u32>;
 
     ghost told = { λ _. None };
+
+    ghost fault = { λ _. None };
 
     fn poll_next(
         &mut self,
@@ -105,7 +109,7 @@ pub fn text_of<T: Readable>(
     }
 }
 
-/// A poll: the moment in seconds, the fuel, and the answer.
+/// A poll: the moment in milliseconds, the fuel, and the answer.
 #[derive(Clone, Copy)]
 pub struct Poll(pub u64, pub u32, pub &'static str);
 
@@ -121,7 +125,7 @@ where
     ensures may { S.can_poll stream.new }
 {
     let Poll(at, fuel, wanted) = poll;
-    let answer = stream.poll_next(alloc, Moment(at.saturating_mul(1_000_000_000)), fuel.max(1))?;
+    let answer = stream.poll_next(alloc, Moment(at.saturating_mul(1_000_000)), fuel.max(1))?;
     let shown = text_of(alloc, &answer)?;
     assert_eq!(rt; shown.as_str(), wanted);
     Ok(())

@@ -74,42 +74,36 @@ fn check_polls(
     Ok(())
 }
 
-/// Polls of a watcher over the script are answered so.
-fn check(
-    rt: &impl Abort,
-    alloc: Global,
-    lists: &[Listing],
-    watches: &[&[Given]],
-    polls: &[Poll],
-) -> Result<(), Fail> {
-    let api = api(alloc, lists, watches)?;
-    let mut watcher = crate::watcher::watcher(alloc, api, Config::default());
-    check_polls(rt, alloc, &mut watcher, polls)
+/// A script, and how polls of a watcher over it are answered.
+#[derive(Drop)]
+struct Polls {
+    lists: &'static [Listing],
+    watches: &'static [&'static [Given]],
+    polls: &'static [Poll],
 }
 
-#[test]
-fn bookmarks_alone_spend_the_fuel(rt: HostRuntime) -> Result<(), Fail> {
-    check(
-        &rt,
-        rt.alloc(),
-        &[Listing::Page(&[], "", "1")],
-        &[&[Given::Bookmark("5"), Given::Bookmark("6")]],
-        &[
+fn check(rt: &impl Abort, alloc: Global, case: &Polls) -> Result<(), Fail> {
+    let api = api(alloc, case.lists, case.watches)?;
+    let mut watcher = crate::watcher::watcher(alloc, api, Config::default());
+    check_polls(rt, alloc, &mut watcher, case.polls)
+}
+
+const POLLS: [Polls; 3] = [
+    // bookmarks alone spend the fuel
+    Polls {
+        lists: &[Listing::Page(&[], "", "1")],
+        watches: &[&[Given::Bookmark("5"), Given::Bookmark("6")]],
+        polls: &[
             Poll(2, "Init", 1),
             Poll(2, "InitDone", 1),
             Poll(2, "spent", 3),
         ],
-    )
-}
-
-#[test]
-fn events_of_a_page_come_one_by_one(rt: HostRuntime) -> Result<(), Fail> {
-    check(
-        &rt,
-        rt.alloc(),
-        &[Listing::Page(&["a", "b"], "", "1")],
-        &[&[Given::Wait(5)]],
-        &[
+    },
+    // events of a page come one by one
+    Polls {
+        lists: &[Listing::Page(&["a", "b"], "", "1")],
+        watches: &[&[Given::Wait(5)]],
+        polls: &[
             Poll(1, "Init", 1),
             Poll(1, "InitApply(a)", 1),
             Poll(1, "InitApply(b)", 1),
@@ -117,20 +111,15 @@ fn events_of_a_page_come_one_by_one(rt: HostRuntime) -> Result<(), Fail> {
             Poll(1, "spent", 2),
             Poll(9, "not ready", 3),
         ],
-    )
-}
-
-#[test]
-fn an_error_comes_after_the_events_before_it(rt: HostRuntime) -> Result<(), Fail> {
-    check(
-        &rt,
-        rt.alloc(),
-        &[
+    },
+    // an error comes after the events before it
+    Polls {
+        lists: &[
             Listing::Page(&["a"], "", ""),
             Listing::Page(&["b"], "", "1"),
         ],
-        &[],
-        &[
+        watches: &[],
+        polls: &[
             Poll(1, "Init", 1),
             Poll(1, "NoResourceVersion", 1),
             Poll(1, "Init", 2),
@@ -138,7 +127,15 @@ fn an_error_comes_after_the_events_before_it(rt: HostRuntime) -> Result<(), Fail
             Poll(1, "InitDone", 2),
             Poll(1, "WatchStartFailed", 3),
         ],
-    )
+    },
+];
+
+#[test]
+fn polls_give_one_event_or_error_each(rt: HostRuntime) -> Result<(), Fail> {
+    for case in &POLLS {
+        check(&rt, rt.alloc(), case)?;
+    }
+    Ok(())
 }
 
 fn check_stream<S: EventStream>(
@@ -251,44 +248,38 @@ fn check_looks(
     Ok(())
 }
 
-/// Polls for the object "a" over the script: their fuel and their answer.
-fn check_object(
-    rt: &impl Abort,
-    alloc: Global,
-    lists: &[Listing],
-    watches: &[&[Given]],
-    looks: &[(u32, &'static str)],
-) -> Result<(), Fail> {
-    let api = api(alloc, lists, watches)?;
+/// A script, and polls for the object "a" over it: their fuel and their answer.
+#[derive(Drop)]
+struct Looks {
+    lists: &'static [Listing],
+    watches: &'static [&'static [Given]],
+    looks: &'static [(u32, &'static str)],
+}
+
+fn check_object(rt: &impl Abort, alloc: Global, case: &Looks) -> Result<(), Fail> {
+    let api = api(alloc, case.lists, case.watches)?;
     let mut object = watch_object(alloc, api, "a")?;
-    check_looks(rt, alloc, &mut object, looks)
+    check_looks(rt, alloc, &mut object, case.looks)
 }
 
-#[test]
-fn an_object_that_no_list_holds_is_gone(rt: HostRuntime) -> Result<(), Fail> {
-    check_object(
-        &rt,
-        rt.alloc(),
-        &[Listing::Page(&[], "", "1")],
-        &[&[Given::Bookmark("5"), Given::Bookmark("6")]],
-        &[(5, "gone"), (2, "spent"), (1, "spent")],
-    )
-}
-
-#[test]
-fn an_object_is_told_as_it_changes(rt: HostRuntime) -> Result<(), Fail> {
-    check_object(
-        &rt,
-        rt.alloc(),
-        &[Listing::Page(&["a"], "", "1")],
-        &[&[
+const LOOKS: [Looks; 3] = [
+    // an object that no list holds is gone
+    Looks {
+        lists: &[Listing::Page(&[], "", "1")],
+        watches: &[&[Given::Bookmark("5"), Given::Bookmark("6")]],
+        looks: &[(5, "gone"), (2, "spent"), (1, "spent")],
+    },
+    // an object is told as it changes
+    Looks {
+        lists: &[Listing::Page(&["a"], "", "1")],
+        watches: &[&[
             Given::Modified("a", "2"),
             Given::Deleted("a", "3"),
             Given::Error(500),
             Given::Added("a", "4"),
             Given::Wait(5),
         ]],
-        &[
+        looks: &[
             (5, "there"),
             (5, "there <2>"),
             (5, "gone"),
@@ -296,21 +287,24 @@ fn an_object_is_told_as_it_changes(rt: HostRuntime) -> Result<(), Fail> {
             (5, "there <4>"),
             (5, "not ready"),
         ],
-    )
-}
-
-#[test]
-fn a_relist_without_the_object_tells_that_it_is_gone(rt: HostRuntime) -> Result<(), Fail> {
-    check_object(
-        &rt,
-        rt.alloc(),
-        &[Listing::Page(&["a"], "", "1"), Listing::Page(&[], "", "7")],
-        &[&[Given::Error(410)], &[Given::Wait(5)]],
-        &[
+    },
+    // a relist without the object tells that it is gone
+    Looks {
+        lists: &[Listing::Page(&["a"], "", "1"), Listing::Page(&[], "", "7")],
+        watches: &[&[Given::Error(410)], &[Given::Wait(5)]],
+        looks: &[
             (5, "there"),
             (5, "WatchError"),
             (5, "gone"),
             (5, "not ready"),
         ],
-    )
+    },
+];
+
+#[test]
+fn one_object_is_watched(rt: HostRuntime) -> Result<(), Fail> {
+    for case in &LOOKS {
+        check_object(&rt, rt.alloc(), case)?;
+    }
+    Ok(())
 }

@@ -3,7 +3,7 @@
 use crate::watching::Watcher;
 use crate::{Answer, ApiError, Call, Config, Error, Event, Status, Unit};
 use kube_api::{Bookmark, Page, ResultPage, Sequence, SequenceStep, TestMode, WatchEvent};
-use kube_meta::{DynamicObject, Moment, NoMemory, ObjectMeta, Text, TextMap};
+use kube_meta::{DynamicObject, Moment, NoMemory, ObjectMeta, Resource, Text, TextMap};
 use std::alloc::{AllocError, Global};
 use std::collections::VecDeque;
 use std::process::Abort;
@@ -34,6 +34,7 @@ pub enum Given {
 }
 
 /// A script, the moments at which a watcher is polled, and what it makes of it.
+#[derive(Drop)]
 pub struct Case {
     pub streaming: bool,
     pub timeout: Option<u32>,
@@ -237,7 +238,10 @@ fn shown_answer(alloc: Global, answer: &Answer) -> Result<String, AllocError> {
     }
 }
 
-fn shown_events(alloc: Global, events: &[Event<Arc<DynamicObject>>]) -> Result<String, AllocError> {
+fn shown_events<K: Resource>(
+    alloc: Global,
+    events: &[Event<Arc<K>>],
+) -> Result<String, AllocError> {
     let mut shown = String::new(alloc);
     for event in events {
         let one = format!(in alloc; " {event}")?;
@@ -258,7 +262,7 @@ fn shown_error(error: &Option<Error>) -> &str {
 }
 
 /// The call, the answer, the events and the error of a unit.
-pub fn shown(alloc: Global, unit: &Unit<DynamicObject>) -> Result<String, AllocError> {
+pub fn shown<K: Resource>(alloc: Global, unit: &Unit<K>) -> Result<String, AllocError> {
     let call = shown_call(alloc, &unit.call)?;
     let answer = shown_answer(alloc, &unit.answer)?;
     let events = shown_events(alloc, unit.events.as_slice())?;

@@ -1,4 +1,4 @@
-use Rattle.kube_reflect.specs.Reflects.{Said}
+use Rattle.kube_watch.specs.Asking.{Said}
 use Rattle.kube_streams.proofs.Given.{given-so-far}
 use Rattle.kube_streams.proofs.laws.given_so_far.Goals as goal
 

@@ -1,4 +1,4 @@
-use Rattle.kube_reflect.specs.Reflects.{Said}
+use Rattle.kube_watch.specs.Asking.{Said}
 use Rattle.kube_streams.proofs.Completing.{completed-so-far}
 use Rattle.kube_streams.proofs.laws.on_complete_in_order.Goals as goal
 

@@ -1,4 +1,4 @@
-use Rattle.kube_reflect.specs.Reflects.{Said}
+use Rattle.kube_watch.specs.Asking.{Said}
 use Rattle.kube_streams.proofs.PassedOn.{passed-on}
 use Rattle.kube_streams.proofs.laws.passed_on_in_order.Goals as goal
 

@@ -1,5 +1,5 @@
 use Rattle.std.specs.Arc.{arc_value}
-use Rattle.kube_reflect.specs.Reflects.{Said}
+use Rattle.kube_watch.specs.Asking.{Said}
 use Rattle.kube_streams.proofs.Applying.{applied-so-far}
 use Rattle.kube_streams.proofs.laws.reflect_in_order.Goals as goal
 

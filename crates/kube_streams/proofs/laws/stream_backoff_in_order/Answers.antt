@@ -1,4 +1,4 @@
-use Rattle.kube_reflect.specs.Reflects.{Said}
+use Rattle.kube_watch.specs.Asking.{Said}
 use Rattle.kube_streams.proofs.Pausing.{paused-in-order}
 use Rattle.kube_streams.proofs.laws.stream_backoff_in_order.Goals as goal
 

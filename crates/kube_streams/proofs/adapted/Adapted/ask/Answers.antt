@@ -1,5 +1,5 @@
 use Rattle.std.proofs.Common.{◌≡◌, sym, ap, ◌∙◌, subst, suc, ◌+◌, arith}
-use Rattle.kube_reflect.specs.Reflects.{Said}
+use Rattle.kube_watch.specs.Asking.{Said}
 use Rattle.kube_streams.specs.Adapts.{AreQuiet, IsQuiet}
 use Rattle.kube_streams.proofs.Quiet.{quiet_more}
 use Rattle.kube_streams.proofs.adapted.Adapted.ask.Goals as goal

@@ -1,5 +1,5 @@
 use Rattle.std.proofs.Common.{◌≡◌, []}
-use Rattle.kube_reflect.specs.Reflects.{Said}
+use Rattle.kube_watch.specs.Asking.{Said}
 use Rattle.kube_streams.specs.Adapts.{AreQuiet}
 use Rattle.kube_streams.proofs.adapted.Adapted.ask.Given as goal
 

@@ -3,7 +3,7 @@ use Rattle.std.proofs.Common.{◌≡◌, ℕ, ◌+◌, ◌∙◌, true, false, E
 use Rattle.std.proofs.lemmas.List.{replicate_more}
 use Rattle.kube_meta.specs.declared.poll.Next.TheVariants.{Item, NotReady, Spent, End}
 use Rattle.kube_watch.specs.Streams.{Answer}
-use Rattle.kube_reflect.specs.Reflects.{Polls, gives_something}
+use Rattle.kube_watch.specs.Asking.{Polls, gives_something}
 
 module _ {S I : Type 0} (polls : S → ℕ → ℕ → Answer I → S → Type 0) (now : ℕ) where
   pub polls-push : (s m s' : S) (xs : List (Answer I)) (a : Answer I) → Polls polls now s xs m → polls m now 1 a s' → Polls polls now s (xs ++ a ∷ []) s'
