@@ -21,13 +21,19 @@ fn request(key: u8, tag: u64, run_at: u64) -> ScheduleRequest<Message> {
     }
 }
 
-/// The tag of the first message that waits at a moment.
-fn taken(scheduler: &mut Scheduler<Message>, at: u64) -> Option<u64> {
-    scheduler.settle(Moment(at));
-    match scheduler.take_first(|_| true) {
+/// The tag of a message.
+fn tag_of(message: Option<&Message>) -> Option<u64> {
+    match message {
         Some(message) => Some(message.tag),
         None => None,
     }
+}
+
+/// The tag of the first message that waits at a moment.
+fn taken(scheduler: &mut Scheduler<Message>, at: u64) -> Option<u64> {
+    scheduler.settle(Moment(at));
+    let message = scheduler.take_first(|_| true)?;
+    Some(message.tag)
 }
 
 #[test]
@@ -145,11 +151,13 @@ fn step(
             plain.settle(now);
         }
         1 => {
-            let mine = match scheduler.take_first(|message: &Message| message.key >= key) {
-                Some(message) => Some(message.tag),
-                None => None,
-            };
-            return Ok((mine, plain.take(key)?));
+            let passes = |message: &Message| message.key >= key;
+            let seen = tag_of(scheduler.first(passes));
+            let mine = scheduler.take_first(passes);
+            if seen != tag_of(mine.as_ref()) {
+                return Err(Fail::from("another one is taken than was seen"));
+            }
+            return Ok((seen, plain.take(key)?));
         }
         2 if scheduler.spare() > 0 => {
             scheduler.schedule_reserved(request(key, tag, run_at), Moment(now));

@@ -4,7 +4,7 @@ use Rattle.kube_model.specs.Queue.{sorted_by}
 use Rattle.kube_sched.specs.Held.{is_due, comes_before}
 use Rattle.kube_sched.specs.Schedule.{Schedule}
 use Rattle.kube_sched.proofs.Steps.{stands-settled}
-use Rattle.kube_sched.proofs.schedule.Scheduler.settle.Goals as goal
+use Rattle.kube_sched.proofs.schedule.Scheduler.let_wait.Goals as goal
 
 pub returns-clause-stands : goal.returns-clause-stands
 returns-clause-stands g c events stands =

@@ -5,7 +5,7 @@ use Rattle.kube_model.specs.Queue.{plus, longest_wait}
 use Rattle.kube_sched.specs.Held.{is_of, set_in}
 use Rattle.kube_sched.specs.Schedule.{Schedule}
 use Rattle.kube_sched.proofs.Steps.{stands-requested, requested-waits, requested-comes}
-use Rattle.kube_sched.proofs.schedule.Scheduler.schedule_reserved.Goals as goal
+use Rattle.kube_sched.proofs.schedule.Scheduler.take_in_reserved.Goals as goal
 
 pub returns-then-has_message-clause-stands : goal.returns-then-has_message-clause-stands
 returns-then-has_message-clause-stands g c events stands =
