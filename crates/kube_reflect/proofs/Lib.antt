@@ -8,3 +8,4 @@ pub mod Seeing
 pub mod Offering
 pub mod Polling
 pub mod Making
+pub mod Setting

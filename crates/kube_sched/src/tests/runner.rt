@@ -79,7 +79,7 @@ const END: u64 = 1002;
 const CANCELED: u64 = 1003;
 
 /// What a poll answered: the value of a run, how it ended, or the error of the readiness.
-fn shown<E: Shown>(answer: &Next<Result<u64, Error<E>>>) -> u64 {
+fn number_of<E: Shown>(answer: &Next<Result<u64, Error<E>>>) -> u64 {
     match answer {
         Next::Item(Ok(value)) => *value,
         Next::Item(Err(Error::Readiness(error))) => error.shown(),
@@ -122,7 +122,7 @@ fn poll_all<
 {
     for (at, wanted) in polls {
         let answer = task.enter(|cx| runner.poll_next(alloc, cx, Moment(*at), fuel))?;
-        assert_eq!(rt; shown(&answer), *wanted, "at {at}");
+        assert_eq!(rt; number_of(&answer), *wanted, "at {at}");
     }
     Ok(())
 }
