@@ -276,6 +276,10 @@ impl<K: Resource> Cache<K> {
     }
 
     /// All objects, in order.
+    ///
+    /// # Errors
+    ///
+    /// `NoMemory` where memory could not be had.
     pub fn state(&self, alloc: Global) -> Result<Vec<Arc<K>>, NoMemory>
         ensures { IfOk result (λ v. map arc_value v.items ≡ objects self.now) }
     {
@@ -283,6 +287,10 @@ impl<K: Resource> Cache<K> {
     }
 
     /// The objects that pass, in order.
+    ///
+    /// # Errors
+    ///
+    /// `NoMemory` where memory could not be had.
     pub fn state_filter<P: Fn(&K) -> bool>(
         &self,
         alloc: Global,
@@ -295,6 +303,10 @@ impl<K: Resource> Cache<K> {
     }
 
     /// The objects whose labels a selector selects, in order. An object without labels has none of them.
+    ///
+    /// # Errors
+    ///
+    /// `NoMemory` where memory could not be had.
     pub fn state_filter_selector(
         &self,
         alloc: Global,

@@ -48,6 +48,10 @@ impl<K: Resource> ReflectHandle<K> {
     ///
     /// `NotReady` where all are taken, and `End` where besides no more offers follow. After want of memory the writer is
     /// as before, and every further poll of this handle answers that alone.
+    ///
+    /// # Errors
+    ///
+    /// `NoMemory` where the object could not be shared, and in each poll after that.
     pub fn poll_next(
         &mut self,
         _alloc: Global,
@@ -73,6 +77,10 @@ impl<K: Resource> ReflectHandle<K> {
     }
 
     /// One more subscription, to what this one has not taken yet and what is offered from now on.
+    ///
+    /// # Errors
+    ///
+    /// `NoMemory` where there is none for one subscriber more; the writer is then as before.
     pub fn clone(
         &self,
         _alloc: Global,

@@ -138,6 +138,10 @@ impl<K: Resource> Store<K> {
     }
 
     /// The object under a reference, or else under it without its namespace, as cluster-scoped objects are stored.
+    ///
+    /// # Errors
+    ///
+    /// `NoMemory` where the object could not be shared.
     pub fn get<R: Wait>(
         &mut self,
         rt: &R,
@@ -152,6 +156,10 @@ impl<K: Resource> Store<K> {
     }
 
     /// The first object that passes.
+    ///
+    /// # Errors
+    ///
+    /// `NoMemory` where the object could not be shared.
     pub fn find<R: Wait, P: Fn(&K) -> bool>(
         &mut self,
         rt: &R,
@@ -167,6 +175,10 @@ impl<K: Resource> Store<K> {
     }
 
     /// All objects, in order.
+    ///
+    /// # Errors
+    ///
+    /// `NoMemory` where memory could not be had.
     pub fn state<R: Wait>(&mut self, rt: &R, alloc: Global) -> Result<Vec<Arc<K>>, NoMemory>
         ensures read { (p : Publication K) × IfOk result (λ v. map arc_value v.items ≡ objects (stored_in K.meta_of p)) }
         ensures own { self.new.book ≡ self.old.book }
@@ -175,6 +187,10 @@ impl<K: Resource> Store<K> {
     }
 
     /// The objects that pass, in order.
+    ///
+    /// # Errors
+    ///
+    /// `NoMemory` where memory could not be had.
     pub fn state_filter<R: Wait, P: Fn(&K) -> bool>(
         &mut self,
         rt: &R,
@@ -189,6 +205,10 @@ impl<K: Resource> Store<K> {
     }
 
     /// The objects whose labels a selector selects, in order. An object without labels has none of them.
+    ///
+    /// # Errors
+    ///
+    /// `NoMemory` where memory could not be had.
     pub fn state_filter_selector<R: Wait>(
         &mut self,
         rt: &R,
@@ -205,6 +225,10 @@ impl<K: Resource> Store<K> {
     }
 
     /// The references under which objects are stored, in order.
+    ///
+    /// # Errors
+    ///
+    /// `NoMemory` where memory could not be had.
     pub fn keys<R: Wait>(&mut self, rt: &R, alloc: Global) -> Result<Vec<ObjectRef<K>>, NoMemory>
         ensures read { (p : Publication K) × IfOk result (λ v. map (reference_of K.type_of) v.items ≡ map (λ e. e.0) (stored_in K.meta_of p)) }
         ensures own { self.new.book ≡ self.old.book }

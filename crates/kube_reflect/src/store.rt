@@ -96,6 +96,10 @@ fn put_out<R: Wait, K: Resource>(rt: &R, copies: &RwLock<Readable<K>>, readable:
 }
 
 /// A writer of an empty cache, and its first store handle. `readers` is how many handles there are, this one included.
+///
+/// # Errors
+///
+/// `NoMemory` where memory could not be had.
 pub fn store<K: Resource<DynamicType = ()>>(
     alloc: Global,
     readers: u32,
@@ -108,7 +112,11 @@ pub fn store<K: Resource<DynamicType = ()>>(
 }
 
 /// As `store`, with a writer that takes subscribers: `buf_size` is how many offered references each of them may leave
-/// before no more are offered.
+/// before no more are offered. One that takes none then holds back the reflector and all other subscribers.
+///
+/// # Errors
+///
+/// `NoMemory` where memory could not be had.
 pub fn store_shared<K: Resource<DynamicType = ()>>(
     alloc: Global,
     buf_size: u32,
@@ -136,6 +144,10 @@ fn with_first<K: Resource>(writer: Writer<K>) -> Result<(Store<K>, Writer<K>), N
 
 impl<K: Resource> Writer<K> {
     /// A writer of an empty cache, which takes no subscribers. `readers` is how many store handles it can give.
+    ///
+    /// # Errors
+    ///
+    /// `NoMemory` where memory could not be had.
     pub fn new(alloc: Global, t: K::DynamicType, readers: u32) -> Result<Writer<K>, NoMemory>
         requires { 1 ≤ readers }
         ensures { IfOk result (λ w. w ≡ new_writer (K.type_of t) readers None w.book) }
@@ -145,6 +157,10 @@ impl<K: Resource> Writer<K> {
 
     /// A writer of an empty cache, which takes subscribers: `buf_size` is how many offered references each of them may
     /// leave before no more are offered.
+    ///
+    /// # Errors
+    ///
+    /// `NoMemory` where memory could not be had.
     pub fn new_shared(
         alloc: Global,
         buf_size: u32,
@@ -191,6 +207,10 @@ impl<K: Resource> Writer<K> {
 
     /// Makes readable what is stored now: handles then read this cache. The note is one of this writer. After want of memory
     /// handles read what they read before.
+    ///
+    /// # Errors
+    ///
+    /// `NoMemory` where there is none for the copy that is read; nothing was published then.
     pub fn publish<R: Wait>(&mut self, rt: &R, alloc: Global) -> Result<Published<K>, NoMemory>
         ensures writer { self.new ≡ self.old }
         ensures note { IfOk result (λ n. n.book ≡ self.old.book) }
@@ -203,6 +223,10 @@ impl<K: Resource> Writer<K> {
 
     /// Makes readable what is stored now, and that no more follows. After want of memory nothing is published, and the
     /// writer comes back as it was.
+    ///
+    /// # Errors
+    ///
+    /// `NoMemory`, with the writer, where there is none for the copy that is read.
     pub fn end<R: Wait>(self, rt: &R, alloc: Global) -> Result<Ended<K>, (Writer<K>, NoMemory)>
         ensures ended { IfOk result (λ e. e.book ≡ self.book) }
         ensures events { IfOk result (λ e. e.events ≡ self.events) }
@@ -276,6 +300,10 @@ impl<K: Resource> Writer<K> {
     }
 
     /// Adds a subscriber, which takes what is offered from now on. None where the writer is not shared.
+    ///
+    /// # Errors
+    ///
+    /// `NoMemory` where there is none for one subscriber more; the writer is then as before.
     pub fn subscribe(&mut self, _alloc: Global) -> Result<Option<ReflectHandle<K>>, NoMemory>
         ensures none { IfOk result (λ o. is_some o ≡ is_some self.old.ring) }
         ensures handle { IfOk result (λ o. IfSome o (λ h. h ≡ fresh (next_number self.old))) }
@@ -296,6 +324,10 @@ impl<K: Resource> Writer<K> {
     /// Offers a reference to each live subscriber. `Full` where one of them has not taken as many offered references as
     /// it may leave; the writer is then as before, also after want of memory. The reference is dropped where there is no
     /// live subscriber.
+    ///
+    /// # Errors
+    ///
+    /// `Full` where a live subscriber lags behind, and `NoMemory`; the writer is then as before.
     pub fn offer(&mut self, _alloc: Global, reference: ObjectRef<K>) -> Result<(), OfferError>
         ensures offered { OnOk result (self.new ≡ with_offer self.old (reference_of K.type_of reference)) }
         ensures room { OnOk result (is_lagged self.old ≡ false) }

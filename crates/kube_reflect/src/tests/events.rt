@@ -1,6 +1,8 @@
 //! Events that are applied to a writer.
 
-use super::objects::{Object, alone, config_maps, generated, kind, labelled, name_of, object, reference};
+use super::objects::{
+    Object, alone, config_maps, generated, kind, labelled, name_of, object, reference,
+};
 use crate::{WriteError, Writer};
 use kube_meta::{DynamicObject, Expression, ObjectRef, Selector, Text};
 use kube_watch::Event;
@@ -166,10 +168,14 @@ fn find_by_generation(
 ) -> Result<(), Fail> {
     assert!(rt; writer.cache().is_empty());
     writer.apply_watcher_event(alloc, &Event::Apply(object(alloc, "a", "", "")?))?;
-    let found = writer.cache().find(|object| object.metadata.generation == Some(1234));
+    let found = writer
+        .cache()
+        .find(|object| object.metadata.generation == Some(1234));
     assert!(rt; found.is_none());
     writer.apply_watcher_event(alloc, &Event::Apply(generated(alloc, "b", 1234)?))?;
-    let found = writer.cache().find(|object| object.metadata.generation == Some(1234));
+    let found = writer
+        .cache()
+        .find(|object| object.metadata.generation == Some(1234));
     assert_eq!(rt; found.map(|object| name_of(&**object)), Some("b"));
     assert_eq!(rt; writer.cache().len(), 2);
     Ok(())
