@@ -15,7 +15,8 @@ use std::sync::Arc;
 ///
 /// Contracts see it as the number of its subscriber, and whether it could have no memory. It is its writer's as long as
 /// that number is one of a live subscriber of that writer. A subscriber is live until it leaves: where its handle is
-/// dropped without that, it lags behind and no more offers are taken than it has room for.
+/// dropped without that, it lags behind and no more offers are taken than it has room for. The number of one that has
+/// left, which takes its handle, may be that of a later subscriber.
 #[derive(Drop)]
 pub struct ReflectHandle<K: Resource> {
     number: usize,
