@@ -1,5 +1,5 @@
 -- What is kept was made by the events that were applied, and one event more makes what is kept then.
-use Rattle.std.proofs.Common.{◌≡◌, ℕ, ◌+◌, ◌<◌, Bool, true, false, ◌&&◌, List, [], ◌∷◌, ◌++◌, take, length, get_or, Option, zero, suc, refl, sym, ap, ap₂, ◌∙◌, fold, absurd, arith}
+use Rattle.std.proofs.Common.{◌≡◌, ℕ, ◌+◌, ◌<◌, Bool, true, false, ◌&&◌, List, [], ◌∷◌, ◌++◌, take, length, get_or, Option, Result, Ok, Err, OnOk, zero, suc, refl, sym, ap, ap₂, ◌∙◌, fold, arith}
 use Rattle.std.specs.List.{list_all}
 use Rattle.std.proofs.lemmas.List.{take_more}
 use Rattle.std.proofs.lemmas.List.Folds.{list_all-append}
@@ -16,6 +16,11 @@ use Rattle.kube_reflect.specs.Writers.{Writing, with_event}
 pub fold-more : {A B : Type 0} (f : B → A → B) (b : B) (xs : List A) (x : A) → fold f b (xs ++ x ∷ []) ≡ f (fold f b xs) x
 fold-more f b [] x = refl
 fold-more f b (y ∷ ys) x = fold-more f (f b y) ys x
+
+-- what follows from an Ok
+pub on-ok : {A E P Q : Type 0} (r : Result A E) → (P → Q) → OnOk r P → OnOk r Q
+on-ok (Ok a) f h = f h
+on-ok (Err e) f h = tt
 
 -- the same, up to a place
 pub fold-next : {A B : Type 0} (f : B → A → B) (b : B) (xs : List A) (i : ℕ) (x : A) → i < length xs → x ≡ get_or xs i x → fold f b (take (i + 1) xs) ≡ f (fold f b (take i xs)) x

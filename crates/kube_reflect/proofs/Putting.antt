@@ -1,5 +1,5 @@
 -- On putting an object among stored items, and on dropping one. Items are seen as references with objects.
-use Rattle.std.proofs.Common.{◌≡◌, ℕ, zero, suc, ◌+◌, ◌<◌, Bool, true, false, not, ◌&&◌, cond, map, List, [], ◌∷◌, ◌++◌, length, get_or, set, take, drop, Option, Some, None, bytes_eq, refl, sym, ◌∙◌, ap, subst, absurd, arith}
+use Rattle.std.proofs.Common.{◌≡◌, ℕ, zero, suc, ◌+◌, ◌<◌, Bool, true, false, not, ◌&&◌, cond, map, List, [], ◌∷◌, ◌++◌, length, get_or, set, take, drop, Option, Some, None, bytes_eq, refl, sym, ◌∙◌, ap, subst, arith}
 use Rattle.std.specs.Prelude.{slice_get}
 use Rattle.std.specs.List.{filter}
 use Rattle.std.specs.Option.{option_eq}
@@ -31,8 +31,14 @@ same-option None (Some y) h = true_false (sym h)
 same-option (Some x) None h = true_false (sym h)
 same-option (Some x) (Some y) h = ap Some ((bytes_eq-Decides x y).0 h)
 
+abbrev type_of : List ℕ → List ℕ → List ℕ → List ℕ → ObjectType
+type_of g v k p = record { group = g; version = v; kind = k; plural = p }
+
 types-alike : (a b : ObjectType) → a.group ≡ b.group → a.version ≡ b.version → a.kind ≡ b.kind → a.plural ≡ b.plural → a ≡ b
-types-alike a b g v k p = cc
+types-alike a b g v k p =
+    ap (λ (x : List ℕ). type_of x a.version a.kind a.plural) g
+    ∙ (ap (λ (x : List ℕ). type_of b.group x a.kind a.plural) v
+    ∙ (ap (λ (x : List ℕ). type_of b.group b.version x a.plural) k ∙ ap (λ (x : List ℕ). type_of b.group b.version b.kind x) p))
 
 same-types : (a b : ObjectType) → same_type a b ≡ true → a ≡ b
 same-types a b h =
@@ -45,8 +51,13 @@ same-types a b h =
     ((bytes_eq-Decides a.kind b.kind).0 (and_second gv (bytes_eq a.kind b.kind) first))
     ((bytes_eq-Decides a.plural b.plural).0 (and_second gvk (bytes_eq a.plural b.plural) h))
 
+abbrev reference_by : ObjectType → List ℕ → Option (List ℕ) → Reference
+reference_by k n s = record { kind = k; name = n; namespace = s }
+
 references-alike : (a b : Reference) → a.kind ≡ b.kind → a.name ≡ b.name → a.namespace ≡ b.namespace → a ≡ b
-references-alike a b k n s = cc
+references-alike a b k n s =
+    ap (λ (x : ObjectType). reference_by x a.name a.namespace) k
+    ∙ (ap (λ (x : List ℕ). reference_by b.kind x a.namespace) n ∙ ap (λ (x : Option (List ℕ)). reference_by b.kind b.name x) s)
 
 pub same-references : (a b : Reference) → same_reference a b ≡ true → a ≡ b
 same-references a b h =

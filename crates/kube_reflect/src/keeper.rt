@@ -79,14 +79,14 @@ impl<K: Resource> Keeper<K> {
     pub(crate) fn cache(&self) -> &Cache<K>
         ensures { result.now ≡ self.now.kept.cache }
     {
-        &self.made.cache
+        self.made.cache()
     }
 
     // Whether a list was complete.
     pub(crate) fn is_ready(&self) -> bool
         ensures { result ≡ self.now.kept.is_ready }
     {
-        self.made.is_ready
+        self.made.is_ready()
     }
 
     // The events that were applied, for contracts.
@@ -152,8 +152,8 @@ impl<K: Resource> Keeper<K> {
         ensures { IfOk result (λ r. r ≡ record { cache = self.now.kept.cache; is_ready = self.now.kept.is_ready; has_ended = has_ended }) }
     {
         Ok(Readable {
-            cache: self.made.cache.copy(alloc)?,
-            is_ready: self.made.is_ready,
+            cache: self.made.cache().copy(alloc)?,
+            is_ready: self.made.is_ready(),
             has_ended,
         })
     }

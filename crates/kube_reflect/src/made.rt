@@ -18,9 +18,9 @@ use std::sync::Arc;
 /// What the events of a watcher make.
 #[derive(Drop)]
 pub(crate) struct Made<K: Resource> {
-    pub(crate) cache: Cache<K>,
-    pub(crate) buffer: Cache<K>,
-    pub(crate) is_ready: bool,
+    cache: Cache<K>,
+    buffer: Cache<K>,
+    is_ready: bool,
 }
 
 impl<K: Resource> Model for Made<K> {
@@ -66,6 +66,20 @@ impl<K: Resource> Made<K> {
             buffer: Cache::new(alloc),
             is_ready: false,
         }
+    }
+
+    // What is stored.
+    pub(crate) fn cache(&self) -> &Cache<K>
+        ensures { result.now ≡ self.now.cache }
+    {
+        &self.cache
+    }
+
+    // Whether a list was complete.
+    pub(crate) fn is_ready(&self) -> bool
+        ensures { result ≡ self.now.is_ready }
+    {
+        self.is_ready
     }
 
     // The same once more, with the same references and objects.

@@ -312,6 +312,16 @@ impl<K: Resource> Writer<K> {
         ensures err { OnErr result (self.new ≡ self.old) }
         ensures live { AllStay self.old self.new }
     {
+        self.subscribe_once()
+    }
+
+    // The same, without a word on those that stay.
+    fn subscribe_once(&mut self) -> Result<Option<ReflectHandle<K>>, NoMemory>
+        ensures none { IfOk result (λ o. is_some o ≡ is_some self.old.ring) }
+        ensures handle { IfOk result (λ o. IfSome o (λ h. h ≡ fresh (next_number self.old))) }
+        ensures writer { OnOk result (self.new ≡ with_subscriber self.old []) }
+        ensures err { OnErr result (self.new ≡ self.old) }
+    {
         match &mut self.ring {
             Some(ring) => {
                 let number = ring.subscribe()?;
@@ -436,6 +446,16 @@ impl<K: Resource> Writer<K> {
         ensures own { IfOk result (λ n. is_live self.new n ≡ true) }
         ensures err { OnErr result (self.new ≡ self.old) }
         ensures live { AllStay self.old self.new }
+    {
+        self.copy_once(number)
+    }
+
+    // The same, without a word on those that stay.
+    fn copy_once(&mut self, number: usize) -> Result<usize, NoMemory>
+        requires { is_live self.old number ≡ true }
+        ensures number { IfOk result (λ n. n ≡ next_number self.old) }
+        ensures writer { OnOk result (self.new ≡ with_subscriber self.old (references_for self.old number)) }
+        ensures err { OnErr result (self.new ≡ self.old) }
     {
         match &mut self.ring {
             Some(ring) => ring.copy(number),

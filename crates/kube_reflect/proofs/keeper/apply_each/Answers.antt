@@ -17,7 +17,7 @@ loop-event-preserved g c =
     let h : c.loop-event.event-index < length c.args.events.now = omega arith in
     record {
       applied =
-          ap₂ (λ k es. record { kind = kind; kept = k; events = es }) c.in_ok-apply.ensures.applied c.one_more.ensures
+          ap₂ (λ k es. record { kind = kind; kept = k; events = es }) c.in_ok-apply.ensures.applied c.one_more-history.ensures
           ∙ (ap (λ k. keeping_with arc_value meta k x) c.loop-event.invariant.applied
           ∙ sym (fold-next (keeping_with arc_value meta) (record { kind = kind; kept = c.args.made; events = c.args.history.log }) all i x h c.event-item.is));
       named = all-next (λ e. has_name meta (event_map arc_value e)) all i x h c.event-item.is c.loop-event.invariant.named c.in_ok-apply.ensures.named;

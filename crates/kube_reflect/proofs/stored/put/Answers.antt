@@ -2,7 +2,7 @@ use Rattle.std.proofs.Common.{◌≡◌, ◌<◌, ◌∙◌, sym, ap, ap₂, sub
 use Rattle.std.specs.Prelude.{slice_set, IfSome}
 use Rattle.std.specs.Arc.{arc_value}
 use Rattle.kube_meta.specs.Keys.{reference_of}
-use Rattle.kube_meta.specs.Reference.{same_reference}
+use Rattle.kube_meta.specs.Reference.{Reference, same_reference}
 use Rattle.kube_reflect.specs.Views.{stored_of}
 use Rattle.kube_reflect.proofs.Putting.{put_hit, item-at, same-references}
 use Rattle.kube_reflect.proofs.stored.put.Goals as goal
@@ -16,7 +16,7 @@ returns-then-eq-clause-ok g c =
     let seen = stored_of g.K.Resource.type_of in
     let ref = reference_of g.K.Resource.type_of in
     let x = c.index.result.now in
-    let pair = (ref c.args.reference, arc_value c.args.object) in
+    let pair : Reference × g.row.K.Denot = (ref c.args.reference, arc_value c.args.object) in
     let same : same_reference (seen c.index.result.now).0 (ref c.args.reference) ≡ true =
     ap (λ a. same_reference (ref a) (ref c.args.reference)) (sym c.deref.ensures) ∙ (sym c.eq.ensures ∙ c.if-eq.true) in
     let s = record x { object = c.args.object } in

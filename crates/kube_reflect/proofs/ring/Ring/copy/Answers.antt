@@ -8,8 +8,8 @@ use Rattle.kube_reflect.specs.Subscribers.{subscribed}
 use Rattle.kube_reflect.proofs.Lagging.{within-placed, within-at, placed-seen, free-seen, for_waiting, seen_ring, not_waiting}
 use Rattle.kube_reflect.proofs.ring.Ring.copy.Goals as goal
 
-pub invariant_of-self : goal.invariant_of-self
-invariant_of-self g c =
+pub invariant_of-self-2 : goal.invariant_of-self-2
+invariant_of-self-2 g c =
     let n = length c.self.inside.references.items in
     let lags = c.self.inside.lags.items in
     let l = sym c.in-Some.is ∙ (c.lag_of.ensures.lag ∙ ap (λ ls. option_flatten (slice_get ls c.args.number)) c.deref.ensures.value) in
@@ -23,8 +23,8 @@ returns-clause-ok g c =
     let over = c.self.inside.is_closed in
     let lags = c.self.inside.lags.items in
     let l = sym c.in-Some.is ∙ (c.lag_of.ensures.lag ∙ ap (λ ls. option_flatten (slice_get ls c.args.number)) c.deref.ensures.value) in
-    for_waiting room rs over lags c.args.number c.in-Some.lag c.args.self.now (λ ws. seen_ring room rs c.place-number.new.lags.items over ≡ subscribed c.args.self.now ws) l c.self.view_is
-    (placed-seen room rs over lags c.place-number.new.lags.items c.in-Some.lag c.args.self.now c.in_ok-number.ensures.ok c.self.view_is)
+    for_waiting room rs over lags c.args.number c.in-Some.lag c.args.self.now (λ ws. seen_ring room rs c.place.new.lags.items over ≡ subscribed c.args.self.now ws) l c.self.view_is
+    (placed-seen room rs over lags c.place.new.lags.items c.in-Some.lag c.args.self.now c.in_ok-number.ensures.ok c.self.view_is)
 
 pub returns-clause-number : goal.returns-clause-number
 returns-clause-number g c =
