@@ -41,6 +41,10 @@ fails-at p (y ∷ xs) (suc i) x h e f = ap (λ b. p y && b) (fails-at p xs i x (
     and-false true = refl
     and-false false = refl
 
+-- a writer that keeps this
+abbrev pub writing : {O : Type 0} → Keeping O → ℕ → Option Ring → Book → Writing O
+writing k readers ring book = record { kind = k.kind; kept = k.kept; events = k.events; readers = readers; ring = ring; book = book }
+
 module _ {O : Type 0} (meta : O → ObjectMeta) where
   pub made-then : (kind : ObjectType) (kept new : Kept O) (events log : List (Event O)) (event : Event O) → IsMade meta (record { kind = kind; kept = kept; events = events })
       → new ≡ applied (λ o. key_of kind (meta o)) kept event → log ≡ events ++ event ∷ [] → IsMade meta (record { kind = kind; kept = new; events = log })
@@ -55,10 +59,6 @@ module _ {O : Type 0} (meta : O → ObjectMeta) where
     pub made-all : (k : Keeping O) (events : List (Event A)) → IsMade meta k → IsMade meta (fold (keeping_with value meta) k events)
     made-all k [] made = made
     made-all k (e ∷ es) made = made-all (keeping_with value meta k e) es (made-with k e made)
-
-    -- a writer that keeps this
-    abbrev pub writing : Keeping O → ℕ → Option Ring → Book → Writing O
-    writing k readers ring book = record { kind = k.kind; kept = k.kept; events = k.events; readers = readers; ring = ring; book = book }
 
     -- events that are applied to what is kept are applied to the writer
     pub all-applied : (k : Keeping O) (readers : ℕ) (ring : Option Ring) (book : Book) (events : List (Event A))

@@ -3,7 +3,7 @@ use Rattle.std.specs.List.{fold, list_all}
 use Rattle.std.specs.Arc.{arc_value}
 use Rattle.kube_watch.specs.Events.{event_map}
 use Rattle.kube_reflect.specs.Cached.{has_name}
-use Rattle.kube_reflect.specs.Published.{Keeping, keeping_with}
+use Rattle.kube_reflect.specs.Published.{keeping_with}
 use Rattle.kube_reflect.proofs.keeper.apply_each.Given as goal
 
 -- those before were applied, and have names

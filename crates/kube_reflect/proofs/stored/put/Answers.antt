@@ -1,4 +1,4 @@
-use Rattle.std.proofs.Common.{◌≡◌, ◌<◌, ◌∙◌, sym, ap, ap₂, subst, arith, length, map, set, true}
+use Rattle.std.proofs.Common.{◌≡◌, ◌<◌, ◌∙◌, sym, ap, subst, arith, length, map, set, true}
 use Rattle.std.specs.Prelude.{slice_set, IfSome}
 use Rattle.std.specs.Arc.{arc_value}
 use Rattle.kube_meta.specs.Keys.{reference_of}

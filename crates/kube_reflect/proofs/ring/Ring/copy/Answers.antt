@@ -1,11 +1,11 @@
-use Rattle.std.proofs.Common.{◌≡◌, ◌∙◌, ap, sym, length, map, Some}
+use Rattle.std.proofs.Common.{◌≡◌, ◌∙◌, ap, sym, length, map}
 use Rattle.std.specs.Prelude.{slice_get}
 use Rattle.std.specs.List.{list_all}
 use Rattle.std.specs.Option.{option_flatten}
 use Rattle.kube_meta.specs.Keys.{reference_of}
 use Rattle.kube_reflect.specs.Lags.{is_within}
 use Rattle.kube_reflect.specs.Subscribers.{subscribed}
-use Rattle.kube_reflect.proofs.Lagging.{within-placed, within-at, placed-seen, free-seen, for_waiting, seen_ring, not_waiting}
+use Rattle.kube_reflect.proofs.Lagging.{within-placed, within-at, placed-seen, free-seen, for_waiting, seen_ring}
 use Rattle.kube_reflect.proofs.ring.Ring.copy.Goals as goal
 
 pub invariant_of-self-2 : goal.invariant_of-self-2
