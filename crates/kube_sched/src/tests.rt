@@ -177,7 +177,7 @@ fn any_run_at(state: &mut u64, now: u64) -> u64 {
 }
 
 /// One step on both: a request, a settle or a take. What was taken by each.
-fn step(
+fn take_step(
     alloc: Global,
     state: &mut u64,
     now: u64,
@@ -238,7 +238,7 @@ fn step_on_both(
         now = now
             .saturating_add(next_number(&mut state) % 7)
             .saturating_sub(1);
-        let (mine, wanted) = step(alloc, &mut state, now, scheduler, plain)?;
+        let (mine, wanted) = take_step(alloc, &mut state, now, scheduler, plain)?;
         assert_eq!(rt; mine, wanted);
         if mine.is_some() {
             given = given.saturating_add(1);
