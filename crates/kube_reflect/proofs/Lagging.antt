@@ -1,14 +1,13 @@
 -- On the lags of subscribers behind the references of a ring.
-use Rattle.std.proofs.Common.{◌≡◌, ℕ, zero, suc, ◌+◌, ◌-◌, ◌<◌, Bool, true, false, ◌&&◌, ◌||◌, nat_le, if◌then◌else◌, List, [], ◌∷◌, ◌++◌, length, get_or, set, take, drop, map, Option, Some, None, refl, sym, ◌∙◌, ap, ap₂, subst, arith, append_assoc}
+use Rattle.std.proofs.Common.{◌≡◌, ℕ, zero, suc, ◌+◌, ◌-◌, ◌<◌, ◌≤◌, Bool, true, false, ◌&&◌, ◌||◌, nat_le, if◌then◌else◌, List, [], ◌∷◌, ◌++◌, length, get_or, set, take, drop, map, Option, Some, None, refl, sym, ◌∙◌, ap, ap₂, subst, arith, append_assoc, one-add}
 use Rattle.std.specs.Prelude.{slice_get, is_some, IfSome}
-use Rattle.std.specs.List.{list_all, list_any}
+use Rattle.std.specs.List.{list_all, list_any, prefix_len}
 use Rattle.std.specs.Option.{option_flatten}
 use Rattle.std.proofs.lemmas.Bool.{leb-true, leb-false, le-leb}
 use Rattle.std.proofs.lemmas.List.{drop_more, drop-drop, drop-append-le, length-map, length-drop, length_push, map-append, map-set, take_more_set, drop-set-lt}
-use Rattle.std.proofs.lemmas.List.Folds.{list_all-append}
 use Rattle.kube_meta.specs.Reference.{Reference}
 use Rattle.kube_reflect.specs.Reads.{object_at}
-use Rattle.kube_reflect.specs.Subscribers.{Ring, first_stored, also, lags_by, subscribed, with_waiting, waiting_for}
+use Rattle.kube_reflect.specs.Subscribers.{Ring, first_stored, also, lags_by, free_number, placed, subscribed, with_waiting, waiting_for}
 use Rattle.kube_reflect.specs.Lags.{lagging, is_within, reaches, one_more, pushed}
 
 false_true : {P : Type 0} → false ≡ true → P
@@ -53,9 +52,40 @@ within-set k (x ∷ lags) (suc n) lag h w =
     and_both (is_within k x) (list_all (is_within k) (set lags n lag)) (and_first (is_within k x) (list_all (is_within k) lags) h)
     (within-set k lags n lag (and_second (is_within k x) (list_all (is_within k) lags) h) w)
 
--- one more lag that is within it
-pub within-push : (k : ℕ) (lags : List (Option ℕ)) (lag : Option ℕ) → list_all (is_within k) lags ≡ true → is_within k lag ≡ true → list_all (is_within k) (lags ++ lag ∷ []) ≡ true
-within-push k lags lag h w = list_all-append (is_within k) lags (lag ∷ []) ∙ and_both (list_all (is_within k) lags) (is_within k lag && true) h (and_both (is_within k lag) true w refl)
+-- one more lag that is within it, at the first number that is nobody's
+pub within-placed : (k : ℕ) (lags : List (Option ℕ)) (lag : ℕ) → list_all (is_within k) lags ≡ true → nat_le lag k ≡ true → list_all (is_within k) (placed lags lag) ≡ true
+within-placed k [] lag h w = and_both (nat_le lag k) true w refl
+within-placed k (None ∷ lags) lag h w = and_both (nat_le lag k) (list_all (is_within k) lags) w h
+within-placed k (Some x ∷ lags) lag h w =
+    and_both (nat_le x k) (list_all (is_within k) (placed lags lag)) (and_first (nat_le x k) (list_all (is_within k) lags) h)
+    (within-placed k lags lag (and_second (nat_le x k) (list_all (is_within k) lags) h) w)
+
+-- it is at the place of that number
+pub placed-at : {A : Type 0} (xs : List (Option A)) (new : A) → prefix_len is_some xs < length xs → set xs (prefix_len is_some xs) (Some new) ≡ placed xs new
+placed-at [] new h = absurd (omega arith)
+placed-at (None ∷ xs) new h = refl
+placed-at (Some x ∷ xs) new h = rw one-add (ap (λ ys. Some x ∷ ys) (placed-at xs new (omega arith)))
+
+pub placed-behind : {A : Type 0} (xs : List (Option A)) (new : A) → length xs ≤ prefix_len is_some xs → xs ++ Some new ∷ [] ≡ placed xs new
+placed-behind [] new h = refl
+placed-behind (None ∷ xs) new h = absurd (omega arith)
+placed-behind (Some x ∷ xs) new h = ap (λ ys. Some x ∷ ys) (placed-behind xs new (omega arith))
+
+free-lagging : (rs : List Reference) (lags : List (Option ℕ)) → free_number (map (lagging rs) lags) ≡ free_number lags
+free-lagging rs [] = refl
+free-lagging rs (None ∷ lags) = refl
+free-lagging rs (Some k ∷ lags) = ap (λ n. 1 + n) (free-lagging rs lags)
+
+-- who is there is seen by the lags
+pub some-lagging : (rs : List Reference) (lags : List (Option ℕ)) → list_any is_some (map (lagging rs) lags) ≡ list_any is_some lags
+some-lagging rs [] = refl
+some-lagging rs (None ∷ lags) = some-lagging rs lags
+some-lagging rs (Some k ∷ lags) = refl
+
+placed-lagging : (rs : List Reference) (lags : List (Option ℕ)) (k : ℕ) → map (lagging rs) (placed lags k) ≡ placed (map (lagging rs) lags) (drop (length rs - k) rs)
+placed-lagging rs [] k = refl
+placed-lagging rs (None ∷ lags) k = refl
+placed-lagging rs (Some x ∷ lags) k = ap (λ ws. Some (drop (length rs - x) rs) ∷ ws) (placed-lagging rs lags k)
 
 -- the ring of these references and lags
 abbrev pub seen_ring : ℕ → List Reference → List (Option ℕ) → Bool → Ring
@@ -77,23 +107,21 @@ module _ (room : ℕ) (rs : List Reference) (over : Bool) where
       → waiting_for ring n ≡ lagging rs lag
   waiting_of lags n lag ring e v = ap (λ (r : Ring). waiting_for r n) (sym v) ∙ (waiting-lag rs lags n ∙ ap (lagging rs) (sym e))
 
-  -- a lag is copied
-  pub copied : (lags lags' : List (Option ℕ)) (n : ℕ) (lag : Option ℕ) (ring : Ring) → lags' ≡ lags ++ lag ∷ [] → lag ≡ option_flatten (slice_get lags n)
-      → seen_ring room rs lags over ≡ ring → IfSome (waiting_for ring n) (λ ws. seen_ring room rs lags' over ≡ subscribed ring ws)
-  copied lags lags' n lag ring e l v =
-      subst (λ o. IfSome o (λ ws. seen_ring room rs lags' over ≡ subscribed ring ws)) (sym (waiting_of lags n lag ring l v)) (go lag e)
-    where
-      go : (lag : Option ℕ) → lags' ≡ lags ++ lag ∷ [] → IfSome (lagging rs lag) (λ ws. seen_ring room rs lags' over ≡ subscribed ring ws)
-      go None e = search
-      go (Some k) e =
-          ap (λ ls. seen_ring room rs ls over) e
-          ∙ (ap (λ ws. record { room = room; waiting = ws; is_closed = over }) (map-append (lagging rs) lags (Some k ∷ []))
-          ∙ ap (λ (r : Ring). subscribed r (drop (length rs - k) rs)) v)
-
   -- a fact of what waits for a subscriber
   pub for_waiting : (lags : List (Option ℕ)) (n k : ℕ) (ring : Ring) (P : List Reference → Type 0) → Some k ≡ option_flatten (slice_get lags n) → seen_ring room rs lags over ≡ ring
       → P (drop (length rs - k) rs) → IfSome (waiting_for ring n) P
   for_waiting lags n k ring P l v p = subst (λ o. IfSome o P) (sym (waiting_of lags n (Some k) ring l v)) p
+
+  -- a subscriber is added
+  pub placed-seen : (lags lags' : List (Option ℕ)) (k : ℕ) (ring : Ring) → lags' ≡ placed lags k → seen_ring room rs lags over ≡ ring
+      → seen_ring room rs lags' over ≡ subscribed ring (drop (length rs - k) rs)
+  placed-seen lags lags' k ring e v =
+      ap (λ ls. seen_ring room rs ls over) e
+      ∙ (ap (λ ws. record { room = room; waiting = ws; is_closed = over }) (placed-lagging rs lags k)
+      ∙ ap (λ (r : Ring). subscribed r (drop (length rs - k) rs)) v)
+
+  pub free-seen : (lags : List (Option ℕ)) (ring : Ring) → seen_ring room rs lags over ≡ ring → free_number lags ≡ free_number ring.waiting
+  free-seen lags ring v = sym (free-lagging rs lags) ∙ ap (λ (r : Ring). free_number r.waiting) v
 
   -- one that has left waits for nothing
   pub not_waiting : (lags : List (Option ℕ)) (n : ℕ) (ring : Ring) → None ≡ option_flatten (slice_get lags n) → seen_ring room rs lags over ≡ ring

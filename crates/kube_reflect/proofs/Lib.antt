@@ -7,3 +7,4 @@ pub mod Relisting
 pub mod Seeing
 pub mod Offering
 pub mod Making
+pub mod Setting

@@ -1,22 +1,22 @@
 -- A value that is set once and seen later, as plain data. T is the type of the value. (kube-runtime's `utils::delayed_init`.)
-use Rattle.std.specs.Prelude.{ℕ, Option, Some, None, Result, Err}
+use Rattle.std.specs.Prelude.{Option, Some, None, Result, Err}
+use Rattle.logbook.specs.Pages.{Book}
 use Rattle.kube_meta.specs.declared.poll.Polled.{Polled}
 use Rattle.kube_meta.specs.declared.poll.Polled.TheVariants.{Ready, NotReady}
 use Rattle.kube_reflect.specs.declared.delayed_init.InitDropped.{InitDropped}
 
--- the name of the cell that an initializer sets
+-- the side that sets: the book of its value
 pub record Setter : Type 0 where
-  pub cell : ℕ
+  pub book : Book
 
--- the outcome that was set in a cell
+-- the outcome that was set
 pub record Noted (T : Type 0) : Type 0 where
-  pub cell : ℕ
+  pub book : Book
   pub outcome : Result T InitDropped
 
--- what the looks into a cell found, and the outcome that is known
+-- the side that sees: the outcome that it knows
 pub record Delayed (T : Type 0) : Type 0 where
-  pub cell : ℕ
-  pub found : Option (Result T InitDropped)
+  pub book : Book
   pub outcome : Option (Result T InitDropped)
 
 -- the outcome where no value follows
@@ -27,11 +27,3 @@ abandoned = Err (record {})
 abbrev pub answer_of : {A : Type 0} → Option A → Polled A
 answer_of None = NotReady
 answer_of (Some o) = Ready o
-
--- what is known once an outcome was told: what was known before stays
-abbrev pub known_after : {A : Type 0} → Option A → A → Option A
-known_after None o = Some o
-known_after (Some known) _ = Some known
-
-abbrev pub learnt : {T : Type 0} → Delayed T → Result T InitDropped → Delayed T
-learnt d o = record d { outcome = known_after d.outcome o }

@@ -13,3 +13,5 @@ pub mod HeldEvents
 pub mod Reflectors
 pub mod Lending
 pub mod DelayedInits
+pub mod Once
+pub mod Fates

@@ -1,18 +1,20 @@
 -- What a writer publishes, and what is read of it. (Crate: `reflector::store::Writer`, `reflector::Store`.)
-use Rattle.std.specs.Prelude.{◌≡◌, Bool, true, false, List, Ok, Err, Result}
+use Rattle.std.specs.Prelude.{◌≡◌, Bool, true, false, List, [], ◌∷◌, ◌++◌, Ok, Err, Result}
 use Rattle.kube_meta.specs.declared.metadata.ObjectMeta.{ObjectMeta}
 use Rattle.kube_meta.specs.declared.poll.Polled.{Polled}
 use Rattle.kube_meta.specs.declared.poll.Polled.TheVariants.{Ready, NotReady}
 use Rattle.kube_meta.specs.Reference.{ObjectType, Reference}
 use Rattle.kube_meta.specs.Keys.{key_of}
 use Rattle.kube_watch.specs.declared.event.Event.{Event}
-use Rattle.kube_reflect.specs.Cached.{Kept, kept_after}
+use Rattle.kube_watch.specs.Events.{event_map}
+use Rattle.kube_reflect.specs.Cached.{Kept, applied, kept_after}
 use Rattle.kube_reflect.specs.declared.reader.WriterDropped.{WriterDropped}
 
--- the type of the objects, and what the events of a watcher made of them
+-- the type of the objects, the events of a watcher that were applied, and what they made
 pub record Keeping (O : Type 0) : Type 0 where
   pub kind : ObjectType
   pub kept : Kept O
+  pub events : List (Event O)
 
 -- a list that a writer published: the events that it had applied, to objects of its type, and whether it had ended
 pub record Publication (O : Type 0) : Type 0 where
@@ -33,9 +35,9 @@ ready_by false true = Ready (Err (record {}))
 ready_by false false = NotReady
 
 module _ {O : Type 0} (meta : O → ObjectMeta) where
-  -- what is kept was made by some events
+  -- what is kept was made by the events
   abbrev pub IsMade : Keeping O → Type 0
-  IsMade k = (events : List (Event O)) × (k.kept ≡ kept_after (λ o. key_of k.kind (meta o)) events)
+  IsMade k = k.kept ≡ kept_after (λ o. key_of k.kind (meta o)) k.events
 
   -- what the events of a published list make
   abbrev pub kept_in : Publication O → Kept O
@@ -61,3 +63,10 @@ module _ {O : Type 0} (meta : O → ObjectMeta) where
   -- what a published list tells of its writer
   abbrev pub readiness : Publication O → Polled (Result (Unit {0}) WriterDropped)
   readiness p = ready_by (is_ready_in p) p.has_ended
+
+-- with one more event applied, of shared objects A
+abbrev pub keeping_with : {O A : Type 0} → (A → O) → (O → ObjectMeta) → Keeping O → Event A → Keeping O
+keeping_with value meta k event = record k {
+  kept = applied (λ o. key_of k.kind (meta o)) k.kept (event_map value event);
+  events = k.events ++ event_map value event ∷ [];
+}

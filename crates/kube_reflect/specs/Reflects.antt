@@ -4,7 +4,6 @@ use Rattle.std.specs.List.{fold}
 use Rattle.kube_meta.specs.declared.metadata.ObjectMeta.{ObjectMeta}
 use Rattle.kube_meta.specs.declared.poll.Next.TheVariants.{Item, NotReady, Spent, End}
 use Rattle.kube_meta.specs.Reference.{Reference}
-use Rattle.kube_meta.specs.Keys.{key_of}
 use Rattle.kube_watch.specs.declared.event.Event.{Event}
 use Rattle.kube_watch.specs.declared.event.Event.TheVariants.{Apply, Delete, Init, InitApply, InitDone}
 use Rattle.kube_watch.specs.declared.stream.StreamFault.{StreamFault}
@@ -12,8 +11,9 @@ use Rattle.kube_watch.specs.declared.stream.StreamFault.TheVariants.{NoMemory, U
 use Rattle.kube_watch.specs.Events.{event_map}
 use Rattle.kube_watch.specs.Streams.{Answer}
 pub use Rattle.kube_watch.specs.Asking.{gives_something, Said, Polls, Asked, fault_in}
-use Rattle.kube_reflect.specs.Cached.{applied, has_name}
-use Rattle.kube_reflect.specs.Writers.{Writing, is_lagged, with_offer, with_close}
+use Rattle.kube_reflect.specs.Cached.{has_name}
+use Rattle.kube_reflect.specs.Writers.{Writing, is_lagged, with_offer, with_close, key_in}
+pub use Rattle.kube_reflect.specs.Writers.{with_event}
 
 -- an event that was applied, with the references that are to be offered before it is given
 pub record Held (A : Type 0) : Type 0 where
@@ -63,22 +63,15 @@ module _ {O A : Type 0} where
       ⊎ ((answer ≡ Err NoMemory) × ((count : ℕ) × (w' ≡ all_offered w (take count rs))))
 
 module _ {O A : Type 0} (value : A → O) (meta : O → ObjectMeta) where
-  abbrev pub key_in : Writing O → O → Reference
-  key_in w o = key_of w.kind (meta o)
-
-  -- with one event applied
-  abbrev pub with_event : Writing O → Event A → Writing O
-  with_event w event = record w { kept = applied (key_in w) w.kept (event_map value event) }
-
-  -- the references that it then offers
+  -- the references that an event offers, once it was applied
   abbrev pub event_offers : Writing O → Event A → List Reference
-  event_offers w event = offers_of (key_in w) w.kept.cache (event_map value event)
+  event_offers w event = offers_of (key_in value meta w) w.kept.cache (event_map value event)
 
   -- an event came: it is applied, its references are offered, and it is given; or it has no name; or memory can't be had
   abbrev pub IsTaken : Writing O → Event A → Answer (Event A) → Writing O → Option (Held A) → Type 0
   IsTaken w event answer w' held' =
       ((has_name meta (event_map value event) ≡ true)
-      × IsOffered (with_event w event) event (event_offers (with_event w event) event) answer w' held')
+      × IsOffered (with_event value meta w event) event (event_offers (with_event value meta w event) event) answer w' held')
       ⊎ ((has_name meta (event_map value event) ≡ false) × (answer ≡ Err Unnamed) × (w' ≡ w) × (held' ≡ None))
       ⊎ ((answer ≡ Err NoMemory) × (w' ≡ w) × (held' ≡ None))
 

@@ -1,6 +1,6 @@
 -- What is offered to the subscribers of a writer. (Crate: `reflector::dispatcher`.)
-use Rattle.std.specs.Prelude.{ℕ, Bool, true, false, nat_le, List, [], ◌∷◌, ◌++◌, map, length, slice_get, slice_set, Option, Some, None}
-use Rattle.std.specs.List.{list_any}
+use Rattle.std.specs.Prelude.{ℕ, is_some, Bool, true, false, nat_le, List, [], ◌∷◌, ◌++◌, map, length, slice_get, slice_set, Option, Some, None}
+use Rattle.std.specs.List.{list_any, prefix_len}
 use Rattle.std.specs.Option.{option_flatten}
 use Rattle.kube_meta.specs.Reference.{Reference}
 use Rattle.kube_meta.specs.declared.poll.Next.{Next}
@@ -35,9 +35,19 @@ also r (Some rs) = Some (rs ++ r ∷ [])
 abbrev pub offered : Ring → Reference → Ring
 offered ring r = record ring { waiting = map (also r) ring.waiting }
 
+-- the number of the next subscriber: the first that is nobody's, as where one has left
+abbrev pub free_number : {A : Type 0} → List (Option A) → ℕ
+free_number xs = prefix_len is_some xs
+
+-- with this at that number
+abbrev pub placed : {A : Type 0} → List (Option A) → A → List (Option A)
+placed [] new = Some new ∷ []
+placed (None ∷ xs) new = Some new ∷ xs
+placed (Some x ∷ xs) new = Some x ∷ placed xs new
+
 -- with one more subscriber, for which these wait
 abbrev pub subscribed : Ring → List Reference → Ring
-subscribed ring rs = record ring { waiting = ring.waiting ++ Some rs ∷ [] }
+subscribed ring rs = record ring { waiting = placed ring.waiting rs }
 
 -- with this for one subscriber
 abbrev pub with_waiting : Ring → ℕ → Option (List Reference) → Ring

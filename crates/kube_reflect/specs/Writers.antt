@@ -1,24 +1,40 @@
 -- A writer and the handles of its subscribers. (Crate: `reflector::store::Writer`, `ReflectHandle`.)
-use Rattle.std.specs.Prelude.{◌≡◌, ◌≢◌, ℕ, Bool, true, false, List, [], length, Option, Some, None, is_some}
+use Rattle.std.specs.Prelude.{◌≡◌, ◌≢◌, ℕ, Bool, true, false, List, [], ◌∷◌, ◌++◌, Option, Some, None, is_some}
+use Rattle.std.specs.List.{list_any}
 use Rattle.std.specs.Option.{option_map}
 use Rattle.logbook.specs.Pages.{Book}
 use Rattle.kube_meta.specs.Reference.{ObjectType, Reference}
+use Rattle.kube_meta.specs.declared.metadata.ObjectMeta.{ObjectMeta}
+use Rattle.kube_meta.specs.Keys.{key_of}
 use Rattle.kube_meta.specs.declared.poll.Next.{Next}
-use Rattle.kube_reflect.specs.Cached.{Kept, nothing}
-use Rattle.kube_reflect.specs.Subscribers.{Ring, is_full, offered, subscribed, with_waiting, waiting_for, closed, first_stored, given, left}
+use Rattle.kube_watch.specs.declared.event.Event.{Event}
+use Rattle.kube_watch.specs.Events.{event_map}
+use Rattle.kube_reflect.specs.Cached.{Kept, applied, nothing}
+use Rattle.kube_reflect.specs.Subscribers.{Ring, is_full, offered, subscribed, free_number, with_waiting, waiting_for, closed, first_stored, given, left}
 
--- the type of its objects, what its events made, how many reader places it has left, its ring where it is shared, and the
--- book that tells it from other writers
+-- the type of its objects, what its events made, all events that it has applied, how many reader places it has left, its
+-- ring where it is shared, and the book that tells it from other writers
 pub record Writing (O : Type 0) : Type 0 where
   pub kind : ObjectType
   pub kept : Kept O
+  pub events : List (Event O)
   pub readers : ℕ
   pub ring : Option Ring
   pub book : Book
 
--- what is of a writer: its book
-pub record OfWriter : Type 0 where
+-- a handle that reads: the book of its writer
+pub record Reader : Type 0 where
   pub book : Book
+
+-- what a publish made readable: the book of its writer, and the events that it had applied
+pub record Notice (O : Type 0) : Type 0 where
+  pub book : Book
+  pub events : List (Event O)
+
+-- what a writer leaves: its book, and the events that it had applied
+pub record Left (O : Type 0) : Type 0 where
+  pub book : Book
+  pub events : List (Event O)
 
 -- the number of a subscriber, and whether its handle could have no memory
 pub record Handle : Type 0 where
@@ -31,7 +47,7 @@ fresh number = record { number = number; is_spent = false }
 module _ {O : Type 0} where
   -- a writer to which nothing was applied
   abbrev pub new_writer : ObjectType → ℕ → Option Ring → Book → Writing O
-  new_writer kind readers ring book = record { kind = kind; kept = nothing; readers = readers; ring = ring; book = book }
+  new_writer kind readers ring book = record { kind = kind; kept = nothing; events = []; readers = readers; ring = ring; book = book }
 
   abbrev pub waits_for : Writing O → ℕ → Option (List Reference)
   waits_for w number = elim (w.ring) [ None ↦ None | Some ring ↦ waiting_for ring number ]
@@ -52,9 +68,13 @@ module _ {O : Type 0} where
   abbrev pub is_lagged : Writing O → Bool
   is_lagged w = elim (w.ring) [ None ↦ false | Some ring ↦ is_full ring ]
 
+  -- whether the writer has a live subscriber
+  abbrev pub has_live : Writing O → Bool
+  has_live w = elim (w.ring) [ None ↦ false | Some ring ↦ list_any is_some ring.waiting ]
+
   -- the number of the next subscriber
   abbrev pub next_number : Writing O → ℕ
-  next_number w = elim (w.ring) [ None ↦ 0 | Some ring ↦ length ring.waiting ]
+  next_number w = elim (w.ring) [ None ↦ 0 | Some ring ↦ free_number ring.waiting ]
 
   abbrev pub with_offer : Writing O → Reference → Writing O
   with_offer w r = record w { ring = option_map (λ ring. offered ring r) w.ring }
@@ -87,3 +107,12 @@ module _ {O : Type 0} where
   -- after it
   abbrev pub after_answer : Writing O → ℕ → Writing O
   after_answer w number = record w { ring = option_map (λ ring. with_waiting ring number (Some (left (next_for w number)))) w.ring }
+
+-- of a writer of objects O, whose events are of shared objects A
+module _ {O A : Type 0} (value : A → O) (meta : O → ObjectMeta) where
+  abbrev pub key_in : Writing O → O → Reference
+  key_in w o = key_of w.kind (meta o)
+
+  -- with one event applied
+  abbrev pub with_event : Writing O → Event A → Writing O
+  with_event w event = record w { kept = applied (key_in w) w.kept (event_map value event); events = w.events ++ event_map value event ∷ [] }

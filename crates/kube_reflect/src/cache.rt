@@ -220,8 +220,7 @@ impl<K: Resource> Cache<K> {
         ensures ok { OnOk result (self.new ≡ put_under self.old (reference_of K.type_of reference, arc_value object)) }
         ensures err { OnErr result (self.new ≡ self.old) }
     {
-        let reference = Arc::new(alloc, reference)?;
-        put(&mut self.items, Stored { reference, object })
+        put(alloc, &mut self.items, reference, object)
     }
 
     // Drops the object under an equal reference.
@@ -238,8 +237,12 @@ impl<K: Resource> Cache<K> {
         copy_keys(alloc, &self.items)
     }
 
-    // The references, in order.
-    pub(crate) fn keys(&self, alloc: Global) -> Result<Vec<ObjectRef<K>>, NoMemory>
+    /// The references under which objects are stored, in order.
+    ///
+    /// # Errors
+    ///
+    /// `NoMemory` where there is none for the copies.
+    pub fn keys(&self, alloc: Global) -> Result<Vec<ObjectRef<K>>, NoMemory>
         ensures { IfOk result (λ v. map (reference_of K.type_of) v.items ≡ map (λ p. p.0) self.now) }
     {
         list_keys(alloc, &self.items)
@@ -273,6 +276,10 @@ impl<K: Resource> Cache<K> {
     }
 
     /// All objects, in order.
+    ///
+    /// # Errors
+    ///
+    /// `NoMemory` where memory could not be had.
     pub fn state(&self, alloc: Global) -> Result<Vec<Arc<K>>, NoMemory>
         ensures { IfOk result (λ v. map arc_value v.items ≡ objects self.now) }
     {
@@ -280,6 +287,10 @@ impl<K: Resource> Cache<K> {
     }
 
     /// The objects that pass, in order.
+    ///
+    /// # Errors
+    ///
+    /// `NoMemory` where memory could not be had.
     pub fn state_filter<P: Fn(&K) -> bool>(
         &self,
         alloc: Global,
@@ -292,6 +303,10 @@ impl<K: Resource> Cache<K> {
     }
 
     /// The objects whose labels a selector selects, in order. An object without labels has none of them.
+    ///
+    /// # Errors
+    ///
+    /// `NoMemory` where memory could not be had.
     pub fn state_filter_selector(
         &self,
         alloc: Global,

@@ -15,7 +15,8 @@ use std::sync::Arc;
 ///
 /// Contracts see it as the number of its subscriber, and whether it could have no memory. It is its writer's as long as
 /// that number is one of a live subscriber of that writer. A subscriber is live until it leaves: where its handle is
-/// dropped without that, it lags behind and no more offers are taken than it has room for.
+/// dropped without that, it lags behind and no more offers are taken than it has room for. The number of one that has
+/// left, which takes its handle, may be that of a later subscriber.
 #[derive(Drop)]
 pub struct ReflectHandle<K: Resource> {
     number: usize,
@@ -48,6 +49,10 @@ impl<K: Resource> ReflectHandle<K> {
     ///
     /// `NotReady` where all are taken, and `End` where besides no more offers follow. After want of memory the writer is
     /// as before, and every further poll of this handle answers that alone.
+    ///
+    /// # Errors
+    ///
+    /// `NoMemory` where the object could not be shared, and in each poll after that.
     pub fn poll_next(
         &mut self,
         _alloc: Global,
@@ -73,6 +78,10 @@ impl<K: Resource> ReflectHandle<K> {
     }
 
     /// One more subscription, to what this one has not taken yet and what is offered from now on.
+    ///
+    /// # Errors
+    ///
+    /// `NoMemory` where there is none for one subscriber more; the writer is then as before.
     pub fn clone(
         &self,
         _alloc: Global,

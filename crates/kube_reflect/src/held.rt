@@ -109,6 +109,9 @@ pub fn take<K: Resource>(
         Err(WriteError::Unnamed) => return Err(StreamFault::Unnamed),
         Err(WriteError::NoMemory) => return Err(StreamFault::NoMemory),
     }
+    if !writer.has_subscribers() {
+        return Ok(Next::Item(Ok(event)));
+    }
     match references_of(alloc, writer, &event) {
         Ok(references) => give(writer, slot, alloc, Held { event, references }),
         Err(NoMemory) => Err(StreamFault::NoMemory),

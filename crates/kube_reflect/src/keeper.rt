@@ -1,31 +1,34 @@
-//! What the events of a watcher make: the stored objects, the list under way, and whether a list was complete.
+//! What a writer keeps: what its events made, and, for contracts, these events.
 
 ghost use Rattle.std.specs.Prelude.{◌≡◌, [], ◌∷◌, map, true, false, IfOk, OnOk, OnErr, IsErrOf};
+ghost use Rattle.std.specs.List.{fold, list_all};
 ghost use Rattle.std.specs.Arc.{arc_value};
 ghost use Rattle.kube_meta.specs.Keys.{reference_of, key_of, is_named};
 ghost use Rattle.kube_watch.specs.Events.{event_map};
-ghost use Rattle.kube_reflect.specs.Cached.{nothing, applied, has_name};
+ghost use Rattle.kube_reflect.specs.Cached.{nothing, has_name};
+ghost use Rattle.kube_reflect.specs.Published.{keeping_with};
 
 use crate::cache::Cache;
+use crate::history::{History, no_events, one_more};
+use crate::made::{Made, key};
 use crate::readable::Readable;
 use crate::store::WriteError;
-use kube_meta::{NoMemory, ObjectRef, RefError, Resource, TypeInfo};
+use kube_meta::{NoMemory, ObjectRef, Resource};
 use kube_watch::Event;
 use std::alloc::Global;
 use std::collections::VecDeque;
 use std::marker::Model;
-use std::mem::replace;
 use std::sync::Arc;
 
 /// Keeps what the events of a watcher make.
 ///
-/// Contracts see it as the type of its objects and what its events made. That some events made it is its invariant.
+/// Contracts see it as the type of its objects, the events that were applied, and what they made. That they made it is its
+/// invariant.
 #[derive(Drop)]
 pub(crate) struct Keeper<K: Resource> {
     dyntype: K::DynamicType,
-    cache: Cache<K>,
-    buffer: Cache<K>,
-    is_ready: bool,
+    made: Made<K>,
+    history: History<K>,
 }
 
 impl<K: Resource> Model for Keeper<K> {
@@ -33,28 +36,42 @@ impl<K: Resource> Model for Keeper<K> {
 
     ghost Value = { Keeping K };
 
-    ghost view = { λ k. record { kind = K.type_of k.dyntype; kept = record { cache = k.cache; buffer = k.buffer; is_ready = k.is_ready } } };
+    ghost view = { λ k. record { kind = K.type_of k.dyntype; kept = k.made; events = k.history.log } };
 
-    ghost invariant = { λ k. IsMade K.meta_of (record { kind = K.type_of k.dyntype; kept = record { cache = k.cache; buffer = k.buffer; is_ready = k.is_ready } }) };
+    ghost invariant = { λ k. IsMade K.meta_of (record { kind = K.type_of k.dyntype; kept = k.made; events = k.history.log }) };
 }
 
-/// The same object.
-fn share<K: Drop>(object: &Arc<K>) -> Result<Arc<K>, NoMemory>
-    ensures { IfOk result (λ a. arc_value a ≡ arc_value object.now) }
+/// What these events make of what others have made, with the events of both.
+fn apply_each<K: Resource>(
+    alloc: Global,
+    dyntype: &K::DynamicType,
+    made: Made<K>,
+    history: History<K>,
+    events: &[Event<Arc<K>>],
+) -> Result<(Made<K>, History<K>), WriteError>
+    ensures made { IfOk result (λ p. record { kind = K.type_of dyntype.now; kept = p.0; events = p.1.log }
+        ≡ fold (keeping_with arc_value K.meta_of) (record { kind = K.type_of dyntype.now; kept = made; events = history.log }) events.now) }
+    ensures named { OnOk result (list_all (λ e. has_name K.meta_of (event_map arc_value e)) events.now ≡ true) }
+    ensures unnamed { IsErrOf result WriteError.Unnamed → list_all (λ e. has_name K.meta_of (event_map arc_value e)) events.now ≡ false }
 {
-    Ok(Arc::try_clone(object)?)
+    let mut made = made;
+    let mut history = history;
+    for event in events {
+        made.apply(alloc, dyntype, event)?;
+        history = one_more(&history, event);
+    }
+    Ok((made, history))
 }
 
 impl<K: Resource> Keeper<K> {
     // What no event made.
     pub(crate) fn new(alloc: Global, dyntype: K::DynamicType) -> Keeper<K>
-        ensures { result ≡ record { kind = K.type_of dyntype; kept = nothing } }
+        ensures { result ≡ record { kind = K.type_of dyntype; kept = nothing; events = [] } }
     {
         Keeper {
             dyntype,
-            cache: Cache::new(alloc),
-            buffer: Cache::new(alloc),
-            is_ready: false,
+            made: Made::new(alloc),
+            history: no_events(),
         }
     }
 
@@ -62,28 +79,21 @@ impl<K: Resource> Keeper<K> {
     pub(crate) fn cache(&self) -> &Cache<K>
         ensures { result.now ≡ self.now.kept.cache }
     {
-        &self.cache
+        self.made.cache()
     }
 
     // Whether a list was complete.
     pub(crate) fn is_ready(&self) -> bool
         ensures { result ≡ self.now.kept.is_ready }
     {
-        self.is_ready
+        self.made.is_ready()
     }
 
-    // The reference of an object.
-    fn key(&self, alloc: Global, object: &K) -> Result<ObjectRef<K>, WriteError>
-        ensures named { IfOk result (λ r. is_named (K.meta_of object.now) ≡ true) }
-        ensures reference { IfOk result (λ r. reference_of K.type_of r ≡ key_of self.now.kind (K.meta_of object.now)) }
-        ensures unnamed { IsErrOf result WriteError.Unnamed → is_named (K.meta_of object.now) ≡ false }
+    // The events that were applied, for contracts.
+    pub(crate) fn history(&self) -> History<K>
+        ensures { result.log ≡ self.now.events }
     {
-        let dyntype = self.dyntype.share(alloc)?;
-        match ObjectRef::from_obj_with(alloc, object, dyntype) {
-            Ok(reference) => Ok(reference),
-            Err(RefError::Unnamed) => Err(WriteError::Unnamed),
-            Err(RefError::NoMemory) => Err(WriteError::NoMemory),
-        }
+        self.history.again()
     }
 
     // The reference of a named object, alone.
@@ -95,7 +105,7 @@ impl<K: Resource> Keeper<K> {
         requires { is_named (K.meta_of object.now) ≡ true }
         ensures { IfOk result (λ v. map (reference_of K.type_of) v.items ≡ key_of self.now.kind (K.meta_of object.now) ∷ []) }
     {
-        match self.key(alloc, object) {
+        match key(alloc, &self.dyntype, object) {
             Ok(reference) => {
                 let mut queue = VecDeque::new(alloc);
                 queue.push_back(reference)?;
@@ -108,32 +118,32 @@ impl<K: Resource> Keeper<K> {
 
     // Applies one event. After a refusal, and after want of memory, all is as before.
     pub(crate) fn apply(&mut self, alloc: Global, event: &Event<Arc<K>>) -> Result<(), WriteError>
-        ensures applied { OnOk result (self.new ≡ record self.old { kept = applied (λ o. key_of self.old.kind (K.meta_of o)) self.old.kept (event_map arc_value event.now) }) }
+        ensures applied { OnOk result (self.new ≡ keeping_with arc_value K.meta_of self.old event.now) }
         ensures named { OnOk result (has_name K.meta_of (event_map arc_value event.now) ≡ true) }
         ensures unnamed { IsErrOf result WriteError.Unnamed → has_name K.meta_of (event_map arc_value event.now) ≡ false }
         ensures err { OnErr result (self.new ≡ self.old) }
     {
-        match event {
-            Event::Apply(object) => {
-                let key = self.key(alloc, &**object)?;
-                let object = share(object)?;
-                self.cache.put(alloc, key, object)?;
-            }
-            Event::Delete(object) => {
-                let key = self.key(alloc, &**object)?;
-                self.cache.remove(key);
-            }
-            Event::Init => self.buffer = Cache::new(alloc),
-            Event::InitApply(object) => {
-                let key = self.key(alloc, &**object)?;
-                let object = share(object)?;
-                self.buffer.put(alloc, key, object)?;
-            }
-            Event::InitDone => {
-                self.cache = replace(&mut self.buffer, Cache::new(alloc));
-                self.is_ready = true;
-            }
-        }
+        self.made.apply(alloc, &self.dyntype, event)?;
+        self.history = one_more(&self.history, event);
+        Ok(())
+    }
+
+    // Applies all of these events, or none. What they make takes its memory beside what is kept.
+    pub(crate) fn apply_all(
+        &mut self,
+        alloc: Global,
+        events: &[Event<Arc<K>>],
+    ) -> Result<(), WriteError>
+        ensures applied { OnOk result (self.new ≡ fold (keeping_with arc_value K.meta_of) self.old events.now) }
+        ensures named { OnOk result (list_all (λ e. has_name K.meta_of (event_map arc_value e)) events.now ≡ true) }
+        ensures unnamed { IsErrOf result WriteError.Unnamed → list_all (λ e. has_name K.meta_of (event_map arc_value e)) events.now ≡ false }
+        ensures err { OnErr result (self.new ≡ self.old) }
+    {
+        let made = self.made.copy(alloc)?;
+        let history = self.history.again();
+        let (made, history) = apply_each(alloc, &self.dyntype, made, history, events)?;
+        self.made = made;
+        self.history = history;
         Ok(())
     }
 
@@ -142,8 +152,8 @@ impl<K: Resource> Keeper<K> {
         ensures { IfOk result (λ r. r ≡ record { cache = self.now.kept.cache; is_ready = self.now.kept.is_ready; has_ended = has_ended }) }
     {
         Ok(Readable {
-            cache: self.cache.copy(alloc)?,
-            is_ready: self.is_ready,
+            cache: self.made.cache().copy(alloc)?,
+            is_ready: self.made.is_ready(),
             has_ended,
         })
     }

@@ -5,7 +5,7 @@ ghost use Rattle.std.specs.List.{list_any};
 ghost use Rattle.std.specs.Option.{option_map, option_flatten};
 ghost use Rattle.std.specs.Arc.{arc_value};
 ghost use Rattle.kube_meta.specs.Keys.{reference_of};
-ghost use Rattle.kube_reflect.specs.Subscribers.{is_full, offered, subscribed, with_waiting, waiting_for, closed, new_ring, first_stored, given, left, next_map};
+ghost use Rattle.kube_reflect.specs.Subscribers.{is_full, offered, free_number, placed, subscribed, with_waiting, waiting_for, closed, new_ring, first_stored, given, left, next_map};
 ghost use Rattle.kube_reflect.specs.Lags.{reaches, one_more, pushed};
 
 use crate::cache::Cache;
@@ -69,6 +69,28 @@ fn any_reaches(lags: &[Option<usize>], room: u32) -> bool
         Some(lag) => room as usize <= *lag,
         None => false,
     })
+}
+
+/// The first number that is nobody's.
+fn free_number(lags: &[Option<usize>]) -> usize
+    ensures { result ≡ free_number lags.now }
+{
+    lags.iter().take_while(|lag| lag.is_some()).count()
+}
+
+/// Gives a subscriber that number.
+fn place(lags: &mut Vec<Option<usize>>, lag: usize) -> Result<usize, NoMemory>
+    ensures ok { OnOk result (lags.new.items ≡ placed lags.old.items lag) }
+    ensures number { IfOk result (λ number. number ≡ free_number lags.old.items) }
+    ensures err { OnErr result (lags.new.items ≡ lags.old.items) }
+{
+    let number = free_number(lags);
+    if number < lags.len() {
+        set_lag(lags, number, Some(lag));
+        return Ok(number);
+    }
+    lags.push(Some(lag))?;
+    Ok(number)
 }
 
 /// Whether one of these is there.
@@ -175,6 +197,13 @@ impl<K: Resource> Ring<K> {
         any_reaches(&self.lags, self.room)
     }
 
+    /// Whether there is a live subscriber.
+    pub fn has_subscribers(&self) -> bool
+        ensures { result ≡ list_any is_some self.now.waiting }
+    {
+        any_there(&self.lags)
+    }
+
     /// Offers a reference to each live subscriber.
     pub fn offer(&mut self, reference: ObjectRef<K>) -> Result<(), OfferError>
         ensures ok { OnOk result (self.new ≡ offered self.old (reference_of K.type_of reference)) }
@@ -195,11 +224,10 @@ impl<K: Resource> Ring<K> {
     /// Adds a subscriber that takes what is offered from now on.
     pub fn subscribe(&mut self) -> Result<usize, NoMemory>
         ensures ok { OnOk result (self.new ≡ subscribed self.old []) }
-        ensures number { IfOk result (λ number. number ≡ length self.old.waiting) }
+        ensures number { IfOk result (λ number. number ≡ free_number self.old.waiting) }
         ensures err { OnErr result (self.new ≡ self.old) }
     {
-        let number = self.lags.len();
-        self.lags.push(Some(0))?;
+        let number = place(&mut self.lags, 0)?;
         Ok(number)
     }
 
@@ -207,12 +235,13 @@ impl<K: Resource> Ring<K> {
     pub fn copy(&mut self, number: usize) -> Result<usize, NoMemory>
         requires { is_some (waiting_for self.old number) ≡ true }
         ensures ok { OnOk result (IfSome (waiting_for self.old number) (λ rs. self.new ≡ subscribed self.old rs)) }
-        ensures number { IfOk result (λ number. number ≡ length self.old.waiting) }
+        ensures number { IfOk result (λ number. number ≡ free_number self.old.waiting) }
         ensures err { OnErr result (self.new ≡ self.old) }
     {
-        let lag = lag_of(&self.lags, number);
-        let number = self.lags.len();
-        self.lags.push(lag)?;
+        let Some(lag) = lag_of(&self.lags, number) else {
+            unreachable!()
+        };
+        let number = place(&mut self.lags, lag)?;
         Ok(number)
     }
 

@@ -2,11 +2,12 @@
 
 ghost use Rattle.std.specs.Prelude.{◌≡◌, ◌↔◌, ◌≤◌, ◌-◌, [], ◌∷◌, length, map, true, false, Some, None, IfOk, IfErr, IfSome, IsNone, OnOk, OnErr, IsErrOf, is_some};
 ghost use Rattle.std.specs.Arc.{arc_value};
+ghost use Rattle.std.specs.List.{fold, list_all};
 ghost use Rattle.kube_meta.specs.Keys.{reference_of, key_of, is_named};
 ghost use Rattle.kube_watch.specs.Events.{event_map};
-ghost use Rattle.kube_reflect.specs.Cached.{applied, has_name};
+ghost use Rattle.kube_reflect.specs.Cached.{has_name};
 ghost use Rattle.kube_reflect.specs.Subscribers.{new_ring, next_map};
-ghost use Rattle.kube_reflect.specs.Writers.{new_writer, fresh, is_live, AllStay, is_lagged, next_number, with_offer, with_subscriber, without_subscriber, with_close, references_for, answer_for, after_answer};
+ghost use Rattle.kube_reflect.specs.Writers.{new_writer, with_event, has_live, fresh, is_live, AllStay, is_lagged, next_number, with_offer, with_subscriber, without_subscriber, with_close, references_for, answer_for, after_answer};
 
 use crate::cache::Cache;
 use crate::dispatcher::ReflectHandle;
@@ -51,8 +52,8 @@ impl From<NoMemory> for WriteError {
 /// Applies the events of a watcher to a cache, publishes it for readers, and offers references to subscribers where it is
 /// shared.
 ///
-/// Contracts see it as the type of its objects, what its events made (the cache, the list under way and whether a list
-/// was complete), how many reader places it has left, its ring of offers, and its book, which tells it from other writers.
+/// Contracts see it as the type of its objects, all events that it has applied, what they made (the cache, the list under
+/// way and whether a list was complete), how many reader places it has left, its ring of offers, and its book, which tells it from other writers.
 #[derive(Drop)]
 pub struct Writer<K: Resource> {
     keeper: Keeper<K>,
@@ -68,7 +69,7 @@ impl<K: Resource> Model for Writer<K> {
 
     ghost Value = { Writing K };
 
-    ghost view = { λ w. record { kind = w.keeper.kind; kept = w.keeper.kept; readers = length w.places.items; ring = w.ring; book = w.sign.book } };
+    ghost view = { λ w. record { kind = w.keeper.kind; kept = w.keeper.kept; events = w.keeper.events; readers = length w.places.items; ring = w.ring; book = w.sign.book } };
 }
 
 /// So many reader places.
@@ -95,6 +96,10 @@ fn put_out<R: Wait, K: Resource>(rt: &R, copies: &RwLock<Readable<K>>, readable:
 }
 
 /// A writer of an empty cache, and its first store handle. `readers` is how many handles there are, this one included.
+///
+/// # Errors
+///
+/// `NoMemory` where memory could not be had.
 pub fn store<K: Resource<DynamicType = ()>>(
     alloc: Global,
     readers: u32,
@@ -107,7 +112,11 @@ pub fn store<K: Resource<DynamicType = ()>>(
 }
 
 /// As `store`, with a writer that takes subscribers: `buf_size` is how many offered references each of them may leave
-/// before no more are offered.
+/// before no more are offered. One that takes none then holds back the reflector and all other subscribers.
+///
+/// # Errors
+///
+/// `NoMemory` where memory could not be had.
 pub fn store_shared<K: Resource<DynamicType = ()>>(
     alloc: Global,
     buf_size: u32,
@@ -135,6 +144,10 @@ fn with_first<K: Resource>(writer: Writer<K>) -> Result<(Store<K>, Writer<K>), N
 
 impl<K: Resource> Writer<K> {
     /// A writer of an empty cache, which takes no subscribers. `readers` is how many store handles it can give.
+    ///
+    /// # Errors
+    ///
+    /// `NoMemory` where memory could not be had.
     pub fn new(alloc: Global, t: K::DynamicType, readers: u32) -> Result<Writer<K>, NoMemory>
         requires { 1 ≤ readers }
         ensures { IfOk result (λ w. w ≡ new_writer (K.type_of t) readers None w.book) }
@@ -144,6 +157,10 @@ impl<K: Resource> Writer<K> {
 
     /// A writer of an empty cache, which takes subscribers: `buf_size` is how many offered references each of them may
     /// leave before no more are offered.
+    ///
+    /// # Errors
+    ///
+    /// `NoMemory` where memory could not be had.
     pub fn new_shared(
         alloc: Global,
         buf_size: u32,
@@ -190,26 +207,37 @@ impl<K: Resource> Writer<K> {
 
     /// Makes readable what is stored now: handles then read this cache. The note is one of this writer. After want of memory
     /// handles read what they read before.
+    ///
+    /// # Errors
+    ///
+    /// `NoMemory` where there is none for the copy that is read; nothing was published then.
     pub fn publish<R: Wait>(&mut self, rt: &R, alloc: Global) -> Result<Published<K>, NoMemory>
         ensures writer { self.new ≡ self.old }
         ensures note { IfOk result (λ n. n.book ≡ self.old.book) }
+        ensures events { IfOk result (λ n. n.events ≡ self.old.events) }
     {
         let readable = self.keeper.show(alloc, false)?;
         put_out(rt, &self.copies, readable);
-        Ok(Published::new(self.sign.again()))
+        Ok(Published::new(self.sign.again(), self.keeper.history()))
     }
 
     /// Makes readable what is stored now, and that no more follows. After want of memory nothing is published, and the
     /// writer comes back as it was.
+    ///
+    /// # Errors
+    ///
+    /// `NoMemory`, with the writer, where there is none for the copy that is read.
     pub fn end<R: Wait>(self, rt: &R, alloc: Global) -> Result<Ended<K>, (Writer<K>, NoMemory)>
         ensures ended { IfOk result (λ e. e.book ≡ self.book) }
+        ensures events { IfOk result (λ e. e.events ≡ self.events) }
         ensures err { IfErr result (λ e. e.0 ≡ self) }
     {
         match self.keeper.show(alloc, true) {
             Ok(readable) => {
                 put_out(rt, &self.copies, readable);
+                let history = self.keeper.history();
                 let Writer { copies, sign, .. } = self;
-                Ok(Ended::new(copies, sign))
+                Ok(Ended::new(copies, sign, history))
             }
             Err(error) => Err((self, error)),
         }
@@ -240,7 +268,7 @@ impl<K: Resource> Writer<K> {
         alloc: Global,
         event: &Event<Arc<K>>,
     ) -> Result<(), WriteError>
-        ensures applied { OnOk result (self.new ≡ record self.old { kept = applied (λ o. key_of self.old.kind (K.meta_of o)) self.old.kept (event_map arc_value event.now) }) }
+        ensures applied { OnOk result (self.new ≡ with_event arc_value K.meta_of self.old event.now) }
         ensures named { OnOk result (has_name K.meta_of (event_map arc_value event.now) ≡ true) }
         ensures unnamed { IsErrOf result WriteError.Unnamed → has_name K.meta_of (event_map arc_value event.now) ≡ false }
         ensures err { OnErr result (self.new ≡ self.old) }
@@ -249,7 +277,33 @@ impl<K: Resource> Writer<K> {
         self.keeper.apply(alloc, event)
     }
 
+    /// Applies all of these events in order, or none, as those of a whole list, or of a page of it. See
+    /// `apply_watcher_event`.
+    ///
+    /// What they make takes its memory beside what is stored before anything of the writer changes.
+    ///
+    /// # Errors
+    ///
+    /// `Unnamed` where the object of one of them has no name. After that, and after want of memory, the writer is as before.
+    pub fn apply_watcher_events(
+        &mut self,
+        alloc: Global,
+        events: &[Event<Arc<K>>],
+    ) -> Result<(), WriteError>
+        ensures applied { OnOk result (self.new ≡ fold (with_event arc_value K.meta_of) self.old events.now) }
+        ensures named { OnOk result (list_all (λ e. has_name K.meta_of (event_map arc_value e)) events.now ≡ true) }
+        ensures unnamed { IsErrOf result WriteError.Unnamed → list_all (λ e. has_name K.meta_of (event_map arc_value e)) events.now ≡ false }
+        ensures err { OnErr result (self.new ≡ self.old) }
+        ensures live { AllStay self.old self.new }
+    {
+        self.keeper.apply_all(alloc, events)
+    }
+
     /// Adds a subscriber, which takes what is offered from now on. None where the writer is not shared.
+    ///
+    /// # Errors
+    ///
+    /// `NoMemory` where there is none for one subscriber more; the writer is then as before.
     pub fn subscribe(&mut self, _alloc: Global) -> Result<Option<ReflectHandle<K>>, NoMemory>
         ensures none { IfOk result (λ o. is_some o ≡ is_some self.old.ring) }
         ensures handle { IfOk result (λ o. IfSome o (λ h. h ≡ fresh (next_number self.old))) }
@@ -257,6 +311,16 @@ impl<K: Resource> Writer<K> {
         ensures own { IfOk result (λ o. IfSome o (λ h. is_live self.new h.number ≡ true)) }
         ensures err { OnErr result (self.new ≡ self.old) }
         ensures live { AllStay self.old self.new }
+    {
+        self.subscribe_once()
+    }
+
+    // The same, without a word on those that stay.
+    fn subscribe_once(&mut self) -> Result<Option<ReflectHandle<K>>, NoMemory>
+        ensures none { IfOk result (λ o. is_some o ≡ is_some self.old.ring) }
+        ensures handle { IfOk result (λ o. IfSome o (λ h. h ≡ fresh (next_number self.old))) }
+        ensures writer { OnOk result (self.new ≡ with_subscriber self.old []) }
+        ensures err { OnErr result (self.new ≡ self.old) }
     {
         match &mut self.ring {
             Some(ring) => {
@@ -270,6 +334,10 @@ impl<K: Resource> Writer<K> {
     /// Offers a reference to each live subscriber. `Full` where one of them has not taken as many offered references as
     /// it may leave; the writer is then as before, also after want of memory. The reference is dropped where there is no
     /// live subscriber.
+    ///
+    /// # Errors
+    ///
+    /// `Full` where a live subscriber lags behind, and `NoMemory`; the writer is then as before.
     pub fn offer(&mut self, _alloc: Global, reference: ObjectRef<K>) -> Result<(), OfferError>
         ensures offered { OnOk result (self.new ≡ with_offer self.old (reference_of K.type_of reference)) }
         ensures room { OnOk result (is_lagged self.old ≡ false) }
@@ -326,6 +394,16 @@ impl<K: Resource> Writer<K> {
         self.keeper.queue_key(alloc, object)
     }
 
+    // Whether there is a live subscriber.
+    pub(crate) fn has_subscribers(&self) -> bool
+        ensures { result ≡ has_live self.now }
+    {
+        match &self.ring {
+            Some(ring) => ring.has_subscribers(),
+            None => false,
+        }
+    }
+
     // Whether a live subscriber has not taken as many offered references as it may leave.
     pub(crate) fn is_lagged(&self) -> bool
         ensures { result ≡ is_lagged self.now }
@@ -368,6 +446,16 @@ impl<K: Resource> Writer<K> {
         ensures own { IfOk result (λ n. is_live self.new n ≡ true) }
         ensures err { OnErr result (self.new ≡ self.old) }
         ensures live { AllStay self.old self.new }
+    {
+        self.copy_once(number)
+    }
+
+    // The same, without a word on those that stay.
+    fn copy_once(&mut self, number: usize) -> Result<usize, NoMemory>
+        requires { is_live self.old number ≡ true }
+        ensures number { IfOk result (λ n. n ≡ next_number self.old) }
+        ensures writer { OnOk result (self.new ≡ with_subscriber self.old (references_for self.old number)) }
+        ensures err { OnErr result (self.new ≡ self.old) }
     {
         match &mut self.ring {
             Some(ring) => ring.copy(number),

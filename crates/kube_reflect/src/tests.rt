@@ -7,4 +7,5 @@ mod node;
 mod objects;
 mod readers;
 mod reflect;
+mod runs;
 mod share;

@@ -11,7 +11,7 @@ use Rattle.kube_sched.specs.declared.held.Held.{Held}
 use Rattle.kube_sched.specs.Held.{messages, IsFirstAt}
 use Rattle.kube_sched.specs.declared.asks.Ending.{Ending}
 use Rattle.kube_sched.specs.declared.asks.Ending.TheVariants.{Filled, Waits, Ends}
-use Rattle.kube_sched.specs.Schedule.{Schedule, Stands, with_request, with_take, IsFirst, waiting_messages, passes_none}
+use Rattle.kube_sched.specs.Schedule.{Schedule, Stands, with_request, with_take, IsFirst, waiting_messages}
 use Rattle.kube_sched.specs.Polls.{Stream, Answer, requests_in, ends_by, ending_of, with_requests, Asked, ending_at, is_end, prepared, Prepared, Polled, CountedPoll, given}
 
 pub grown_by-nothing : {A : Type 0} (told : Option (List A)) → told ≡ grown_by told []
@@ -210,16 +210,6 @@ module _ {M R : Type 0} (same : M → M → Bool) (told : R → Option (List (An
     stands = λ events h. took (prepared Waits events (requests_in p.answers) now) (p.stands events h);
   }
 
-  -- and takes the first
-  pub polled-took : {left : ℕ} (passes : M → Bool → Type 0) (fuel : ℕ) (s s1 s' : Stream M R) (o : Option M) → Prepared same told now fuel s s1 Waits left
-      → ((events : List (QueueEvent M)) → Stands same s1.schedule events → IsFirst passes (waiting_messages same s1.schedule.debounce events) o)
-      → IfSome o (λ m. (events : List (QueueEvent M)) → Stands same s1.schedule events → Stands same s'.schedule (with_take events m))
-      → IfNone o (s'.schedule ≡ s1.schedule)
-      → s'.requests ≡ s1.requests → s'.is_over ≡ s1.is_over → s'.is_spent ≡ s1.is_spent → s'.schedule.debounce ≡ s1.schedule.debounce
-      → Polled same passes told now fuel s s' (given o)
-  polled-took passes fuel s s1 s' (Some m) p first took none asks over fresh kept = polled-some passes fuel s s1 s' m p first took asks over fresh kept
-  polled-took passes fuel s s1 s' None p first took none asks over fresh kept = polled-none passes fuel s s1 s' p first none asks over fresh
-
   -- The same, counted.
 
   pub counted-end : (passes : M → Bool → Type 0) (fuel left : ℕ) (s s' : Stream M R) → Prepared same told now fuel s s' Ends left → CountedPoll same passes told now fuel s s' End left
@@ -249,11 +239,6 @@ module _ {M R : Type 0} (same : M → M → Bool) (told : R → Option (List (An
   pub counted-as : {passes : M → Bool → Type 0} {fuel left : ℕ} {s s' : Stream M R} {a b : Next M} → a ≡ b → CountedPoll same passes told now fuel s s' b left → CountedPoll same passes told now fuel s s' a left
   counted-as {passes} {fuel} {left} {s} {s'} e p = subst (λ x. CountedPoll same passes told now fuel s s' x left) (sym e) p
 
--- where all are held, none is the first
-pub none-first : {M : Type 0} (ms : List M) → IsFirst passes_none ms None
-none-first [] = refl
-none-first (m ∷ ms) = inr (refl, none-first ms)
-
 -- the message at the place of the first that passes does
 pub passes-at : {M : Type 0} (passes : M → Bool → Type 0) (hs : List (Held M)) (i : ℕ) (x : Held M) → i < length hs → x ≡ get_or hs i x → IsFirstAt passes (messages hs) (Some i) → passes x.message true
 passes-at passes [] i x l e h = absurd (omega arith)
@@ -271,25 +256,32 @@ module _ {M : Type 0} (P Q : M → Bool → Type 0) (h : (m : M) (b : Bool) → 
   first-also (m ∷ ms) first (inl (p, e)) = inl (h m true p, e)
   first-also (m ∷ ms) first (inr (p, f)) = inr (h m false p, first-also ms first f)
 
+  pub polled-also : {R : Type 0} (same : M → M → Bool) (told : R → Option (List (Answer M))) (now : Moment) (fuel : ℕ) (s s' : Stream M R) (a : Next M)
+      → Polled same P told now fuel s s' a → Polled same Q told now fuel s s' a
+  polled-also same told now fuel s s' a p = record {
+    answers = p.answers;
+    ending = p.ending;
+    tells = p.tells;
+    ended = p.ended;
+    end = p.end;
+    spent = p.spent;
+    not_ready = λ e. ((p.not_ready e).0, λ events stands. first-also _ None ((p.not_ready e).1 events stands));
+    item = λ m e. ((p.item m e).0, λ events stands. first-also _ (Some m) ((p.item m e).1 events stands));
+    over = p.over;
+    fresh = p.fresh;
+    kept = p.kept;
+    stands = p.stands;
+  }
+
+  pub polled-ok : {R N : Type 0} (same : M → M → Bool) (told : R → Option (List (Answer M))) (now : Moment) (fuel : ℕ) (s s' : Stream M R) (r : Result (Next M) N)
+      → IfOk r (λ a. Polled same P told now fuel s s' a) → IfOk r (λ a. Polled same Q told now fuel s s' a)
+  polled-ok same told now fuel s s' (Ok a) p = polled-also same told now fuel s s' a p
+  polled-ok same told now fuel s s' (Err n) p = tt
+
   pub counted-also : {R : Type 0} (same : M → M → Bool) (told : R → Option (List (Answer M))) (now : Moment) (fuel left : ℕ) (s s' : Stream M R) (a : Next M)
       → CountedPoll same P told now fuel s s' a left → CountedPoll same Q told now fuel s s' a left
-  counted-also same told now fuel left s s' a c = record {
-    polled = record {
-      answers = c.polled.answers;
-      ending = c.polled.ending;
-      tells = c.polled.tells;
-      ended = c.polled.ended;
-      end = c.polled.end;
-      spent = c.polled.spent;
-      not_ready = λ e. ((c.polled.not_ready e).0, λ events stands. first-also _ None ((c.polled.not_ready e).1 events stands));
-      item = λ m e. ((c.polled.item m e).0, λ events stands. first-also _ (Some m) ((c.polled.item m e).1 events stands));
-      over = c.polled.over;
-      fresh = c.polled.fresh;
-      kept = c.polled.kept;
-      stands = c.polled.stands;
-    };
-    counted = c.counted;
-  }
+  unfolding polled-also
+  counted-also same told now fuel left s s' a c = record { polled = polled-also same told now fuel s s' a c.polled; counted = c.counted }
 
   pub counted-ok : {R N : Type 0} (same : M → M → Bool) (told : R → Option (List (Answer M))) (now : Moment) (fuel : ℕ) (s1 s s' : Stream M R) (r : Result (Next M × ℕ) N) → s1 ≡ s
       → IfOk r (λ c. CountedPoll same P told now fuel s1 s' c.0 c.1) → IfOk r (λ c. CountedPoll same Q told now fuel s s' c.0 c.1)

@@ -14,7 +14,7 @@ use Rattle.kube_sched.specs.declared.held.Held.{Held}
 use Rattle.kube_sched.specs.declared.request.ScheduleRequest.{ScheduleRequest}
 use Rattle.kube_sched.specs.Held.{is_of, is_due, is_earlier, comes_before, set_in, messages, IsFirstAt}
 use Rattle.kube_sched.specs.Entries.{IsNumbered, set_by, entry_at, entries, scheduled}
-use Rattle.kube_sched.specs.Schedule.{Schedule, Stands, held_of, held_of_frozen, with_request, with_settle, with_take, IsFirst, passes_all}
+use Rattle.kube_sched.specs.Schedule.{Schedule, Stands, held_of, held_of_frozen, with_request, with_settle, with_take, IsFirst}
 use Rattle.kube_sched.proofs.Orders.{before-orders, filter-sorted, any-insert, any-sorted}
 use Rattle.kube_sched.proofs.Queues.{without, of, Distinct, Rising, IsBelow, freeze, sets, or-none, alike, Good, good, numbered-append, entries-settled, entries-took, entries-set, entries-kept, all-to, all-filter}
 
@@ -779,10 +779,6 @@ first-some passes (x ∷ hs) (suc i) d l h = inr (h.0, first-some passes hs i d 
 first-none : {M : Type 0} (passes : M → Bool → Type 0) (ms : List M) → IsFirstAt passes ms None → IsFirst passes ms None
 first-none passes [] h = refl
 first-none passes (m ∷ ms) h = inr (h.0, first-none passes ms h.1)
-
-pub first-any : {M : Type 0} (hs : List (Held M)) → 0 < length hs → IsFirstAt passes_all (messages hs) (Some 0)
-first-any [] l = absurd (omega arith)
-first-any (h ∷ hs) l = refl
 
 module _ {M : Type 0} (same : M → M → Bool) (passes : M → Bool → Type 0) (s : Schedule M) (es : List (QueueEvent M)) (h : Stands same s es) where
   messages-are : messages s.waiting ≡ map (λ f. f.entry.message) (waiting same s.debounce es)

@@ -38,7 +38,7 @@ pub fn take_requests<T: Eq + Hash + Drop, R: Requests<T>>(
     for taken in 0..fuel {
         let left = fuel - taken;
         match requests.poll_request(alloc, now)? {
-            Next::Item(request) => scheduler.schedule(alloc, request, now)?,
+            Next::Item(request) => scheduler.take_in(alloc, request, now)?,
             Next::NotReady => return Ok((Ending::Waits, left)),
             Next::Spent => return Ok((Ending::Waits, left)),
             Next::End => return Ok((Ending::Ends, left)),

@@ -62,6 +62,10 @@ impl<K: Eq + Hash + Drop, F: ToldFuture> FutureHashMap<K, F> {
     }
 
     /// Puts a future at a key. The old one comes back, whose place the new one takes; else it goes last.
+    ///
+    /// # Errors
+    ///
+    /// `NoMemory` where there is none for one future more; the map is then as before, and the future is dropped.
     pub fn insert(&mut self, _alloc: Global, key: K, future: F) -> Result<Option<F>, NoMemory>
         requires { F.can_poll future }
         ensures old { IfOk result (λ old. old ≡ lookup (K.eq key) self.old) }

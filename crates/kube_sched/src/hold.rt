@@ -48,6 +48,10 @@ impl<T: Eq + Hash + Drop, R: Requests<T>> Scheduled<T, R> {
 
 impl<T: Eq + Hash + Drop, R: Requests<T>, C: Fn(&T) -> bool> HoldUnless<'_, T, R, C> {
     /// The first waiting message that passes, after at most `fuel` requests. See `Scheduled::poll_next`.
+    ///
+    /// # Errors
+    ///
+    /// `NoMemory` as `Scheduled::poll_next`.
     pub fn poll_next(&mut self, alloc: Global, now: Moment, fuel: u32) -> Result<Next<T>, NoMemory>
         requires { C.IsAlwaysCallable self.old.can_take_message }
         ensures polled { IfOk result (λ a. Polled T.eq (FnReturnsAt C.Fn self.old.can_take_message) R.told now fuel self.old.scheduled.now self.new.scheduled.now a) }
@@ -64,6 +68,10 @@ impl<T: Eq + Hash + Drop, R: Requests<T>, C: Fn(&T) -> bool> HoldUnless<'_, T, R
 
 impl<T: Eq + Hash + Drop, R: Requests<T>> Hold<'_, T, R> {
     /// No message, after at most `fuel` requests. See `Scheduled::poll_next`.
+    ///
+    /// # Errors
+    ///
+    /// `NoMemory` as `Scheduled::poll_next`.
     pub fn poll_next(&mut self, alloc: Global, now: Moment, fuel: u32) -> Result<Next<T>, NoMemory>
         ensures polled { IfOk result (λ a. Polled T.eq passes_none R.told now fuel self.old.scheduled.now self.new.scheduled.now a) }
         ensures spent { OnErr result (self.new.scheduled.now.is_spent ≡ true) }

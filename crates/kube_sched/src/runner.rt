@@ -242,6 +242,10 @@ impl<
     /// may run, the requests have ended or `fuel` requests were taken. Before readiness requests are taken, and none is
     /// started. It answers `End` once the requests have ended and nothing runs; `Spent` where it took `fuel` requests;
     /// else `NotReady`.
+    ///
+    /// # Errors
+    ///
+    /// `NoMemory` where the scheduler or a start could have none, and in each poll after that.
     pub fn poll_next(
         &mut self,
         alloc: Global,

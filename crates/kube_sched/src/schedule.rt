@@ -1,6 +1,6 @@
 //! The scheduler (kube-runtime's `Scheduler`, without its stream of requests).
 
-ghost use Rattle.std.specs.Prelude.{◌≡◌, ◌+◌, ◌≤◌, true, List, [], length, IfSome, IfNone, OnOk, OnErr, min};
+ghost use Rattle.std.specs.Prelude.{◌≡◌, ◌+◌, ◌≤◌, true, List, [], length, IfSome, IfNone, OnOk, OnErr, min, option_copied};
 ghost use Rattle.std.specs.Fn.{FnReturnsAt};
 ghost use Rattle.kube_model.specs.Queue.{QueueEvent, entry, waiting, plus, longest_wait};
 ghost use Rattle.kube_model.specs.WaitingOnce.{is_frozen};
@@ -47,7 +47,7 @@ impl<T> Model for Scheduler<T> {
 }
 
 impl<T: Eq + Hash + Drop> Scheduler<T> {
-    ghost use Rattle.kube_sched.specs.Schedule.{Stands, with_request, with_settle, with_take, IsFirst, waiting_messages, passes_all, held_len};
+    ghost use Rattle.kube_sched.specs.Schedule.{Stands, with_request, with_settle, with_take, IsFirst, waiting_messages, held_len};
 
     /// A scheduler that holds nothing. A message is held for `debounce` nanoseconds longer than asked.
     pub fn new(alloc: Global, debounce: u64) -> Scheduler<T>
@@ -63,7 +63,26 @@ impl<T: Eq + Hash + Drop> Scheduler<T> {
     }
 
     /// Requests a message. A message that waits stays as it is; one that is due earlier than `run_at` does too.
+    ///
+    /// # Errors
+    ///
+    /// `NoMemory` where there is no memory for one more message; nothing was requested then.
     pub fn schedule(
+        &mut self,
+        alloc: Global,
+        request: ScheduleRequest<T>,
+        now: Moment,
+    ) -> Result<(), NoMemory>
+        ensures stands { OnOk result ((events : List (QueueEvent T)) → Stands T.eq self.old events → Stands T.eq self.new (with_request events request now)) }
+        ensures debounce { self.new.debounce ≡ self.old.debounce }
+        ensures spare { OnOk result (self.new.spare ≡ self.old.spare) }
+        ensures err { OnErr result (self.new ≡ self.old) }
+    {
+        self.take_in(alloc, request, now)
+    }
+
+    // The same, with a word on how many messages are held.
+    pub(crate) fn take_in(
         &mut self,
         alloc: Global,
         request: ScheduleRequest<T>,
@@ -80,13 +99,23 @@ impl<T: Eq + Hash + Drop> Scheduler<T> {
             return Err(NoMemory);
         };
         self.reserve(alloc, places)?;
-        self.schedule_reserved(request, now);
+        self.take_in_reserved(request, now);
         self.spare = spare;
         Ok(())
     }
 
     /// Requests a message without taking memory.
     pub fn schedule_reserved(&mut self, request: ScheduleRequest<T>, now: Moment)
+        requires { 1 ≤ self.old.spare }
+        ensures stands { (events : List (QueueEvent T)) → Stands T.eq self.old events → Stands T.eq self.new (with_request events request now) }
+        ensures debounce { self.new.debounce ≡ self.old.debounce }
+        ensures spare { self.old.spare ≤ self.new.spare + 1 }
+    {
+        self.take_in_reserved(request, now);
+    }
+
+    // The same, with a word on how many messages are held.
+    fn take_in_reserved(&mut self, request: ScheduleRequest<T>, now: Moment)
         requires { 1 ≤ self.old.spare }
         ensures stands { (events : List (QueueEvent T)) → Stands T.eq self.old events → Stands T.eq self.new (with_request events request now) }
         ensures debounce { self.new.debounce ≡ self.old.debounce }
@@ -107,6 +136,10 @@ impl<T: Eq + Hash + Drop> Scheduler<T> {
     }
 
     /// Takes memory for messages to come: `spare` is then at least `n`.
+    ///
+    /// # Errors
+    ///
+    /// `NoMemory` where there is none for so many; the scheduler is then as before.
     pub fn reserve(&mut self, _alloc: Global, n: usize) -> Result<(), NoMemory>
         ensures room { OnOk result (n ≤ self.new.spare) }
         ensures more { self.old.spare ≤ self.new.spare }
@@ -136,9 +169,31 @@ impl<T: Eq + Hash + Drop> Scheduler<T> {
         ensures stands { (events : List (QueueEvent T)) → Stands T.eq self.old events → Stands T.eq self.new (with_settle events now) }
         ensures debounce { self.new.debounce ≡ self.old.debounce }
         ensures spare { self.new.spare ≡ self.old.spare }
+    {
+        self.let_wait(now);
+    }
+
+    // The same, with a word on how many messages are held.
+    pub(crate) fn let_wait(&mut self, now: Moment)
+        ensures stands { (events : List (QueueEvent T)) → Stands T.eq self.old events → Stands T.eq self.new (with_settle events now) }
+        ensures debounce { self.new.debounce ≡ self.old.debounce }
+        ensures spare { self.new.spare ≡ self.old.spare }
         ensures held { held_len self.new ≡ held_len self.old }
     {
         settle_due(&mut self.waiting, &mut self.scheduled, now);
+    }
+
+    /// The first waiting message that passes, which stays: `take_first` then gives it, where the test answers the same.
+    ///
+    /// It takes no memory. What a caller needs of the message may be copied before anything is taken.
+    pub fn first<C: Fn(&T) -> bool>(&self, c: C) -> Option<&T>
+        requires { C.IsAlwaysCallable c }
+        ensures { (events : List (QueueEvent T)) → Stands T.eq self.now events → IsFirst (FnReturnsAt C.Fn c) (waiting_messages T.eq self.now.debounce events) (option_copied result) }
+    {
+        match first_passing(&self.waiting, &c) {
+            Some(place) => Some(&self.waiting[place].message),
+            None => None,
+        }
     }
 
     /// Takes the first waiting message that passes.
@@ -171,20 +226,6 @@ impl<T: Eq + Hash + Drop> Scheduler<T> {
             }
             None => None,
         }
-    }
-
-    // Takes the first waiting message.
-    pub(crate) fn take_any(&mut self) -> Option<T>
-        ensures first { (events : List (QueueEvent T)) → Stands T.eq self.old events → IsFirst passes_all (waiting_messages T.eq self.old.debounce events) result }
-        ensures taken { IfSome result (λ m. (events : List (QueueEvent T)) → Stands T.eq self.old events → Stands T.eq self.new (with_take events m)) }
-        ensures none { IfNone result (self.new ≡ self.old) }
-        ensures debounce { self.new.debounce ≡ self.old.debounce }
-    {
-        if self.waiting.is_empty() {
-            return None;
-        }
-        let Held { message, time: _ } = self.waiting.remove(0);
-        Some(message)
     }
 
     // Drops all messages.

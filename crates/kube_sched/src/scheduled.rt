@@ -94,7 +94,7 @@ impl<T: Eq + Hash + Drop, R: Requests<T>> Scheduled<T, R> {
         };
         match asks.0 {
             Ending::Filled => {}
-            Ending::Waits => self.scheduler.settle(now),
+            Ending::Waits => self.scheduler.let_wait(now),
             Ending::Ends => {
                 self.scheduler.clear();
                 self.is_over = true;
@@ -108,17 +108,20 @@ impl<T: Eq + Hash + Drop, R: Requests<T>> Scheduled<T, R> {
     /// Each poll takes requests until none is ready, which may be told as not ready or as spent. It answers `End` once
     /// the requests have ended, and drops what it holds; `Spent` where it took `fuel` requests; `NotReady` where
     /// no message waits.
+    ///
+    /// # Errors
+    ///
+    /// `NoMemory` where there was none for what the requests asked, and in each poll after that.
     pub fn poll_next(&mut self, alloc: Global, now: Moment, fuel: u32) -> Result<Next<T>, NoMemory>
         ensures polled { IfOk result (λ a. Polled T.eq passes_all R.told now fuel self.old self.new a) }
         ensures spent { OnErr result (self.new.is_spent ≡ true) }
         ensures stays_spent { self.old.is_spent ≡ true → IsErr result }
         ensures unchanged { self.old.is_spent ≡ true → self.new ≡ self.old }
     {
-        match self.prepare(alloc, now, fuel)?.0 {
-            Ending::Filled => Ok(Next::Spent),
-            Ending::Ends => Ok(Next::End),
-            Ending::Waits => Ok(given(self.scheduler.take_any())),
-        }
+        let passes = |_message: &T| -> bool
+            ensures { result ≡ true }
+        { true };
+        self.poll_passing(alloc, now, fuel, &passes)
     }
 
     // The same with the first message that passes.
@@ -174,11 +177,10 @@ impl<T: Eq + Hash + Drop, R: Requests<T>> Scheduled<T, R> {
         ensures stays_spent { self.old.is_spent ≡ true → IsErr result }
         ensures unchanged { self.old.is_spent ≡ true → self.new ≡ self.old }
     {
-        match self.prepare(alloc, now, fuel)?.0 {
-            Ending::Filled => Ok(Next::Spent),
-            Ending::Ends => Ok(Next::End),
-            Ending::Waits => Ok(Next::NotReady),
-        }
+        let passes = |_message: &T| -> bool
+            ensures { result ≡ false }
+        { false };
+        self.poll_passing(alloc, now, fuel, &passes)
     }
 
     /// Whether an equal message waits.

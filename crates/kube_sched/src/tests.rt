@@ -21,81 +21,122 @@ fn request(key: u8, tag: u64, run_at: u64) -> ScheduleRequest<Message> {
     }
 }
 
-/// The tag of the first message that waits at a moment.
-fn taken(scheduler: &mut Scheduler<Message>, at: u64) -> Option<u64> {
-    scheduler.settle(Moment(at));
-    match scheduler.take_first(|_| true) {
+/// The tag of a message.
+fn tag_of(message: Option<&Message>) -> Option<u64> {
+    match message {
         Some(message) => Some(message.tag),
         None => None,
     }
 }
 
+/// The tag of the first message that waits at a moment.
+fn taken(scheduler: &mut Scheduler<Message>, at: u64) -> Option<u64> {
+    scheduler.settle(Moment(at));
+    let message = scheduler.take_first(|_| true)?;
+    Some(message.tag)
+}
+
+/// A step on a scheduler of messages of key 1, with what it is to give.
+#[derive(Clone, Copy)]
+enum Step {
+    /// A request for a message with a tag, for a moment, at a moment.
+    Ask(u64, u64, u64),
+    /// The tag of the first message that waits at a moment, which is taken.
+    Take(u64, Option<u64>),
+    /// How many messages wait at a moment, and how many are held.
+    Count(u64, usize, usize),
+}
+
+/// Does steps in order.
+fn check_steps(
+    rt: &impl Abort,
+    alloc: Global,
+    scheduler: &mut Scheduler<Message>,
+    steps: &[Step],
+) -> Result<(), Fail> {
+    for step in steps {
+        match step {
+            Step::Ask(tag, run_at, now) => {
+                scheduler.schedule(alloc, request(1, *tag, *run_at), Moment(*now))?;
+            }
+            Step::Take(at, wanted) => assert_eq!(rt; taken(scheduler, *at), *wanted, "at {at}"),
+            Step::Count(at, waiting, held) => {
+                scheduler.settle(Moment(*at));
+                assert_eq!(rt; scheduler.waiting_len(), *waiting, "at {at}");
+                assert_eq!(rt; scheduler.len(), *held, "at {at}");
+            }
+        }
+    }
+    Ok(())
+}
+
 #[test]
 fn an_earlier_request_takes_the_place(rt: HostRuntime) -> Result<(), Fail> {
-    let alloc = rt.alloc();
-    let mut scheduler = Scheduler::new(alloc, 0);
-    scheduler.schedule(alloc, request(1, 10, 2 * SECOND), Moment(0))?;
-    scheduler.schedule(alloc, request(1, 11, SECOND), Moment(0))?;
-    assert_eq!(rt; taken(&mut scheduler, SECOND - 1), None);
-    assert_eq!(rt; taken(&mut scheduler, SECOND), Some(11));
-    assert_eq!(rt; taken(&mut scheduler, 2 * SECOND), None);
-    assert_eq!(rt; scheduler.len(), 0);
-    Ok(())
+    let mut scheduler = Scheduler::new(rt.alloc(), 0);
+    let steps = [
+        Step::Ask(10, 2 * SECOND, 0),
+        Step::Ask(11, SECOND, 0),
+        Step::Take(SECOND - 1, None),
+        Step::Take(SECOND, Some(11)),
+        Step::Take(2 * SECOND, None),
+        Step::Count(2 * SECOND, 0, 0),
+    ];
+    check_steps(&rt, rt.alloc(), &mut scheduler, &steps)
 }
 
 #[test]
 fn a_later_request_changes_nothing(rt: HostRuntime) -> Result<(), Fail> {
-    let alloc = rt.alloc();
-    let mut scheduler = Scheduler::new(alloc, 0);
-    scheduler.schedule(alloc, request(1, 10, SECOND), Moment(0))?;
-    scheduler.schedule(alloc, request(1, 11, 2 * SECOND), Moment(0))?;
-    assert_eq!(rt; scheduler.len(), 1);
-    assert_eq!(rt; taken(&mut scheduler, SECOND), Some(10));
-    assert_eq!(rt; taken(&mut scheduler, 2 * SECOND), None);
-    Ok(())
+    let mut scheduler = Scheduler::new(rt.alloc(), 0);
+    let steps = [
+        Step::Ask(10, SECOND, 0),
+        Step::Ask(11, 2 * SECOND, 0),
+        Step::Count(0, 0, 1),
+        Step::Take(SECOND, Some(10)),
+        Step::Take(2 * SECOND, None),
+    ];
+    check_steps(&rt, rt.alloc(), &mut scheduler, &steps)
 }
 
 #[test]
 fn a_debounce_holds_a_message(rt: HostRuntime) -> Result<(), Fail> {
-    let alloc = rt.alloc();
-    let mut scheduler = Scheduler::new(alloc, 3 * SECOND);
-    scheduler.schedule(alloc, request(1, 10, 0), Moment(0))?;
-    scheduler.schedule(alloc, request(1, 11, SECOND), Moment(SECOND))?;
-    scheduler.settle(Moment(3 * SECOND + SECOND / 2));
-    assert_eq!(rt; scheduler.waiting_len(), 0);
-    scheduler.settle(Moment(4 * SECOND));
-    assert_eq!(rt; scheduler.waiting_len(), 1);
+    let mut scheduler = Scheduler::new(rt.alloc(), 3 * SECOND);
+    let steps = [
+        Step::Ask(10, 0, 0),
+        Step::Ask(11, SECOND, SECOND),
+        Step::Count(3 * SECOND + SECOND / 2, 0, 1),
+        Step::Count(4 * SECOND, 1, 1),
+    ];
+    check_steps(&rt, rt.alloc(), &mut scheduler, &steps)?;
     assert!(rt; scheduler.contains_pending(&Message { key: 1, tag: 0 }));
     Ok(())
 }
 
 #[test]
 fn a_request_before_the_settle_moves_the_message(rt: HostRuntime) -> Result<(), Fail> {
-    let alloc = rt.alloc();
-    let mut scheduler = Scheduler::new(alloc, 3 * SECOND);
-    scheduler.schedule(alloc, request(1, 10, 0), Moment(0))?;
-    scheduler.schedule(alloc, request(1, 11, 3 * SECOND), Moment(3 * SECOND))?;
-    assert_eq!(rt; taken(&mut scheduler, 3 * SECOND), None);
-    assert_eq!(rt; taken(&mut scheduler, 6 * SECOND - 1), None);
-    assert_eq!(rt; taken(&mut scheduler, 6 * SECOND), Some(11));
-    Ok(())
+    let mut scheduler = Scheduler::new(rt.alloc(), 3 * SECOND);
+    let steps = [
+        Step::Ask(10, 0, 0),
+        Step::Ask(11, 3 * SECOND, 3 * SECOND),
+        Step::Take(3 * SECOND, None),
+        Step::Take(6 * SECOND - 1, None),
+        Step::Take(6 * SECOND, Some(11)),
+    ];
+    check_steps(&rt, rt.alloc(), &mut scheduler, &steps)
 }
 
 #[test]
 fn no_message_is_held_longer_than_180_days(rt: HostRuntime) -> Result<(), Fail> {
-    let alloc = rt.alloc();
-    let mut scheduler = Scheduler::new(alloc, 0);
-    scheduler.schedule(alloc, request(1, 10, u64::MAX), Moment(5))?;
-    assert_eq!(rt; taken(&mut scheduler, 15_552_000_000_000_004), None);
-    assert_eq!(rt; taken(&mut scheduler, 15_552_000_000_000_005), Some(10));
-    Ok(())
+    let mut scheduler = Scheduler::new(rt.alloc(), 0);
+    let steps = [
+        Step::Ask(10, u64::MAX, 5),
+        Step::Take(15_552_000_000_000_004, None),
+        Step::Take(15_552_000_000_000_005, Some(10)),
+    ];
+    check_steps(&rt, rt.alloc(), &mut scheduler, &steps)
 }
 
-#[test]
-fn reserved_places_are_used(rt: HostRuntime) -> Result<(), Fail> {
-    let alloc = rt.alloc();
-    let mut scheduler = Scheduler::new(alloc, 0);
-    scheduler.reserve(alloc, 2)?;
+/// Uses reserved places, of which each request takes one.
+fn use_reserved(rt: &impl Abort, scheduler: &mut Scheduler<Message>) {
     let mut left = scheduler.spare();
     assert!(rt; left >= 2);
     for key in [1, 2] {
@@ -105,8 +146,15 @@ fn reserved_places_are_used(rt: HostRuntime) -> Result<(), Fail> {
         assert!(rt; scheduler.spare() < left);
         left = scheduler.spare();
     }
-    assert_eq!(rt; taken(&mut scheduler, 7), Some(1));
-    assert_eq!(rt; taken(&mut scheduler, 7), Some(2));
+    assert_eq!(rt; taken(scheduler, 7), Some(1));
+    assert_eq!(rt; taken(scheduler, 7), Some(2));
+}
+
+#[test]
+fn reserved_places_are_used(rt: HostRuntime) -> Result<(), Fail> {
+    let mut scheduler = Scheduler::new(rt.alloc(), 0);
+    scheduler.reserve(rt.alloc(), 2)?;
+    use_reserved(&rt, &mut scheduler);
     Ok(())
 }
 
@@ -129,7 +177,7 @@ fn any_run_at(state: &mut u64, now: u64) -> u64 {
 }
 
 /// One step on both: a request, a settle or a take. What was taken by each.
-fn step(
+fn take_step(
     alloc: Global,
     state: &mut u64,
     now: u64,
@@ -145,11 +193,13 @@ fn step(
             plain.settle(now);
         }
         1 => {
-            let mine = match scheduler.take_first(|message: &Message| message.key >= key) {
-                Some(message) => Some(message.tag),
-                None => None,
-            };
-            return Ok((mine, plain.take(key)?));
+            let passes = |message: &Message| message.key >= key;
+            let seen = tag_of(scheduler.first(passes));
+            let mine = scheduler.take_first(passes);
+            if seen != tag_of(mine.as_ref()) {
+                return Err(Fail::from("another one is taken than was seen"));
+            }
+            return Ok((seen, plain.take(key)?));
         }
         2 if scheduler.spare() > 0 => {
             scheduler.schedule_reserved(request(key, tag, run_at), Moment(now));
@@ -174,11 +224,13 @@ fn compare(rt: &impl Abort, scheduler: &Scheduler<Message>, plain: &Plain) {
     }
 }
 
-#[test]
-fn two_thousand_steps_are_as_defined(rt: HostRuntime) -> Result<(), Fail> {
-    let alloc = rt.alloc();
-    let mut scheduler = Scheduler::new(alloc, 3);
-    let mut plain = Plain::new(alloc, 3);
+/// Two thousand steps on both. How many messages were taken.
+fn step_on_both(
+    rt: &impl Abort,
+    alloc: Global,
+    scheduler: &mut Scheduler<Message>,
+    plain: &mut Plain,
+) -> Result<u32, Fail> {
     let mut state = 11;
     let mut now = 100u64;
     let mut given = 0u32;
@@ -186,13 +238,21 @@ fn two_thousand_steps_are_as_defined(rt: HostRuntime) -> Result<(), Fail> {
         now = now
             .saturating_add(next_number(&mut state) % 7)
             .saturating_sub(1);
-        let (mine, wanted) = step(alloc, &mut state, now, &mut scheduler, &mut plain)?;
+        let (mine, wanted) = take_step(alloc, &mut state, now, scheduler, plain)?;
         assert_eq!(rt; mine, wanted);
         if mine.is_some() {
             given = given.saturating_add(1);
         }
-        compare(&rt, &scheduler, &plain);
+        compare(rt, scheduler, plain);
     }
+    Ok(given)
+}
+
+#[test]
+fn two_thousand_steps_are_as_defined(rt: HostRuntime) -> Result<(), Fail> {
+    let mut scheduler = Scheduler::new(rt.alloc(), 3);
+    let mut plain = Plain::new(rt.alloc(), 3);
+    let given = step_on_both(&rt, rt.alloc(), &mut scheduler, &mut plain)?;
     assert!(rt; given > 100, "given {given}");
     Ok(())
 }
@@ -258,11 +318,12 @@ fn poll_all(
     rt: &impl Abort,
     alloc: Global,
     scheduled: &mut Scheduled<Message, Script>,
+    fuel: u32,
     polls: &[(u64, u64)],
 ) -> Result<(), Fail> {
     for (second, wanted) in polls {
         let now = Moment(second.saturating_mul(SECOND));
-        let answer = scheduled.poll_next(alloc, now, 9)?;
+        let answer = scheduled.poll_next(alloc, now, fuel)?;
         assert_eq!(rt; shown(&answer), *wanted, "at {second} s");
     }
     Ok(())
@@ -274,7 +335,7 @@ fn messages_come_when_they_are_due(rt: HostRuntime) -> Result<(), Fail> {
     let requests = asks(alloc, &[(1, 0, SECOND), (2, 0, 3 * SECOND)], None)?;
     let mut scheduled = scheduler(alloc, requests);
     let polls = [(0, NOT_READY), (2, 1), (2, NOT_READY), (4, 2)];
-    poll_all(&rt, alloc, &mut scheduled, &polls)
+    poll_all(&rt, alloc, &mut scheduled, 9, &polls)
 }
 
 #[test]
@@ -284,16 +345,17 @@ fn equal_messages_come_once(rt: HostRuntime) -> Result<(), Fail> {
         let requests = asks(alloc, &[(1, 0, first), (1, 0, second)], None)?;
         let mut scheduled = scheduler(alloc, requests);
         let polls = [(0, NOT_READY), (2, 1), (4, NOT_READY)];
-        poll_all(&rt, alloc, &mut scheduled, &polls)?;
+        poll_all(&rt, alloc, &mut scheduled, 9, &polls)?;
     }
     Ok(())
 }
 
-#[test]
-fn a_held_message_comes_once_when_released(rt: HostRuntime) -> Result<(), Fail> {
-    let alloc = rt.alloc();
-    let requests = asks(alloc, &[(1, 0, 0), (1, SECOND, SECOND)], Some(4 * SECOND))?;
-    let mut scheduled = scheduler(alloc, requests);
+/// Holds all messages in two polls, at each of which the same one is asked for, and then releases them.
+fn hold_and_release(
+    rt: &impl Abort,
+    alloc: Global,
+    scheduled: &mut Scheduled<Message, Script>,
+) -> Result<(), Fail> {
     let one = Message { key: 1, tag: 0 };
     assert!(rt; !scheduled.contains_pending(&one));
     for now in [0, SECOND] {
@@ -302,7 +364,36 @@ fn a_held_message_comes_once_when_released(rt: HostRuntime) -> Result<(), Fail> 
         assert!(rt; scheduled.contains_pending(&one));
     }
     let polls = [(2, 1), (3, NOT_READY), (4, END), (5, END)];
-    poll_all(&rt, alloc, &mut scheduled, &polls)
+    poll_all(rt, alloc, scheduled, 9, &polls)
+}
+
+#[test]
+fn a_held_message_comes_once_when_released(rt: HostRuntime) -> Result<(), Fail> {
+    let alloc = rt.alloc();
+    let requests = asks(alloc, &[(1, 0, 0), (1, SECOND, SECOND)], Some(4 * SECOND))?;
+    let mut scheduled = scheduler(alloc, requests);
+    hold_and_release(&rt, alloc, &mut scheduled)
+}
+
+/// Holds a message that does not pass, which is dropped at the end of the requests.
+fn hold_one(
+    rt: &impl Abort,
+    alloc: Global,
+    scheduled: &mut Scheduled<Message, Script>,
+) -> Result<(), Fail> {
+    for wanted in [2, NOT_READY] {
+        let mut unless = scheduled.hold_unless(|message: &Message| message.key != 1);
+        let answer = unless.poll_next(alloc, Moment(0), 9)?;
+        assert_eq!(rt; shown(&answer), wanted);
+    }
+    let one = Message { key: 1, tag: 0 };
+    assert!(rt; scheduled.contains_pending(&one));
+    poll_all(rt, alloc, scheduled, 9, &[(1, END)])?;
+    assert!(rt;
+        !scheduled.contains_pending(&one),
+        "what is held is dropped"
+    );
+    Ok(())
 }
 
 #[test]
@@ -310,19 +401,7 @@ fn a_message_that_does_not_pass_is_held(rt: HostRuntime) -> Result<(), Fail> {
     let alloc = rt.alloc();
     let requests = asks(alloc, &[(1, 0, 0), (2, 0, 0)], Some(SECOND))?;
     let mut scheduled = scheduler(alloc, requests);
-    let mut answers = [2, NOT_READY].iter();
-    for wanted in &mut answers {
-        let mut unless = scheduled.hold_unless(|message: &Message| message.key != 1);
-        let answer = unless.poll_next(alloc, Moment(0), 9)?;
-        assert_eq!(rt; shown(&answer), *wanted);
-    }
-    assert!(rt; scheduled.contains_pending(&Message { key: 1, tag: 0 }));
-    poll_all(&rt, alloc, &mut scheduled, &[(1, END)])?;
-    assert!(rt;
-        !scheduled.contains_pending(&Message { key: 1, tag: 0 }),
-        "what is held is dropped"
-    );
-    Ok(())
+    hold_one(&rt, alloc, &mut scheduled)
 }
 
 #[test]
@@ -330,11 +409,8 @@ fn a_call_takes_as_many_requests_as_it_may(rt: HostRuntime) -> Result<(), Fail> 
     let alloc = rt.alloc();
     let requests = asks(alloc, &[(1, 0, 0), (2, 0, 0), (3, 0, 0)], None)?;
     let mut scheduled = scheduler(alloc, requests);
-    for wanted in [SPENT, 1, 2, 3, NOT_READY] {
-        let answer = scheduled.poll_next(alloc, Moment(0), 2)?;
-        assert_eq!(rt; shown(&answer), wanted);
-    }
-    Ok(())
+    let polls = [(0, SPENT), (0, 1), (0, 2), (0, 3), (0, NOT_READY)];
+    poll_all(&rt, alloc, &mut scheduled, 2, &polls)
 }
 
 #[test]
@@ -349,5 +425,5 @@ fn a_debounced_scheduler_holds_longer(rt: HostRuntime) -> Result<(), Fail> {
         (4, 1),
         (7, NOT_READY),
     ];
-    poll_all(&rt, alloc, &mut scheduled, &polls)
+    poll_all(&rt, alloc, &mut scheduled, 9, &polls)
 }

@@ -23,7 +23,7 @@ fn word(answer: &Polled<Result<u32, InitDropped>>) -> &str {
 
 /// Checks what a poll gives.
 fn check_poll<R: Abort + Wait>(rt: &R, delayed: &mut Delayed, wanted: &str)
-    ensures { delayed.new.cell ≡ delayed.old.cell }
+    ensures { delayed.new.book ≡ delayed.old.book }
 {
     let answer = delayed.poll_get(rt);
     assert_eq!(rt; word(&answer), wanted);
@@ -51,9 +51,9 @@ fn no_value_follows_where_it_was_abandoned(rt: HostRuntime) -> Result<(), Fail> 
 #[test]
 fn a_note_tells_the_outcome(rt: HostRuntime) -> Result<(), Fail> {
     let (initializer, mut delayed) = DelayedInit::new(rt.alloc())?;
-    let mut note = initializer.init(&rt, 1);
-    note.agrees(&mut delayed);
+    let note = initializer.init(&rt, 1);
     delayed.learn(&note);
+    delayed.agrees(&note);
     check_poll(&rt, &mut delayed, "1");
     Ok(())
 }

@@ -1,6 +1,8 @@
 //! Events that are applied to a writer.
 
-use super::objects::{alone, config_maps, kind, labelled, name_of, object, reference, version_of};
+use super::objects::{
+    Object, alone, config_maps, generated, kind, labelled, name_of, object, reference,
+};
 use crate::{WriteError, Writer};
 use kube_meta::{DynamicObject, Expression, ObjectRef, Selector, Text};
 use kube_watch::Event;
@@ -8,31 +10,46 @@ use std::alloc::Global;
 use std::process::Abort;
 use std::test::Fail;
 
-/// The names of the stored objects, each with a comma behind it.
-fn stored(alloc: Global, writer: &Writer<DynamicObject>) -> Result<String, Fail> {
-    let mut names = String::new(alloc);
-    for object in writer.cache().state(alloc)?.iter() {
-        names.push_str(name_of(&**object))?;
-        names.push_str(",")?;
-    }
-    Ok(names)
-}
-
-/// Checks the names of the stored objects.
-fn check_stored(
-    rt: &impl Abort,
-    alloc: Global,
-    writer: &Writer<DynamicObject>,
-    wanted: &str,
-) -> Result<(), Fail> {
-    let names = stored(alloc, writer)?;
-    assert_eq!(rt; names.as_str(), wanted);
-    Ok(())
-}
-
 /// Whether there is an object under this reference.
 fn has(writer: &Writer<DynamicObject>, reference: &ObjectRef<DynamicObject>) -> bool {
     writer.cache().get(reference).is_some()
+}
+
+/// The events of a list of `a` and `b`, of which the last one has no name where `is_named` is false.
+fn page(alloc: Global, is_named: bool) -> Result<[Event<Object>; 4], Fail> {
+    let last = if is_named { "b" } else { "" };
+    Ok([
+        Event::Init,
+        Event::InitApply(object(alloc, "a", "", "")?),
+        Event::InitApply(object(alloc, last, "", "")?),
+        Event::InitDone,
+    ])
+}
+
+/// Applies a list at once, one of whose objects has no name, and then one whose objects have names.
+fn apply_at_once(
+    rt: &impl Abort,
+    alloc: Global,
+    writer: &mut Writer<DynamicObject>,
+) -> Result<(), Fail> {
+    writer.apply_watcher_event(alloc, &Event::Apply(object(alloc, "c", "", "")?))?;
+    let refused = writer.apply_watcher_events(alloc, page(alloc, false)?.as_slice());
+    assert_eq!(rt; refused, Err(WriteError::Unnamed));
+    assert!(rt; has(writer, &reference(alloc, "c")?));
+    assert!(rt; !writer.is_ready());
+    writer.apply_watcher_events(alloc, page(alloc, true)?.as_slice())?;
+    assert!(rt; writer.is_ready());
+    let keys = writer.cache().keys(alloc)?;
+    assert_eq!(rt; keys.len(), 2);
+    assert_eq!(rt; keys.first().map(|key| key.name.as_str()), Some("a"));
+    Ok(())
+}
+
+#[test]
+fn a_list_is_applied_at_once_or_not_at_all(rt: HostRuntime) -> Result<(), Fail> {
+    let alloc = rt.alloc();
+    let mut writer = alone(alloc)?;
+    apply_at_once(&rt, alloc, &mut writer)
 }
 
 /// A list of `b` alone, where `a` is stored.
@@ -99,29 +116,6 @@ fn a_cluster_scoped_object_is_found_within_a_namespace(rt: HostRuntime) -> Resul
     Ok(())
 }
 
-/// Applies two objects, changes one and deletes it.
-fn change_and_delete(
-    rt: &impl Abort,
-    alloc: Global,
-    writer: &mut Writer<DynamicObject>,
-) -> Result<(), Fail> {
-    writer.apply_watcher_event(alloc, &Event::Apply(object(alloc, "a", "", "1")?))?;
-    writer.apply_watcher_event(alloc, &Event::Apply(object(alloc, "b", "", "1")?))?;
-    writer.apply_watcher_event(alloc, &Event::Apply(object(alloc, "a", "", "2")?))?;
-    check_stored(rt, alloc, writer, "a,b,")?;
-    let found = writer.cache().get(&reference(alloc, "a")?);
-    assert_eq!(rt; found.map(|object| version_of(&**object)), Some("2"));
-    writer.apply_watcher_event(alloc, &Event::Delete(object(alloc, "a", "", "2")?))?;
-    check_stored(rt, alloc, writer, "b,")
-}
-
-#[test]
-fn objects_are_applied_changed_and_deleted(rt: HostRuntime) -> Result<(), Fail> {
-    let alloc = rt.alloc();
-    let mut writer = alone(alloc)?;
-    change_and_delete(&rt, alloc, &mut writer)
-}
-
 #[test]
 fn an_object_without_a_name_is_refused(rt: HostRuntime) -> Result<(), Fail> {
     let alloc = rt.alloc();
@@ -166,18 +160,22 @@ fn objects_are_filtered(rt: HostRuntime) -> Result<(), Fail> {
     filter_by_name_and_label(&rt, alloc, &mut writer)
 }
 
-/// Looks for an object by its version, before and after it is applied.
-fn find_by_version(
+/// Looks for an object by its generation, before and after it is applied.
+fn find_by_generation(
     rt: &impl Abort,
     alloc: Global,
     writer: &mut Writer<DynamicObject>,
 ) -> Result<(), Fail> {
     assert!(rt; writer.cache().is_empty());
     writer.apply_watcher_event(alloc, &Event::Apply(object(alloc, "a", "", "")?))?;
-    let found = writer.cache().find(|object| version_of(object) == "1234");
+    let found = writer
+        .cache()
+        .find(|object| object.metadata.generation == Some(1234));
     assert!(rt; found.is_none());
-    writer.apply_watcher_event(alloc, &Event::Apply(object(alloc, "b", "", "1234")?))?;
-    let found = writer.cache().find(|object| version_of(object) == "1234");
+    writer.apply_watcher_event(alloc, &Event::Apply(generated(alloc, "b", 1234)?))?;
+    let found = writer
+        .cache()
+        .find(|object| object.metadata.generation == Some(1234));
     assert_eq!(rt; found.map(|object| name_of(&**object)), Some("b"));
     assert_eq!(rt; writer.cache().len(), 2);
     Ok(())
@@ -187,7 +185,7 @@ fn find_by_version(
 fn an_object_is_found_by_what_it_has(rt: HostRuntime) -> Result<(), Fail> {
     let alloc = rt.alloc();
     let mut writer = alone(alloc)?;
-    find_by_version(&rt, alloc, &mut writer)
+    find_by_generation(&rt, alloc, &mut writer)
 }
 
 /// An object of this name is applied.
@@ -219,63 +217,4 @@ fn a_reference_is_of_one_kind(rt: HostRuntime) -> Result<(), Fail> {
     let mut pods = Writer::new(alloc, kind(alloc, "Pod", "pods")?, 1)?;
     apply_named(alloc, &mut pods, "a")?;
     look_under_two_kinds(&rt, alloc, &maps, &pods)
-}
-
-/// The next of numbers that look like chance.
-fn next_number(state: u64) -> u64 {
-    state
-        .wrapping_mul(6_364_136_223_846_793_005)
-        .wrapping_add(1_442_695_040_888_963_407)
-}
-
-/// Applies an event of an object of this number.
-fn apply_any(alloc: Global, writer: &mut Writer<DynamicObject>, state: u64) -> Result<(), Fail> {
-    let number = (state >> 33) % 100;
-    let name = format!(in alloc; "{number}")?;
-    let object = object(alloc, name.as_str(), "", "")?;
-    if (state >> 40) % 5 < 2 {
-        writer.apply_watcher_event(alloc, &Event::Delete(object))?;
-    } else {
-        writer.apply_watcher_event(alloc, &Event::Apply(object))?;
-    }
-    Ok(())
-}
-
-/// How many stored objects have the name of one before them.
-fn doubled(alloc: Global, writer: &Writer<DynamicObject>) -> Result<usize, Fail> {
-    let objects = writer.cache().state(alloc)?;
-    let mut count: usize = 0;
-    for object in objects.iter() {
-        let same = objects
-            .iter()
-            .filter(|other| name_of(&***other) == name_of(&**object))
-            .count();
-        if same > 1 {
-            count = count.saturating_add(1);
-        }
-    }
-    Ok(count)
-}
-
-/// Applies many events of a hundred objects.
-fn apply_many(
-    rt: &impl Abort,
-    alloc: Global,
-    writer: &mut Writer<DynamicObject>,
-) -> Result<(), Fail> {
-    let mut state = 1;
-    for _ in 0..100_000 {
-        state = next_number(state);
-        apply_any(alloc, writer, state)?;
-    }
-    assert_eq!(rt; doubled(alloc, writer)?, 0);
-    assert!(rt; writer.cache().len() > 10);
-    Ok(())
-}
-
-#[test]
-fn no_name_is_stored_twice(rt: HostRuntime) -> Result<(), Fail> {
-    let alloc = rt.alloc();
-    let mut writer = alone(alloc)?;
-    apply_many(&rt, alloc, &mut writer)
 }

@@ -62,6 +62,16 @@ pub fn labelled(alloc: Global, name: &str, app: &str) -> Result<Object, NoMemory
     Ok(Arc::new(alloc, DynamicObject::bare(metadata))?)
 }
 
+/// An object of this generation.
+pub fn generated(alloc: Global, name: &str, generation: i64) -> Result<Object, NoMemory> {
+    let metadata = ObjectMeta {
+        name: some_text(alloc, name)?,
+        generation: Some(generation),
+        ..ObjectMeta::empty()
+    };
+    Ok(Arc::new(alloc, DynamicObject::bare(metadata))?)
+}
+
 /// A reference to a config map of this name.
 pub fn reference(alloc: Global, name: &str) -> Result<ObjectRef<DynamicObject>, NoMemory> {
     ObjectRef::new_with(alloc, name, config_maps(alloc)?)

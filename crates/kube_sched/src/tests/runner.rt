@@ -1,9 +1,12 @@
 //! Runs of messages (kube-runtime's tests of `runner`).
 
-use super::{SECOND, asks, request};
+ghost use Rattle.std.specs.Prelude.{◌≡◌, IfOk};
+ghost use Rattle.kube_sched.specs.Runs.{MakesFutures};
+
+use super::{SECOND, Script, asks, request};
 use crate::plain::Message;
-use crate::runner::Error;
-use crate::{Requests, Runner, ScheduleRequest, Untold, scheduler};
+use crate::runner::{AtOnce, Error};
+use crate::{Requests, Runner, ScheduleRequest, ToldFuture, Untold, scheduler};
 use futures::channel::oneshot;
 use futures::task::{Context, Poll};
 use futures::test::MockTask;
@@ -11,6 +14,7 @@ use futures::{Future, future};
 use kube_meta::{Moment, Next, NoMemory};
 use std::alloc::Global;
 use std::collections::VecDeque;
+use std::convert::Infallible;
 use std::process::Abort;
 use std::test::Fail;
 
@@ -43,14 +47,26 @@ fn run(message: &Message, left: u32) -> Untold<Countdown> {
     }
 }
 
-/// What a poll answered: the value of a run, or how it ended.
-fn shown<E>(answer: &Next<Result<u64, Error<E>>>) -> u64 {
-    match answer {
-        Next::Item(Ok(value)) => *value,
-        Next::Item(Err(_)) => READINESS,
-        Next::NotReady => NOT_READY,
-        Next::Spent => SPENT,
-        Next::End => END,
+/// An error of a readiness as a number.
+trait Shown: Drop {
+    fn shown(&self) -> u64;
+}
+
+impl Shown for u32 {
+    fn shown(&self) -> u64 {
+        CANCELED + 1 + u64::from(*self)
+    }
+}
+
+impl Shown for oneshot::Canceled {
+    fn shown(&self) -> u64 {
+        CANCELED
+    }
+}
+
+impl Shown for Infallible {
+    fn shown(&self) -> u64 {
+        0
     }
 }
 
@@ -60,7 +76,56 @@ const SPENT: u64 = 1001;
 
 const END: u64 = 1002;
 
-const READINESS: u64 = 1003;
+const CANCELED: u64 = 1003;
+
+/// What a poll answered: the value of a run, how it ended, or the error of the readiness.
+fn number_of<E: Shown>(answer: &Next<Result<u64, Error<E>>>) -> u64 {
+    match answer {
+        Next::Item(Ok(value)) => *value,
+        Next::Item(Err(Error::Readiness(error))) => error.shown(),
+        Next::NotReady => NOT_READY,
+        Next::Spent => SPENT,
+        Next::End => END,
+    }
+}
+
+/// A runner of requests, without readiness.
+fn runner_of<MkF: FnMut(&Message) -> Untold<Countdown> + Drop>(
+    alloc: Global,
+    requests: Script,
+    max: u16,
+    run_msg: MkF,
+) -> Runner<Message, Script, Untold<Countdown>, MkF, AtOnce>
+    ensures { result.makes ≡ run_msg }
+{
+    Runner::new(alloc, scheduler(alloc, requests), max, run_msg)
+}
+
+/// Polls a runner at moments, each with what it answers.
+fn poll_all<
+    R: Requests<Message>,
+    F: ToldFuture + Future<Output = u64>,
+    MkF: FnMut(&Message) -> F + Drop,
+    E: Shown,
+    Ready: ToldFuture + Future<Output = Result<(), E>>,
+>(
+    rt: &impl Abort,
+    task: &MockTask,
+    alloc: Global,
+    runner: &mut Runner<Message, R, F, MkF, Ready>,
+    fuel: u32,
+    polls: &[(u64, u64)],
+) -> Result<(), Fail>
+    requires call { MkF.IsAlwaysCallable runner.old.makes }
+    requires futures { MakesFutures MkF.FnMut F.can_poll }
+    ensures call { MkF.IsAlwaysCallable runner.new.makes }
+{
+    for (at, wanted) in polls {
+        let answer = task.enter(|cx| runner.poll_next(alloc, cx, Moment(*at), fuel))?;
+        assert_eq!(rt; number_of(&answer), *wanted, "at {at}");
+    }
+    Ok(())
+}
 
 /// Requests that answer these, and then are never ready.
 #[derive(Drop)]
@@ -85,22 +150,31 @@ impl Requests<Message> for Answers {
     }
 }
 
+/// A request for a message of key and tag 1, none ready, and then this.
+fn one_and_then(alloc: Global, last: Next<ScheduleRequest<Message>>) -> Result<Answers, Fail> {
+    let mut answers = VecDeque::new(alloc);
+    answers.push_back(Ok(Next::Item(request(1, 1, 0))))?;
+    answers.push_back(Ok(Next::NotReady))?;
+    answers.push_back(Ok(last))?;
+    Ok(Answers { answers })
+}
+
 #[test]
 fn the_second_starts_after_the_first_has_finished(rt: HostRuntime) -> Result<(), Fail> {
     let alloc = rt.alloc();
     let task = MockTask::new(&rt)?;
     let requests = asks(alloc, &[(1, 0, 0), (2, 0, 0)], None)?;
-    let mut runner = Runner::new(
-        alloc,
-        scheduler(alloc, requests),
-        1,
-        |m: &Message| run(m, 1),
-    );
-    for wanted in [NOT_READY, NOT_READY, 1, NOT_READY, NOT_READY, 2, NOT_READY] {
-        let answer = task.enter(|cx| runner.poll_next(alloc, cx, Moment(0), 9))?;
-        assert_eq!(rt; shown(&answer), wanted);
-    }
-    Ok(())
+    let mut runner = runner_of(alloc, requests, 1, |m: &Message| run(m, 1));
+    let polls = [
+        (0, NOT_READY),
+        (0, NOT_READY),
+        (0, 1),
+        (0, NOT_READY),
+        (0, NOT_READY),
+        (0, 2),
+        (0, NOT_READY),
+    ];
+    poll_all(&rt, &task, alloc, &mut runner, 9, &polls)
 }
 
 #[test]
@@ -108,37 +182,25 @@ fn without_a_limit_all_start_at_once(rt: HostRuntime) -> Result<(), Fail> {
     let alloc = rt.alloc();
     let task = MockTask::new(&rt)?;
     let requests = asks(alloc, &[(1, 0, 0), (2, 0, 0), (3, 0, 0)], None)?;
-    let mut runner = Runner::new(
-        alloc,
-        scheduler(alloc, requests),
-        0,
-        |m: &Message| run(m, 0),
-    );
-    for wanted in [NOT_READY, 1, 2, 3, NOT_READY] {
-        let answer = task.enter(|cx| runner.poll_next(alloc, cx, Moment(0), 9))?;
-        assert_eq!(rt; shown(&answer), wanted);
-    }
-    Ok(())
+    let mut runner = runner_of(alloc, requests, 0, |m: &Message| run(m, 0));
+    let polls = [(0, NOT_READY), (0, 1), (0, 2), (0, 3), (0, NOT_READY)];
+    poll_all(&rt, &task, alloc, &mut runner, 9, &polls)
 }
 
 #[test]
 fn the_end_comes_after_the_result_of_what_was_started(rt: HostRuntime) -> Result<(), Fail> {
     let alloc = rt.alloc();
     let task = MockTask::new(&rt)?;
-    let mut answers = VecDeque::new(alloc);
-    answers.push_back(Ok(Next::Item(request(1, 1, 0))))?;
-    answers.push_back(Ok(Next::NotReady))?;
-    answers.push_back(Ok(Next::End))?;
-    let requests = Answers { answers };
-    let mut runner = Runner::new(
-        alloc,
-        scheduler(alloc, requests),
-        0,
-        |m: &Message| run(m, 0),
-    );
-    for wanted in [NOT_READY, 1, END, END] {
-        let answer = task.enter(|cx| runner.poll_next(alloc, cx, Moment(0), 9))?;
-        assert_eq!(rt; shown(&answer), wanted);
+    for max in [0, 1, 2] {
+        let requests = one_and_then(alloc, Next::End)?;
+        let mut runner = Runner::new(
+            alloc,
+            scheduler(alloc, requests),
+            max,
+            |m: &Message| run(m, 0),
+        );
+        let polls = [(0, NOT_READY), (0, 1), (0, END), (0, END)];
+        poll_all(&rt, &task, alloc, &mut runner, 9, &polls)?;
     }
     Ok(())
 }
@@ -148,23 +210,15 @@ fn nothing_starts_before_readiness_and_no_equal_one_at_once(rt: HostRuntime) -> 
     let alloc = rt.alloc();
     let task = MockTask::new(&rt)?;
     let (send, receive) = oneshot::channel(alloc)?;
-    let requests = asks(
-        alloc,
-        &[(1, 0, 0), (2, 0, 0), (1, 0, 0), (1, SECOND, SECOND)],
-        None,
-    )?;
-    let mut runner = Runner::new(
-        alloc,
-        scheduler(alloc, requests),
-        0,
-        |m: &Message| run(m, 1),
-    )
-    .delay_tasks_until(Untold { future: receive });
-    let before = task.enter(|cx| runner.poll_next(alloc, cx, Moment(0), 9))?;
-    assert_eq!(rt; shown(&before), NOT_READY);
+    let all = [(1, 0, 0), (2, 0, 0), (1, 0, 0), (1, SECOND, SECOND)];
+    let requests = asks(alloc, &all, None)?;
+    let mut runner = runner_of(alloc, requests, 0, |m: &Message| run(m, 1)).delay_tasks_until(
+        Untold { future: receive },
+    );
+    poll_all(&rt, &task, alloc, &mut runner, 9, &[(0, NOT_READY)])?;
     assert!(rt; !runner.finish(&Message { key: 1, tag: 0 }));
     assert!(rt; send.send(()).is_ok());
-    let wanted_at = [
+    let polls = [
         (0, NOT_READY),
         (SECOND, NOT_READY),
         (SECOND, 2),
@@ -174,11 +228,7 @@ fn nothing_starts_before_readiness_and_no_equal_one_at_once(rt: HostRuntime) -> 
         (SECOND, 1),
         (SECOND, NOT_READY),
     ];
-    for (at, wanted) in wanted_at {
-        let answer = task.enter(|cx| runner.poll_next(alloc, cx, Moment(at), 9))?;
-        assert_eq!(rt; shown(&answer), wanted);
-    }
-    Ok(())
+    poll_all(&rt, &task, alloc, &mut runner, 9, &polls)
 }
 
 #[test]
@@ -186,20 +236,13 @@ fn a_failed_readiness_is_told_and_then_the_end(rt: HostRuntime) -> Result<(), Fa
     let alloc = rt.alloc();
     let task = MockTask::new(&rt)?;
     let (send, receive) = oneshot::channel::<()>(alloc)?;
-    let requests = asks(alloc, &[(1, 0, 0)], None)?;
-    let mut runner = Runner::new(
-        alloc,
-        scheduler(alloc, requests),
-        0,
-        |m: &Message| run(m, 0),
-    )
-    .delay_tasks_until(Untold { future: receive });
     drop(send);
-    for wanted in [READINESS, END, END] {
-        let answer = task.enter(|cx| runner.poll_next(alloc, cx, Moment(0), 9))?;
-        assert_eq!(rt; shown(&answer), wanted);
-    }
-    Ok(())
+    let requests = asks(alloc, &[(1, 0, 0)], None)?;
+    let mut runner = runner_of(alloc, requests, 0, |m: &Message| run(m, 0)).delay_tasks_until(
+        Untold { future: receive },
+    );
+    let polls = [(0, CANCELED), (0, END), (0, END)];
+    poll_all(&rt, &task, alloc, &mut runner, 9, &polls)
 }
 
 #[test]
@@ -207,27 +250,18 @@ fn a_new_readiness_goes_on_after_a_failed_one(rt: HostRuntime) -> Result<(), Fai
     let alloc = rt.alloc();
     let task = MockTask::new(&rt)?;
     let requests = asks(alloc, &[(1, 0, 0)], None)?;
-    let mut failing = Runner::new(
-        alloc,
-        scheduler(alloc, requests),
-        0,
-        |m: &Message| run(m, 0),
-    )
-    .delay_tasks_until(Untold {
-        future: future::err::<(), u32>(7),
-    });
-    for wanted in [READINESS, END] {
-        let answer = task.enter(|cx| failing.poll_next(alloc, cx, Moment(0), 9))?;
-        assert_eq!(rt; shown(&answer), wanted);
-    }
+    let mut failing = runner_of(alloc, requests, 0, |m: &Message| run(m, 0)).delay_tasks_until(
+        Untold {
+            future: future::err::<(), u32>(7),
+        },
+    );
+    let polls = [(0, CANCELED + 8), (0, END)];
+    poll_all(&rt, &task, alloc, &mut failing, 9, &polls)?;
     let mut runner = failing.delay_tasks_until(Untold {
         future: future::ok::<(), u32>(()),
     });
-    for wanted in [NOT_READY, 1, NOT_READY] {
-        let answer = task.enter(|cx| runner.poll_next(alloc, cx, Moment(0), 9))?;
-        assert_eq!(rt; shown(&answer), wanted);
-    }
-    Ok(())
+    let polls = [(0, NOT_READY), (0, 1), (0, NOT_READY)];
+    poll_all(&rt, &task, alloc, &mut runner, 9, &polls)
 }
 
 #[test]
@@ -236,17 +270,11 @@ fn the_runner_ends_before_readiness_where_the_requests_do(rt: HostRuntime) -> Re
     let task = MockTask::new(&rt)?;
     let (send, receive) = oneshot::channel::<()>(alloc)?;
     let requests = asks(alloc, &[(1, 0, 0)], Some(SECOND))?;
-    let mut runner = Runner::new(
-        alloc,
-        scheduler(alloc, requests),
-        0,
-        |m: &Message| run(m, 0),
-    )
-    .delay_tasks_until(Untold { future: receive });
-    for (at, wanted) in [(0, NOT_READY), (SECOND, END), (SECOND, END)] {
-        let answer = task.enter(|cx| runner.poll_next(alloc, cx, Moment(at), 9))?;
-        assert_eq!(rt; shown(&answer), wanted);
-    }
+    let mut runner = runner_of(alloc, requests, 0, |m: &Message| run(m, 0)).delay_tasks_until(
+        Untold { future: receive },
+    );
+    let polls = [(0, NOT_READY), (SECOND, END), (SECOND, END)];
+    poll_all(&rt, &task, alloc, &mut runner, 9, &polls)?;
     drop(send);
     Ok(())
 }
@@ -256,20 +284,12 @@ fn a_finished_message_may_start_again(rt: HostRuntime) -> Result<(), Fail> {
     let alloc = rt.alloc();
     let task = MockTask::new(&rt)?;
     let requests = asks(alloc, &[(1, 0, 0), (1, SECOND, SECOND)], None)?;
-    let mut runner = Runner::new(
-        alloc,
-        scheduler(alloc, requests),
-        0,
-        |m: &Message| run(m, 9),
-    );
-    for at in [0, SECOND] {
-        let answer = task.enter(|cx| runner.poll_next(alloc, cx, Moment(at), 9))?;
-        assert_eq!(rt; shown(&answer), NOT_READY);
-    }
+    let mut runner = runner_of(alloc, requests, 0, |m: &Message| run(m, 9));
+    let polls = [(0, NOT_READY), (SECOND, NOT_READY)];
+    poll_all(&rt, &task, alloc, &mut runner, 9, &polls)?;
     assert!(rt; runner.finish(&Message { key: 1, tag: 0 }));
     assert!(rt; !runner.finish(&Message { key: 1, tag: 0 }));
-    let answer = task.enter(|cx| runner.poll_next(alloc, cx, Moment(SECOND), 9))?;
-    assert_eq!(rt; shown(&answer), NOT_READY);
+    poll_all(&rt, &task, alloc, &mut runner, 9, &[(SECOND, NOT_READY)])?;
     assert!(rt; runner.finish(&Message { key: 1, tag: 0 }));
     Ok(())
 }
@@ -278,22 +298,15 @@ fn a_finished_message_may_start_again(rt: HostRuntime) -> Result<(), Fail> {
 fn a_poll_takes_as_many_requests_as_it_may(rt: HostRuntime) -> Result<(), Fail> {
     let alloc = rt.alloc();
     let task = MockTask::new(&rt)?;
-    let mut answers = VecDeque::new(alloc);
-    answers.push_back(Ok(Next::Item(request(1, 1, 0))))?;
-    answers.push_back(Ok(Next::NotReady))?;
-    answers.push_back(Ok(Next::Item(request(2, 2, 0))))?;
-    let requests = Answers { answers };
+    let requests = one_and_then(alloc, Next::Item(request(2, 2, 0)))?;
     let mut runner = Runner::new(
         alloc,
         scheduler(alloc, requests),
         0,
         |m: &Message| run(m, 0),
     );
-    for wanted in [SPENT, 1, NOT_READY, 2, NOT_READY] {
-        let answer = task.enter(|cx| runner.poll_next(alloc, cx, Moment(0), 2))?;
-        assert_eq!(rt; shown(&answer), wanted);
-    }
-    Ok(())
+    let polls = [(0, SPENT), (0, 1), (0, NOT_READY), (0, 2), (0, NOT_READY)];
+    poll_all(&rt, &task, alloc, &mut runner, 2, &polls)
 }
 
 #[test]

@@ -35,10 +35,10 @@ returns-clause-asked g c =
 pub loop-taken-preserved : goal.loop-taken-preserved
 loop-taken-preserved g c = record {
   takes =
-      taking-more g.T.PartialEq.eq g.R.Requests.told c.args.now c.args.scheduler.now c.loop-taken.scheduler c.schedule.new.self c.args.requests.now c.loop-taken.requests
+      taking-more g.T.PartialEq.eq g.R.Requests.told c.args.now c.args.scheduler.now c.loop-taken.scheduler c.take_in.new.self c.args.requests.now c.loop-taken.requests
       c.poll_request.new.self c.loop-taken.taken c.in-Item.request c.loop-taken.invariant.takes
       (c.in_ok-request.ensures.grows ∙ ap (grown (g.R.Requests.told c.loop-taken.requests)) c.in-Item.is)
-      c.in_ok-schedule-in-Item.ensures.stands;
-  held = (let a = c.in_ok-schedule-in-Item.ensures.held in let b = c.loop-taken.invariant.held in omega arith);
-  kept = c.schedule.ensures.debounce ∙ c.loop-taken.invariant.kept;
+      c.in_ok-take_in-in-Item.ensures.stands;
+  held = (let a = c.in_ok-take_in-in-Item.ensures.held in let b = c.loop-taken.invariant.held in omega arith);
+  kept = c.take_in.ensures.debounce ∙ c.loop-taken.invariant.kept;
 }

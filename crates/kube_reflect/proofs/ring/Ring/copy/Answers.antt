@@ -1,22 +1,32 @@
-use Rattle.std.proofs.Common.{◌∙◌, ap, length, map}
+use Rattle.std.proofs.Common.{◌≡◌, ◌∙◌, ap, sym, length, map}
 use Rattle.std.specs.Prelude.{slice_get}
 use Rattle.std.specs.List.{list_all}
 use Rattle.std.specs.Option.{option_flatten}
 use Rattle.kube_meta.specs.Keys.{reference_of}
 use Rattle.kube_reflect.specs.Lags.{is_within}
-use Rattle.kube_reflect.proofs.Lagging.{within-push, within-at, copied}
+use Rattle.kube_reflect.specs.Subscribers.{subscribed}
+use Rattle.kube_reflect.proofs.Lagging.{within-placed, within-at, placed-seen, free-seen, for_waiting, seen_ring}
 use Rattle.kube_reflect.proofs.ring.Ring.copy.Goals as goal
 
 pub invariant_of-self-2 : goal.invariant_of-self-2
 invariant_of-self-2 g c =
     let n = length c.self.inside.references.items in
-    let lag = c.lag_of-lag.ensures.lag ∙ ap (λ ls. option_flatten (slice_get ls c.args.number)) c.deref.ensures.value in
-    ap (list_all (is_within n)) c.in_ok-push.ensures.items
-    ∙ within-push n c.self.inside.lags.items c.lag_of-lag.result c.self.invariant
-    (ap (is_within n) lag ∙ within-at n c.self.inside.lags.items c.args.number c.self.invariant)
+    let lags = c.self.inside.lags.items in
+    let l = sym c.in-Some.is ∙ (c.lag_of.ensures.lag ∙ ap (λ ls. option_flatten (slice_get ls c.args.number)) c.deref.ensures.value) in
+    ap (list_all (is_within n)) c.in_ok-number.ensures.ok
+    ∙ within-placed n lags c.in-Some.lag c.self.invariant (ap (is_within n) l ∙ within-at n lags c.args.number c.self.invariant)
 
 pub returns-clause-ok : goal.returns-clause-ok
 returns-clause-ok g c =
-    let lag = c.lag_of-lag.ensures.lag ∙ ap (λ ls. option_flatten (slice_get ls c.args.number)) c.deref.ensures.value in
-    copied c.self.inside.room (map (reference_of g.K.Resource.type_of) c.self.inside.references.items) c.self.inside.is_closed
-    c.self.inside.lags.items c.push.new.self.items c.args.number c.lag_of-lag.result c.args.self.now c.in_ok-push.ensures.items lag c.self.view_is
+    let rs = map (reference_of g.K.Resource.type_of) c.self.inside.references.items in
+    let room = c.self.inside.room in
+    let over = c.self.inside.is_closed in
+    let lags = c.self.inside.lags.items in
+    let l = sym c.in-Some.is ∙ (c.lag_of.ensures.lag ∙ ap (λ ls. option_flatten (slice_get ls c.args.number)) c.deref.ensures.value) in
+    for_waiting room rs over lags c.args.number c.in-Some.lag c.args.self.now (λ ws. seen_ring room rs c.place.new.lags.items over ≡ subscribed c.args.self.now ws) l c.self.view_is
+    (placed-seen room rs over lags c.place.new.lags.items c.in-Some.lag c.args.self.now c.in_ok-number.ensures.ok c.self.view_is)
+
+pub returns-clause-number : goal.returns-clause-number
+returns-clause-number g c =
+    let rs = map (reference_of g.K.Resource.type_of) c.self.inside.references.items in
+    c.in_ok-number.ensures.number ∙ free-seen c.self.inside.room rs c.self.inside.is_closed c.self.inside.lags.items c.args.self.now c.self.view_is

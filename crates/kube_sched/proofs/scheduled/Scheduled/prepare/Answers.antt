@@ -33,9 +33,9 @@ returns-in-Waits-clause-prepared g c =
     (sym (ap (λ (s : Stream g.row.T.Denot g.row.R.Denot). s.is_over) c.self.view_is) ∙ c.if-self-2.false)
     (c.if-self-2.false ∙ sym (ap is_end is))
     c.if-self.false
-    (c.settle.ensures.debounce ∙ c.take_requests.ensures.debounce ∙ ap (λ (s : Stream g.row.T.Denot g.row.R.Denot). s.schedule.debounce) c.self.view_is)
+    (c.let_wait.ensures.debounce ∙ c.take_requests.ensures.debounce ∙ ap (λ (s : Stream g.row.T.Denot g.row.R.Denot). s.schedule.debounce) c.self.view_is)
     (λ events qs h.
-    subst (λ e. Stands eq c.settle.new.self (prepared e events qs c.args.now)) (sym is) (c.settle.ensures.stands (with_requests events qs c.args.now) h))
+    subst (λ e. Stands eq c.let_wait.new.self (prepared e events qs c.args.now)) (sym is) (c.let_wait.ensures.stands (with_requests events qs c.args.now) h))
 
 pub returns-then-self-2-clause-prepared : goal.returns-then-self-2-clause-prepared
 returns-then-self-2-clause-prepared g c =
