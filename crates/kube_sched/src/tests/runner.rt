@@ -116,9 +116,8 @@ fn poll_all<
     fuel: u32,
     polls: &[(u64, u64)],
 ) -> Result<(), Fail>
-    requires call { MkF.IsAlwaysCallable runner.old.makes }
+    requires call { (makes : MkF) → MkF.IsAlwaysCallable makes }
     requires futures { MakesFutures MkF.FnMut F.can_poll }
-    ensures call { MkF.IsAlwaysCallable runner.new.makes }
 {
     for (at, wanted) in polls {
         let answer = task.enter(|cx| runner.poll_next(alloc, cx, Moment(*at), fuel))?;
