@@ -1,6 +1,6 @@
 //! Runs of a controller over turns.
 
-ghost use Rattle.std.specs.Prelude.{◌≡◌, ◌<◌, ◌^◌, ◌++◌, [], List, true, false, IfErr, IfOk, IsErrAnd, OnErr, OnOk, length, take};
+ghost use Rattle.std.specs.Prelude.{◌≡◌, ◌<◌, ◌^◌, ◌++◌, ℕ, [], List, true, false, IfErr, IfOk, IsErrAnd, OnErr, OnOk, length, take};
 ghost use Rattle.std.specs.List.{filter_map, AllByRecursion, AllZip};
 ghost use Rattle.kube_model.specs.History.{Step, Turn as PlainTurn, TurnRecord as PlainRecord};
 ghost use Rattle.kube_model.specs.Raw.{grown_by};

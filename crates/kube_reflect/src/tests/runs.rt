@@ -4,7 +4,7 @@ use super::objects::{Object, alone, name_of, object, reference, version_of};
 use crate::reflector::reflector;
 use crate::{Reflector, Writer};
 use kube_meta::{DynamicObject, Moment, Next, NoMemory};
-use kube_watch::{Error, Event, EventStream, StreamFault};
+use kube_watch::{Error, Event, EventStream, StreamFault, fault_of};
 use std::alloc::Global;
 use std::process::Abort;
 use std::test::Fail;
@@ -36,6 +36,17 @@ fn any_event(alloc: Global, state: u64) -> Result<Event<Object>, NoMemory> {
 #[derive(Drop)]
 struct Chance {
     state: u64,
+    fault: Option<StreamFault>,
+}
+
+impl Chance {
+    fn give(&mut self, alloc: Global) -> Answer {
+        self.state = next_number(self.state);
+        match any_event(alloc, self.state) {
+            Ok(event) => Ok(Next::Item(Ok(event))),
+            Err(NoMemory) => Err(StreamFault::NoMemory),
+        }
+    }
 }
 
 impl EventStream for Chance {
@@ -45,12 +56,15 @@ impl EventStream for Chance {
 
     ghost told = { λ _. None };
 
+    ghost fault = { λ o. o.fault };
+
     fn poll_next(&mut self, alloc: Global, _now: Moment, _fuel: u32) -> Answer {
-        self.state = next_number(self.state);
-        match any_event(alloc, self.state) {
-            Ok(event) => Ok(Next::Item(Ok(event))),
-            Err(NoMemory) => Err(StreamFault::NoMemory),
+        if let Some(fault) = self.fault {
+            return Err(fault);
         }
+        let answer = self.give(alloc);
+        self.fault = fault_of(&answer);
+        answer
     }
 }
 
@@ -86,7 +100,13 @@ fn poll_many(
 #[test]
 fn no_name_is_stored_twice(rt: HostRuntime) -> Result<(), Fail> {
     let alloc = rt.alloc();
-    let mut reflected = reflector(alone(alloc)?, Chance { state: 1 });
+    let mut reflected = reflector(
+        alone(alloc)?,
+        Chance {
+            state: 1,
+            fault: None,
+        },
+    );
     poll_many(&rt, alloc, &mut reflected, 100_000);
     let writer = reflected.into_writer();
     assert_eq!(rt; doubled(alloc, &writer)?, 0);
@@ -98,16 +118,11 @@ fn no_name_is_stored_twice(rt: HostRuntime) -> Result<(), Fail> {
 #[derive(Drop)]
 struct Life {
     step: u32,
+    fault: Option<StreamFault>,
 }
 
-impl EventStream for Life {
-    ghost use Rattle.std.specs.Prelude.{None};
-
-    type Item = Event<Object>;
-
-    ghost told = { λ _. None };
-
-    fn poll_next(&mut self, alloc: Global, _now: Moment, _fuel: u32) -> Answer {
+impl Life {
+    fn give(&mut self, alloc: Global) -> Answer {
         self.step = self.step.wrapping_add(1);
         let version = if self.step == 1 { "1" } else { "2" };
         let Ok(object) = object(alloc, "a", "", version) else {
@@ -118,6 +133,25 @@ impl EventStream for Life {
             3 => Ok(Next::Item(Ok(Event::Delete(object)))),
             _ => Ok(Next::End),
         }
+    }
+}
+
+impl EventStream for Life {
+    ghost use Rattle.std.specs.Prelude.{None};
+
+    type Item = Event<Object>;
+
+    ghost told = { λ _. None };
+
+    ghost fault = { λ o. o.fault };
+
+    fn poll_next(&mut self, alloc: Global, _now: Moment, _fuel: u32) -> Answer {
+        if let Some(fault) = self.fault {
+            return Err(fault);
+        }
+        let answer = self.give(alloc);
+        self.fault = fault_of(&answer);
+        answer
     }
 }
 
@@ -139,7 +173,13 @@ fn check_version(
 #[test]
 fn an_object_is_applied_changed_and_deleted(rt: HostRuntime) -> Result<(), Fail> {
     let alloc = rt.alloc();
-    let mut reflected = reflector(alone(alloc)?, Life { step: 0 });
+    let mut reflected = reflector(
+        alone(alloc)?,
+        Life {
+            step: 0,
+            fault: None,
+        },
+    );
     check_version(&rt, alloc, &mut reflected, Some("1"))?;
     check_version(&rt, alloc, &mut reflected, Some("2"))?;
     check_version(&rt, alloc, &mut reflected, None)
