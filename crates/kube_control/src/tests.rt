@@ -8,6 +8,7 @@ use kube_api::{Page, Sequence, SequenceStep, TestMode};
 use kube_meta::text::copy_option;
 use kube_meta::{ApiResource, DynamicObject, List, Moment, NoMemory, ObjectMeta, ObjectRef, Text};
 use std::alloc::Global;
+use std::process::Abort;
 use std::sync::Arc;
 use std::test::Fail;
 
@@ -136,26 +137,43 @@ fn run(
     Ok(Played { answer, recorder })
 }
 
-/// A run of a new controller.
+/// A run of a new controller over a page of these objects.
 fn play(
     alloc: Global,
-    page: Page<DynamicObject>,
+    version: &str,
+    named: &[(&str, &str)],
     turns: List<Turn<DynamicObject, ()>>,
 ) -> Result<Played, NoMemory> {
-    let mut controller = controller(alloc, page)?;
+    let mut controller = controller(alloc, page(alloc, version, named)?)?;
     run(alloc, &mut controller, turns)
 }
 
-/// The second run of a new controller.
+/// A run with these turns.
+fn play_turns(
+    alloc: Global,
+    version: &str,
+    named: &[(&str, &str)],
+    asks: &[(u64, u32)],
+) -> Result<Played, NoMemory> {
+    play(alloc, version, named, turns(alloc, asks)?)
+}
+
+/// The second of two runs of a new controller over a page of `a`.
 fn play_again(
     alloc: Global,
-    page: Page<DynamicObject>,
-    first: List<Turn<DynamicObject, ()>>,
-    second: List<Turn<DynamicObject, ()>>,
+    first: &[(u64, u32)],
+    second: &[(u64, u32)],
 ) -> Result<Played, NoMemory> {
-    let mut controller = controller(alloc, page)?;
-    let _first = run(alloc, &mut controller, first)?;
-    run(alloc, &mut controller, second)
+    let mut controller = controller(alloc, page(alloc, "1", &[("a", "1")])?)?;
+    let _first = run(alloc, &mut controller, turns(alloc, first)?)?;
+    run(alloc, &mut controller, turns(alloc, second)?)
+}
+
+/// A run of a turn that asks nothing, and then of one that asks for one thing that is not built.
+fn play_that(alloc: Global, asks_for: &str) -> Result<Played, NoMemory> {
+    let mut turns = turns(alloc, &[(0, 0)])?;
+    turns.push(turn_that(alloc, asks_for)?)?;
+    play(alloc, "1", &[], turns)
 }
 
 /// How a run ended: the turn that is not built, and how many records there are.
@@ -265,109 +283,120 @@ fn handed(played: &Played, number: usize, name: &str, version: &str) -> bool {
     }
 }
 
-#[test]
-fn lists_watches_and_takes(rt: HostRuntime) -> Result<(), Fail> {
-    let alloc = rt.alloc();
-    let listed = page(alloc, "1", &[("a", "1")])?;
-    let played = play(alloc, listed, turns(alloc, &[(0, 3), (0, 0)])?)?;
-    assert_eq!(rt; end_of(&played), ("all", 0, 2));
-    let first = record_at(&played, 0).ok_or("no record")?;
-    assert_eq!(rt; counts(first), (3, 1, 1, 1, Some(Stop::NotReady)));
+/// The record of a turn that lists, opens a watch, asks it and takes `a`.
+fn check_whole_turn(rt: &impl Abort, record: &TurnRecord<DynamicObject, ()>) {
+    assert_eq!(rt; counts(record), (3, 1, 1, 1, Some(Stop::NotReady)));
     assert_eq!(rt;
-        (told(first, 0), told(first, 1), told(first, 2)),
+        (told(record, 0), told(record, 1), told(record, 2)),
         ("page", "opened", "waits")
     );
-    assert!(rt; takes(first, 0, "a", "1"));
-    let second = record_at(&played, 1).ok_or("no record")?;
-    assert_eq!(rt; counts(second), (0, 0, 0, 1, Some(Stop::Budget)));
+    assert!(rt; takes(record, 0, "a", "1"));
+}
+
+/// The run of such a turn and of one that asks nothing.
+fn check_first_run(rt: &impl Abort, played: &Played) {
+    assert_eq!(rt; end_of(played), ("all", 0, 2));
+    if let Some(first) = record_at(played, 0) {
+        check_whole_turn(rt, first);
+    }
+    if let Some(second) = record_at(played, 1) {
+        assert_eq!(rt; counts(second), (0, 0, 0, 1, Some(Stop::Budget)));
+    }
     assert_eq!(rt; played.recorder.hand_overs().len(), 1);
-    assert!(rt; handed(&played, 0, "a", "1"));
+    assert!(rt; handed(played, 0, "a", "1"));
+}
+
+#[test]
+fn lists_watches_and_takes(rt: HostRuntime) -> Result<(), Fail> {
+    let played = play_turns(rt.alloc(), "1", &[("a", "1")], &[(0, 3), (0, 0)])?;
+    check_first_run(&rt, &played);
     Ok(())
+}
+
+/// The run of a turn that lists `a`, `b` and `a` again.
+fn check_last_of_each(rt: &impl Abort, played: &Played) {
+    assert_eq!(rt; end_of(played), ("all", 0, 1));
+    if let Some(first) = record_at(played, 0) {
+        assert_eq!(rt; counts(first), (1, 3, 2, 2, Some(Stop::Budget)));
+        assert!(rt; takes(first, 0, "b", "1") && takes(first, 1, "a", "2"));
+        assert!(rt; stores(first, 0, "a", "2") && stores(first, 1, "b", "1"));
+    }
 }
 
 #[test]
 fn takes_the_last_of_each(rt: HostRuntime) -> Result<(), Fail> {
-    let alloc = rt.alloc();
-    let listed = page(alloc, "3", &[("a", "1"), ("b", "1"), ("a", "2")])?;
-    let played = play(alloc, listed, turns(alloc, &[(9, 1)])?)?;
-    let first = record_at(&played, 0).ok_or("no record")?;
-    assert_eq!(rt; counts(first), (1, 3, 2, 2, Some(Stop::Budget)));
-    assert!(rt; takes(first, 0, "b", "1") && takes(first, 1, "a", "2"));
-    assert!(rt; stores(first, 0, "a", "2") && stores(first, 1, "b", "1"));
+    let listed = [("a", "1"), ("b", "1"), ("a", "2")];
+    let played = play_turns(rt.alloc(), "3", &listed, &[(9, 1)])?;
+    check_last_of_each(&rt, &played);
     Ok(())
+}
+
+/// A run ended so, and handed over so many objects.
+fn check_end(rt: &impl Abort, played: &Played, wanted: (&str, u32, usize), handed: usize) {
+    let (end, turn, records) = end_of(played);
+    assert_eq!(rt; (end, turn, records), wanted);
+    assert_eq!(rt; played.recorder.hand_overs().len(), handed);
 }
 
 #[test]
 fn tells_which_turn_is_not_built(rt: HostRuntime) -> Result<(), Fail> {
     let alloc = rt.alloc();
     for asks_for in ["on", "finish", "reload", "graceful", "forced", "late"] {
-        let mut turns = turns(alloc, &[(0, 0)])?;
-        turns.push(turn_that(alloc, asks_for)?)?;
-        let played = play(alloc, page(alloc, "1", &[])?, turns)?;
-        assert_eq!(rt; end_of(&played), ("not built", 1, 1), "{asks_for}");
+        check_end(&rt, &play_that(alloc, asks_for)?, ("not built", 1, 1), 0);
     }
     for (version, name) in [("", "a"), ("1", "")] {
-        let listed = page(alloc, version, &[(name, "1")])?;
-        let played = play(alloc, listed, turns(alloc, &[(0, 1)])?)?;
-        assert_eq!(rt;
-            end_of(&played),
-            ("not built", 0, 0),
-            "version {version}, name {name}"
-        );
+        let played = play_turns(alloc, version, &[(name, "1")], &[(0, 1)])?;
+        check_end(&rt, &played, ("not built", 0, 0), 0);
     }
     Ok(())
 }
 
 #[test]
 fn is_spent_after_a_moment_that_falls(rt: HostRuntime) -> Result<(), Fail> {
-    let alloc = rt.alloc();
     let falls = [(5, 3), (4, 3)];
-    let first = play(
-        alloc,
-        page(alloc, "1", &[("a", "1")])?,
-        turns(alloc, &falls)?,
-    )?;
-    assert_eq!(rt; end_of(&first), ("not built", 1, 1));
+    let first = play_turns(rt.alloc(), "1", &[("a", "1")], &falls)?;
+    check_end(&rt, &first, ("not built", 1, 1), 1);
     assert!(rt; handed(&first, 0, "a", "1"));
-    let listed = page(alloc, "1", &[("a", "1")])?;
-    let second = play_again(
-        alloc,
-        listed,
-        turns(alloc, &falls)?,
-        turns(alloc, &[(6, 3)])?,
-    )?;
-    assert_eq!(rt; end_of(&second), ("spent", 0, 0));
-    assert_eq!(rt; second.recorder.hand_overs().len(), 0);
+    Ok(())
+}
+
+#[test]
+fn a_spent_controller_does_nothing(rt: HostRuntime) -> Result<(), Fail> {
+    let second = play_again(rt.alloc(), &[(5, 3), (4, 3)], &[(6, 3)])?;
+    check_end(&rt, &second, ("spent", 0, 0), 0);
     Ok(())
 }
 
 #[test]
 fn waits_within_the_window_alone(rt: HostRuntime) -> Result<(), Fail> {
-    let alloc = rt.alloc();
     let cases = [
         (295_000_000_006, ("all", 0, 2)),
         (295_000_000_007, ("not built", 1, 1)),
     ];
-    for (at, want) in cases {
-        let played = play(
-            alloc,
-            page(alloc, "1", &[])?,
-            turns(alloc, &[(7, 3), (at, 1)])?,
-        )?;
-        assert_eq!(rt; end_of(&played), want, "at {at}");
+    for (at, wanted) in cases {
+        let played = play_turns(rt.alloc(), "1", &[], &[(7, 3), (at, 1)])?;
+        check_end(&rt, &played, wanted, 0);
     }
     Ok(())
+}
+
+/// Whether the two copies of a text, and that of a reason, are as they were.
+fn copies(alloc: Global, text: &Text) -> Result<bool, Fail> {
+    let cloned = text.clone()?;
+    Ok(cloned == *text && copy_option(alloc, &Some(cloned))? == Some(text.copy(alloc)?))
+}
+
+/// Whether the copy of a reason is of its kind.
+fn copies_reason(alloc: Global, text: Text) -> Result<bool, Fail> {
+    let reason = ReconcileReason::Custom { reason: text };
+    let copied = reason.copy(alloc)?;
+    Ok(matches!(copied, ReconcileReason::Custom { .. }))
 }
 
 #[test]
 fn copies_are_equal(rt: HostRuntime) -> Result<(), Fail> {
     let alloc = rt.alloc();
-    let text = Text::new(alloc, "ab")?;
-    let cloned = text.clone()?;
-    assert!(rt; cloned == text);
-    assert!(rt; copy_option(alloc, &Some(cloned))? == Some(text.copy(alloc)?));
-    let reason = ReconcileReason::Custom { reason: text };
-    let copied = reason.copy(alloc)?;
-    assert!(rt; matches!(copied, ReconcileReason::Custom { .. }));
+    assert!(rt; copies(alloc, &Text::new(alloc, "ab")?)?);
+    assert!(rt; copies_reason(alloc, Text::new(alloc, "ab")?)?);
     Ok(())
 }

@@ -9,7 +9,6 @@ use crate::record::{ScriptRecord, record_line};
 use crate::script_object::ScriptObject;
 use crate::sink::{NeverFailsSink, VecSink};
 use crate::source::{NeverFailsSource, VecSource};
-use crate::status::Status;
 use kube_api::{ApiError, Status as ApiStatus};
 use kube_control::{
     Answer, Call, Finished, ReconcileReason, ReconcileRequest, SourceExchange, Stop, Taken,
@@ -19,10 +18,9 @@ use kube_meta::{
 };
 use kube_model::error::Error;
 use std::alloc::{AllocError, Global};
+use std::process::Abort;
 use std::sync::Arc;
 use std::test::Fail;
-
-type Asks = List<SourceExchange<ScriptObject>>;
 
 /// A page, a watch that waits, and a turn.
 const SCRIPT: &str =
@@ -124,27 +122,39 @@ fn line(alloc: Global, text: &str) -> Result<Vec<u8>, AllocError> {
     Ok(line)
 }
 
+/// The program ends so for these words and this input, and writes this line.
+fn ends<R: Abort + AllocGlobal>(
+    rt: &R,
+    text: &str,
+    input: &[u8],
+    number: u8,
+    wanted: &str,
+) -> Result<(), Fail> {
+    let (status, written) = outcome(rt.alloc(), text, input)?;
+    assert_eq!(rt; status, number, "after {}", input.len());
+    is_line(rt, &written, wanted)
+}
+
+/// What was written is this line; nothing for no line.
+fn is_line<R: Abort + AllocGlobal>(rt: &R, written: &[u8], wanted: &str) -> Result<(), Fail> {
+    assert_eq!(rt; written, line(rt.alloc(), wanted)?.as_slice());
+    Ok(())
+}
+
 #[test]
 fn writes_what_the_rows_say(rt: HostRuntime) -> Result<(), Fail> {
-    let alloc = rt.alloc();
     for (text, input, output, number) in ROWS {
-        let (status, written) = outcome(alloc, text, input.as_bytes())?;
-        let wanted = line(alloc, output)?;
-        assert_eq!(rt; status, number, "of {input}");
-        assert_eq!(rt; written.as_slice(), wanted.as_slice(), "of {input}");
+        ends(&rt, text, input.as_bytes(), number, output)?;
     }
     Ok(())
 }
 
 #[test]
 fn refuses_every_prefix(rt: HostRuntime) -> Result<(), Fail> {
-    let alloc = rt.alloc();
     let script = SCRIPT.as_bytes();
-    let wanted = line(alloc, r#"{"error":"script","fault":"syntax"}"#)?;
     for len in 0..script.len() {
-        let (status, written) = outcome(alloc, "run", &script[..len])?;
-        assert_eq!(rt; status, 3, "of {len} bytes");
-        assert_eq!(rt; written.as_slice(), wanted.as_slice(), "of {len} bytes");
+        let wanted = r#"{"error":"script","fault":"syntax"}"#;
+        ends(&rt, "run", &script[..len], 3, wanted)?;
     }
     Ok(())
 }
@@ -157,53 +167,56 @@ fn padded(alloc: Global, len: usize) -> Result<Vec<u8>, AllocError> {
     Ok(bytes)
 }
 
+/// How the program ends for a script that is padded to this length, and what it writes.
+fn padded_outcome(alloc: Global, len: usize) -> Result<(u8, Vec<u8>), AllocError> {
+    let mut source = NeverFailsSource::new(padded(alloc, len)?);
+    let mut sink = VecSink::new(alloc, Vec::new(alloc), 1000);
+    let status = run_program(alloc, &words(alloc, "run")?, &mut source, &mut sink);
+    Ok((status.number(), Vec::from_slice(alloc, sink.as_slice())?))
+}
+
 #[test]
 fn reads_the_longest_script(rt: HostRuntime) -> Result<(), Fail> {
-    let alloc = rt.alloc();
     let too_long = r#"{"error":"script","fault":"too long"}"#;
-    for (len, output, number) in [(16777216, TRACE, 0), (16777217, too_long, 3)] {
-        let mut source = NeverFailsSource::new(padded(alloc, len)?);
-        let mut sink = VecSink::new(alloc, Vec::new(alloc), 1000);
-        let status = run_program(alloc, &words(alloc, "run")?, &mut source, &mut sink);
-        assert_eq!(rt; status.number(), number);
-        assert_eq!(rt; sink.as_slice(), line(alloc, output)?.as_slice());
+    for (len, wanted, number) in [(16777216, TRACE, 0), (16777217, too_long, 3)] {
+        let (status, written) = padded_outcome(rt.alloc(), len)?;
+        assert_eq!(rt; status, number);
+        is_line(&rt, &written, wanted)?;
     }
     Ok(())
 }
 
-#[test]
-fn tells_faults(rt: HostRuntime) -> Result<(), Fail> {
-    let alloc = rt.alloc();
-    let second = vec![in alloc; 2u64]?;
-    let mut source = VecSource::new(Vec::from_slice(alloc, SCRIPT.as_bytes())?, second, 64);
-    let mut sink = VecSink::new(alloc, Vec::new(alloc), 16);
-    let status = run_program(alloc, &words(alloc, "run")?, &mut source, &mut sink);
-    assert_eq!(rt; status, Status::ReadFault);
-    assert!(rt; sink.as_slice().is_empty());
+/// All bytes of a source that moves them one by one.
+fn read_whole(alloc: Global, bytes: &[u8]) -> Result<Vec<u8>, Fail> {
+    let mut source = VecSource::new(Vec::from_slice(alloc, bytes)?, Vec::new(alloc), 0);
+    match read_all(alloc, &mut source) {
+        Ok(bytes) => Ok(bytes),
+        Err(_) => Err(Fail::from(Unread::NoMemory)),
+    }
+}
 
-    let second = vec![in alloc; 2u64]?;
-    let (_, script, _, _) = ROWS[1];
-    let mut source = NeverFailsSource::new(Vec::from_slice(alloc, script.as_bytes())?);
-    let mut sink = VecSink::new(alloc, second, 16);
-    let status = run_program(alloc, &words(alloc, "run")?, &mut source, &mut sink);
-    assert_eq!(rt; status, Status::WriteFault);
-    assert_eq!(rt; sink.as_slice(), r#"{"asks":[],"at":"#.as_bytes());
-    Ok(())
+/// What is written of bytes that are moved two by two.
+fn written_whole(alloc: Global, bytes: &[u8]) -> Result<Vec<u8>, Fail> {
+    let mut sink = VecSink::new(alloc, Vec::new(alloc), 2);
+    match write_all(&mut sink, bytes) {
+        Ok(()) => Ok(Vec::from_slice(alloc, sink.as_slice())?),
+        Err(_) => Err(Fail::from(Unread::Fault)),
+    }
 }
 
 #[test]
 fn reads_and_writes_all(rt: HostRuntime) -> Result<(), Fail> {
     let alloc = rt.alloc();
-    let mut source = VecSource::new(Vec::from_slice(alloc, b"abcde")?, Vec::new(alloc), 0);
-    let Ok(bytes) = read_all(alloc, &mut source) else {
-        return Err(Fail::from(Unread::NoMemory));
-    };
-    assert_eq!(rt; bytes.as_slice(), b"abcde".as_slice());
-    let mut sink = VecSink::new(alloc, Vec::new(alloc), 2);
-    assert!(rt; write_all(&mut sink, &bytes).is_ok());
-    assert_eq!(rt; sink.as_slice(), b"abcde".as_slice());
+    assert_eq!(rt;
+        read_whole(alloc, b"abcde")?.as_slice(),
+        b"abcde".as_slice()
+    );
+    assert_eq!(rt;
+        written_whole(alloc, b"abcde")?.as_slice(),
+        b"abcde".as_slice()
+    );
     let mut counter = NeverFailsSink::new();
-    assert!(rt; write_all(&mut counter, &bytes).is_ok());
+    assert!(rt; write_all(&mut counter, b"abcde").is_ok());
     assert_eq!(rt; counter.count(), 5);
     Ok(())
 }
@@ -218,79 +231,93 @@ fn lines(alloc: Global, texts: &[&str]) -> Result<Vec<u8>, AllocError> {
     Ok(all)
 }
 
-/// How the script of three turns ends where reads and writes move at most so many bytes, and the read and the write of
-/// these numbers fail, and what is written. Number 0 is none.
+/// How a script ends where reads and writes move at most so many bytes, and the read and the write of these numbers
+/// fail, and what is written. Number 0 is none.
 fn in_pieces(
     alloc: Global,
+    script: &str,
     most: usize,
     read: u64,
     write: u64,
 ) -> Result<(u8, Vec<u8>), AllocError> {
-    let script = Vec::from_slice(alloc, TURNS.as_bytes())?;
+    let script = Vec::from_slice(alloc, script.as_bytes())?;
     let mut source = VecSource::new(script, vec![in alloc; read]?, most);
     let mut sink = VecSink::new(alloc, vec![in alloc; write]?, most);
     let status = run_program(alloc, &words(alloc, "run")?, &mut source, &mut sink);
     Ok((status.number(), Vec::from_slice(alloc, sink.as_slice())?))
 }
 
+/// It ends with this number, and this is written.
+fn ends_in_pieces<R: Abort + AllocGlobal>(
+    rt: &R,
+    script: &str,
+    most: usize,
+    read: u64,
+    write: u64,
+    number: u8,
+    wanted: &[u8],
+) -> Result<(), Fail> {
+    let (status, written) = in_pieces(rt.alloc(), script, most, read, write)?;
+    assert_eq!(rt;
+        status,
+        number,
+        "by {most}, at read {read} or write {write}"
+    );
+    assert_eq!(rt;
+        written.as_slice(),
+        wanted,
+        "by {most}, at read {read} or write {write}"
+    );
+    Ok(())
+}
+
+#[test]
+fn tells_faults(rt: HostRuntime) -> Result<(), Fail> {
+    ends_in_pieces(&rt, SCRIPT, 64, 2, 0, 5, b"")?;
+    let (_, script, _, _) = ROWS[1];
+    ends_in_pieces(&rt, script, 16, 0, 2, 6, r#"{"asks":[],"at":"#.as_bytes())
+}
+
 #[test]
 fn writes_the_same_in_any_pieces(rt: HostRuntime) -> Result<(), Fail> {
-    let alloc = rt.alloc();
-    let wanted = lines(alloc, &TURNS_TRACE)?;
+    let wanted = lines(rt.alloc(), &TURNS_TRACE)?;
     for most in [1, 7, 10000] {
-        let (status, written) = in_pieces(alloc, most, 0, 0)?;
-        assert_eq!(rt; status, 4, "by {most} bytes");
-        assert_eq!(rt; written.as_slice(), wanted.as_slice(), "by {most} bytes");
+        ends_in_pieces(&rt, TURNS, most, 0, 0, 4, &wanted)?;
     }
     Ok(())
 }
 
 #[test]
 fn tells_each_read_that_fails(rt: HostRuntime) -> Result<(), Fail> {
-    let alloc = rt.alloc();
     let reads = TURNS.len() as u64 + 1;
     for read in 1..reads + 1 {
-        let (status, written) = in_pieces(alloc, 1, read, 0)?;
-        assert_eq!(rt; status, 5, "at read {read}");
-        assert!(rt; written.is_empty(), "at read {read}");
+        ends_in_pieces(&rt, TURNS, 1, read, 0, 5, b"")?;
     }
     // There is no further read.
-    let (status, _) = in_pieces(alloc, 1, reads + 1, 0)?;
-    assert_eq!(rt; status, 4);
-    Ok(())
+    let wanted = lines(rt.alloc(), &TURNS_TRACE)?;
+    ends_in_pieces(&rt, TURNS, 1, reads + 1, 0, 4, &wanted)
 }
 
 #[test]
 fn tells_each_write_that_fails(rt: HostRuntime) -> Result<(), Fail> {
-    let alloc = rt.alloc();
-    let wanted = lines(alloc, &TURNS_TRACE)?;
+    let wanted = lines(rt.alloc(), &TURNS_TRACE)?;
     for before in 0..wanted.len() {
-        let (status, written) = in_pieces(alloc, 1, 0, before as u64 + 1)?;
-        assert_eq!(rt; status, 6, "after {before} bytes");
-        assert_eq!(rt;
-            written.as_slice(),
-            &wanted[..before],
-            "after {before} bytes"
-        );
+        ends_in_pieces(&rt, TURNS, 1, 0, before as u64 + 1, 6, &wanted[..before])?;
     }
     // There is no further write.
-    let (status, _) = in_pieces(alloc, 1, 0, wanted.len() as u64 + 1)?;
-    assert_eq!(rt; status, 4);
-    Ok(())
+    ends_in_pieces(&rt, TURNS, 1, 0, wanted.len() as u64 + 1, 4, &wanted)
+}
+
+/// The write of the line after this many fails.
+fn ends_before_line<R: Abort + AllocGlobal>(rt: &R, before: usize) -> Result<(), Fail> {
+    let wanted = lines(rt.alloc(), &TURNS_TRACE[..before.min(TURNS_TRACE.len())])?;
+    ends_in_pieces(rt, TURNS, 10000, 0, before as u64 + 1, 6, &wanted)
 }
 
 #[test]
 fn tells_each_line_that_fails(rt: HostRuntime) -> Result<(), Fail> {
-    let alloc = rt.alloc();
     for before in 0..TURNS_TRACE.len() {
-        let (status, written) = in_pieces(alloc, 10000, 0, before as u64 + 1)?;
-        let wanted = lines(alloc, &TURNS_TRACE[..before])?;
-        assert_eq!(rt; status, 6, "after {before} lines");
-        assert_eq!(rt;
-            written.as_slice(),
-            wanted.as_slice(),
-            "after {before} lines"
-        );
+        ends_before_line(&rt, before)?;
     }
     Ok(())
 }
@@ -327,30 +354,81 @@ fn some(alloc: Global, text: &str) -> Result<Option<Text>, NoMemory> {
     Ok(Some(Text::new(alloc, text)?))
 }
 
-fn list(alloc: Global, token: &str) -> Result<Call, NoMemory> {
-    let token = some(alloc, token)?;
-    Ok(Call::List { token })
+/// What a source is asked.
+#[derive(Clone, Copy)]
+enum Asked {
+    List(&'static str),
+    Watch(&'static str, bool),
+    Next,
+    Stream,
 }
 
-fn watch(alloc: Global, version: &str, initial: bool) -> Result<Call, NoMemory> {
-    let version = Text::new(alloc, version)?;
-    Ok(Call::Watch { version, initial })
+/// What it answers.
+#[derive(Clone, Copy)]
+enum Told {
+    Page(&'static str, &'static str),
+    Gone,
+    Lost,
+    Unread,
+    Opened,
+    Added(&'static str),
+    Modified(&'static str),
+    Deleted(&'static str),
+    Ending(&'static str),
+    ErrorItem,
+    End,
+    NotReady,
+    Idle,
+    Item,
+    Spent,
 }
 
-fn page(alloc: Global, token: &str, version: &str) -> Result<Answer, NoMemory> {
-    let token = some(alloc, token)?;
-    let version = some(alloc, version)?;
-    Ok(Answer::Page { token, version })
+/// The error that its turn tells.
+#[derive(Clone, Copy)]
+enum Failed {
+    No,
+    InitialListFailed,
+    WatchStartFailed,
+    NoResourceVersion,
+    WatchError,
+    WatchFailed,
 }
+
+/// Exchanges that bring no objects and request nothing: the source, its call, its answer and its error.
+const ASKS: [(u32, Asked, Told, Failed); 15] = [
+    (0, Asked::List("t"), Told::Page("", "1"), Failed::No),
+    (0, Asked::List(""), Told::Gone, Failed::InitialListFailed),
+    (0, Asked::Watch("0", true), Told::Opened, Failed::No),
+    (
+        0,
+        Asked::Watch("1", false),
+        Told::Lost,
+        Failed::WatchStartFailed,
+    ),
+    (0, Asked::Next, Told::Added("2"), Failed::No),
+    (
+        0,
+        Asked::Next,
+        Told::Modified(""),
+        Failed::NoResourceVersion,
+    ),
+    (0, Asked::Next, Told::Deleted("3"), Failed::No),
+    (0, Asked::Next, Told::Ending(""), Failed::No),
+    (0, Asked::Next, Told::ErrorItem, Failed::WatchError),
+    (7, Asked::Next, Told::Unread, Failed::WatchFailed),
+    (0, Asked::Next, Told::End, Failed::No),
+    (0, Asked::Next, Told::NotReady, Failed::No),
+    (0, Asked::Next, Told::Idle, Failed::No),
+    (0, Asked::Stream, Told::Item, Failed::No),
+    (0, Asked::Stream, Told::Spent, Failed::No),
+];
 
 /// What an API says of a call that came too late.
 fn gone(alloc: Global) -> Result<ApiStatus, NoMemory> {
-    let reason = Text::new(alloc, "Gone")?;
-    let message = Text::new(alloc, "gone")?;
     Ok(ApiStatus {
         code: 410,
-        reason,
-        message,
+        reason: Text::new(alloc, "Gone")?,
+        message: Text::new(alloc, "gone")?,
         uid: None,
     })
 }
@@ -363,162 +441,206 @@ fn unread(alloc: Global) -> Result<ApiError, NoMemory> {
     Ok(ApiError::ReadEvents(Text::new(alloc, "read")?))
 }
 
-/// Adds an exchange of a source that brings no objects and requests nothing.
-fn ask(
-    asks: &mut Asks,
-    alloc: Global,
-    call: Result<Call, NoMemory>,
-    answer: Result<Answer, NoMemory>,
-    error: Option<Error>,
-) -> Result<(), NoMemory> {
-    let (Ok(call), Ok(answer)) = (call, answer) else {
-        return Err(NoMemory);
-    };
-    asks.push(SourceExchange {
-        source: 0,
-        call,
-        answer,
-        items: List::new(alloc),
-        requests: List::new(alloc),
-        error,
+fn call(alloc: Global, asked: Asked) -> Result<Call, NoMemory> {
+    match asked {
+        Asked::List(token) => Ok(Call::List {
+            token: some(alloc, token)?,
+        }),
+        Asked::Watch(version, initial) => Ok(Call::Watch {
+            version: Text::new(alloc, version)?,
+            initial,
+        }),
+        Asked::Next => Ok(Call::Next),
+        Asked::Stream => Ok(Call::Stream),
+    }
+}
+
+fn page(alloc: Global, token: &str, version: &str) -> Result<Answer, NoMemory> {
+    Ok(Answer::Page {
+        token: some(alloc, token)?,
+        version: some(alloc, version)?,
     })
 }
 
-/// Adds a page with two objects, the second of which has no metadata, and a request.
-fn add_page(alloc: Global, asks: &mut Asks) -> Result<(), NoMemory> {
+fn answer(alloc: Global, told: Told) -> Result<Answer, NoMemory> {
+    match told {
+        Told::Page(token, version) => page(alloc, token, version),
+        Told::Gone => Ok(Answer::Fault(ApiError::Api(gone(alloc)?))),
+        Told::Lost => Ok(Answer::Fault(lost(alloc)?)),
+        Told::Unread => Ok(Answer::Fault(unread(alloc)?)),
+        Told::Opened => Ok(Answer::Opened),
+        Told::Added(version) => Ok(Answer::Added {
+            version: some(alloc, version)?,
+        }),
+        Told::Modified(version) => Ok(Answer::Modified {
+            version: some(alloc, version)?,
+        }),
+        Told::Deleted(version) => Ok(Answer::Deleted {
+            version: some(alloc, version)?,
+        }),
+        Told::Ending(version) => Ok(Answer::Bookmark {
+            version: Text::new(alloc, version)?,
+            ending: true,
+        }),
+        Told::ErrorItem => Ok(Answer::ErrorItem(gone(alloc)?)),
+        Told::End => Ok(Answer::End),
+        Told::NotReady => Ok(Answer::NotReady),
+        Told::Idle => Ok(Answer::Idle),
+        Told::Item => Ok(Answer::Item),
+        Told::Spent => Ok(Answer::Spent),
+    }
+}
+
+fn error(alloc: Global, failed: Failed) -> Result<Option<Error>, NoMemory> {
+    match failed {
+        Failed::No => Ok(None),
+        Failed::InitialListFailed => Ok(Some(Error::InitialListFailed(ApiError::Api(gone(
+            alloc,
+        )?)))),
+        Failed::WatchStartFailed => Ok(Some(Error::WatchStartFailed(lost(alloc)?))),
+        Failed::NoResourceVersion => Ok(Some(Error::NoResourceVersion)),
+        Failed::WatchError => Ok(Some(Error::WatchError(gone(alloc)?))),
+        Failed::WatchFailed => Ok(Some(Error::WatchFailed(unread(alloc)?))),
+    }
+}
+
+/// An exchange that brings no objects and requests nothing.
+fn exchange(
+    alloc: Global,
+    source: u32,
+    asked: Asked,
+    told: Told,
+    failed: Failed,
+) -> Result<SourceExchange<ScriptObject>, NoMemory> {
+    Ok(SourceExchange {
+        source,
+        call: call(alloc, asked)?,
+        answer: answer(alloc, told)?,
+        items: List::new(alloc),
+        requests: List::new(alloc),
+        error: error(alloc, failed)?,
+    })
+}
+
+/// An object with no metadata.
+fn bare(alloc: Global) -> Result<Arc<ScriptObject>, NoMemory> {
+    let object = DynamicObject::bare(ObjectMeta::empty());
+    Ok(Arc::new(alloc, ScriptObject::new(object))?)
+}
+
+/// Two objects, the second of which has no metadata.
+fn items(alloc: Global) -> Result<List<Arc<ScriptObject>>, NoMemory> {
     let mut items = List::new(alloc);
     items.push(object(alloc)?)?;
-    let metadata = ObjectMeta::empty();
-    items.push(Arc::new(alloc, ScriptObject::new(DynamicObject::bare(metadata)))?)?;
+    items.push(bare(alloc)?)?;
+    Ok(items)
+}
+
+/// A request.
+fn requests(alloc: Global) -> Result<List<ReconcileRequest<ScriptObject>>, NoMemory> {
     let mut requests = List::new(alloc);
     requests.push(ReconcileRequest {
         obj_ref: reference(alloc)?,
         reason: ReconcileReason::ObjectUpdated,
     })?;
-    asks.push(SourceExchange {
+    Ok(requests)
+}
+
+/// The first page of a list, with those objects and that request.
+fn first_page(alloc: Global) -> Result<SourceExchange<ScriptObject>, NoMemory> {
+    Ok(SourceExchange {
         source: 0,
         call: Call::List { token: None },
         answer: page(alloc, "t", "")?,
-        items,
-        requests,
+        items: items(alloc)?,
+        requests: requests(alloc)?,
         error: None,
     })
 }
 
-/// Adds lists and watches with what they may be answered.
-fn add_calls(alloc: Global, asks: &mut Asks) -> Result<(), NoMemory> {
-    ask(asks, alloc, list(alloc, "t"), page(alloc, "", "1"), None)?;
-    let error = Error::InitialListFailed(ApiError::Api(gone(alloc)?));
-    let answer = gone(alloc).map(ApiError::Api).map(Answer::Fault);
-    ask(asks, alloc, list(alloc, ""), answer, Some(error))?;
-    let call = watch(alloc, "0", true);
-    ask(asks, alloc, call, Ok(Answer::Opened), None)?;
-    let error = Error::WatchStartFailed(lost(alloc)?);
-    let call = watch(alloc, "1", false);
-    let answer = lost(alloc).map(Answer::Fault);
-    ask(asks, alloc, call, answer, Some(error))
-}
-
-/// Adds what an open watch may give, with its version.
-fn add_events(alloc: Global, asks: &mut Asks) -> Result<(), NoMemory> {
-    let version = some(alloc, "2")?;
-    let answer = Ok(Answer::Added { version });
-    ask(asks, alloc, Ok(Call::Next), answer, None)?;
-    let error = Error::NoResourceVersion;
-    let answer = Ok(Answer::Modified { version: None });
-    ask(asks, alloc, Ok(Call::Next), answer, Some(error))?;
-    let version = some(alloc, "3")?;
-    let answer = Ok(Answer::Deleted { version });
-    ask(asks, alloc, Ok(Call::Next), answer, None)?;
-    let version = Text::new(alloc, "")?;
-    let ending = true;
-    let answer = Ok(Answer::Bookmark { version, ending });
-    ask(asks, alloc, Ok(Call::Next), answer, None)
-}
-
-/// Adds an error that a watch told of, and a call of another source that failed.
-fn add_errors(alloc: Global, asks: &mut Asks) -> Result<(), NoMemory> {
-    let error = Error::WatchError(gone(alloc)?);
-    let answer = gone(alloc).map(Answer::ErrorItem);
-    ask(asks, alloc, Ok(Call::Next), answer, Some(error))?;
-    let error = Error::WatchFailed(unread(alloc)?);
-    let answer = Answer::Fault(unread(alloc)?);
-    asks.push(SourceExchange {
-        source: 7,
-        call: Call::Next,
-        answer,
-        items: List::new(alloc),
-        requests: List::new(alloc),
-        error: Some(error),
-    })
-}
-
-/// Adds answers that bring nothing.
-fn add_silences(alloc: Global, asks: &mut Asks) -> Result<(), NoMemory> {
-    ask(asks, alloc, Ok(Call::Next), Ok(Answer::End), None)?;
-    ask(asks, alloc, Ok(Call::Next), Ok(Answer::NotReady), None)?;
-    ask(asks, alloc, Ok(Call::Next), Ok(Answer::Idle), None)?;
-    ask(asks, alloc, Ok(Call::Stream), Ok(Answer::Item), None)?;
-    ask(asks, alloc, Ok(Call::Stream), Ok(Answer::Spent), None)
-}
-
-/// One finish with an action of its own, and one with a fault.
-fn finishes(alloc: Global) -> Result<List<Finished<ScriptObject, Text>>, NoMemory> {
-    let mut finished = List::new(alloc);
-    finished.push(Finished {
+/// A finish with an action of its own.
+fn finish_with_action(alloc: Global) -> Result<Finished<ScriptObject, Text>, NoMemory> {
+    Ok(Finished {
         reference: reference(alloc)?,
         outcome: Ok(Action::requeue(5)),
         action: Action::requeue(5),
-    })?;
-    finished.push(Finished {
+    })
+}
+
+/// A finish with a fault.
+fn finish_with_fault(alloc: Global) -> Result<Finished<ScriptObject, Text>, NoMemory> {
+    Ok(Finished {
         reference: reference(alloc)?,
         outcome: Err(Text::new(alloc, "bad \"luck\"\n")?),
         action: Action::await_change(),
-    })?;
+    })
+}
+
+fn finishes(alloc: Global) -> Result<List<Finished<ScriptObject, Text>>, NoMemory> {
+    let mut finished = List::new(alloc);
+    finished.push(finish_with_action(alloc)?)?;
+    finished.push(finish_with_fault(alloc)?)?;
     Ok(finished)
 }
 
-/// A take that was found, and two that were not.
-fn takes(alloc: Global) -> Result<List<Taken<ScriptObject>>, NoMemory> {
-    let mut taken = List::new(alloc);
-    taken.push(Taken::Started {
+/// A take that was found.
+fn started(alloc: Global) -> Result<Taken<ScriptObject>, NoMemory> {
+    Ok(Taken::Started {
         reference: reference(alloc)?,
         reason: ReconcileReason::ObjectUpdated,
         object: object(alloc)?,
-    })?;
-    taken.push(Taken::Nothing)?;
-    taken.push(Taken::NotFound {
-        reference: reference(alloc)?,
-        reason: ReconcileReason::RelatedObjectUpdated {
-            obj_ref: Box::new(alloc, reference(alloc)?.erase(alloc)?)?,
-        },
-    })?;
-    taken.push(Taken::NotFound {
+    })
+}
+
+/// A reference, whatever it is of.
+fn erased(alloc: Global) -> Result<Box<ObjectRef<DynamicObject>>, NoMemory> {
+    Ok(Box::new(alloc, reference(alloc)?.erase(alloc)?)?)
+}
+
+/// A take that was not found, for a related object or for a reason of its own.
+fn not_found(alloc: Global, is_related: bool) -> Result<Taken<ScriptObject>, NoMemory> {
+    if is_related {
+        return Ok(Taken::NotFound {
+            reference: reference(alloc)?,
+            reason: ReconcileReason::RelatedObjectUpdated {
+                obj_ref: erased(alloc)?,
+            },
+        });
+    }
+    Ok(Taken::NotFound {
         reference: reference(alloc)?,
         reason: ReconcileReason::Custom {
             reason: Text::new(alloc, "because")?,
         },
-    })?;
+    })
+}
+
+/// A take that was found, one of nothing, and two that were not found.
+fn takes(alloc: Global) -> Result<List<Taken<ScriptObject>>, NoMemory> {
+    let mut taken = List::new(alloc);
+    taken.push(started(alloc)?)?;
+    taken.push(Taken::Nothing)?;
+    for is_related in [true, false] {
+        taken.push(not_found(alloc, is_related)?)?;
+    }
     Ok(taken)
 }
 
 /// Calls, answers and errors of every kind.
-fn exchanges(alloc: Global) -> Result<Asks, NoMemory> {
+fn exchanges(alloc: Global) -> Result<List<SourceExchange<ScriptObject>>, NoMemory> {
     let mut asks = List::new(alloc);
-    add_page(alloc, &mut asks)?;
-    add_calls(alloc, &mut asks)?;
-    add_events(alloc, &mut asks)?;
-    add_errors(alloc, &mut asks)?;
-    add_silences(alloc, &mut asks)?;
+    asks.push(first_page(alloc)?)?;
+    for (source, asked, told, failed) in ASKS {
+        asks.push(exchange(alloc, source, asked, told, failed)?)?;
+    }
     Ok(asks)
 }
 
 fn stops(alloc: Global) -> Result<List<Stop>, NoMemory> {
     let mut stops = List::new(alloc);
-    stops.push(Stop::NotReady)?;
-    stops.push(Stop::Shutdown)?;
-    stops.push(Stop::Budget)?;
-    stops.push(Stop::Paused)?;
+    for stop in [Stop::NotReady, Stop::Shutdown, Stop::Budget, Stop::Paused] {
+        stops.push(stop)?;
+    }
     Ok(stops)
 }
 
@@ -545,10 +667,11 @@ fn every_kind(alloc: Global) -> Result<ScriptRecord, NoMemory> {
 #[test]
 fn writes_every_kind(rt: HostRuntime) -> Result<(), Fail> {
     let alloc = rt.alloc();
-    let written = record_line(alloc, 9, &every_kind(alloc)?)?;
-    let wanted = line(alloc, EVERY_KIND)?;
-    assert_eq!(rt; written.as_slice(), wanted.as_slice());
-    Ok(())
+    is_line(
+        &rt,
+        &record_line(alloc, 9, &every_kind(alloc)?)?,
+        EVERY_KIND,
+    )
 }
 
 /// The script of a page with the same object a thousand times, and of a turn that shows the store.
@@ -587,12 +710,7 @@ fn thousandfold_trace(alloc: Global) -> Result<String, AllocError> {
 
 #[test]
 fn takes_one_object_once(rt: HostRuntime) -> Result<(), Fail> {
-    let alloc = rt.alloc();
-    let script = thousandfold(alloc)?;
-    let (status, written) = outcome(alloc, "run", script.as_bytes())?;
-    assert_eq!(rt; status, 0);
-    let wanted = thousandfold_trace(alloc)?;
-    let wanted = line(alloc, wanted.as_str())?;
-    assert_eq!(rt; written.as_slice(), wanted.as_slice());
-    Ok(())
+    let script = thousandfold(rt.alloc())?;
+    let trace = thousandfold_trace(rt.alloc())?;
+    ends(&rt, "run", script.as_bytes(), 0, trace.as_str())
 }

@@ -5,6 +5,71 @@ use std::alloc::{AllocError, Global};
 use std::process::Abort;
 use std::test::Fail;
 
+/// Items, and what is written of each wherever a trace has it.
+const SHOWN: [(&str, &str); 11] = [
+    (
+        r#"{"metadata":{"name":"a"}}"#,
+        r#"{"metadata":{"name":"a"}}"#,
+    ),
+    (
+        r#"{"metadata":{"name":"a"},"kind":"ConfigMap","apiVersion":"v1"}"#,
+        r#"{"apiVersion":"v1","kind":"ConfigMap","metadata":{"name":"a"}}"#,
+    ),
+    (
+        r#"{"metadata":{"name":"a","labels":{"tier":"2","app":"x"},"resourceVersion":"1"}}"#,
+        r#"{"metadata":{"labels":{"app":"x","tier":"2"},"name":"a","resourceVersion":"1"}}"#,
+    ),
+    (
+        r#"{"metadata":{"name":"a","annotations":{"note/x":"a \"b\"\n\u0001é"}}}"#,
+        r#"{"metadata":{"annotations":{"note/x":"a \"b\"\n\u0001é"},"name":"a"}}"#,
+    ),
+    (
+        r#"{"metadata":{"name":"a","finalizers":["z/z","a/a","z/z"],"deletionTimestamp":"2024-01-01T00:00:00Z"}}"#,
+        r#"{"metadata":{"deletionTimestamp":"2024-01-01T00:00:00Z","finalizers":["z/z","a/a","z/z"],"name":"a"}}"#,
+    ),
+    (
+        r#"{"metadata":{"ownerReferences":[{"uid":"u","name":"n","kind":"Node","controller":true,"apiVersion":"v1"}],"name":"a","uid":"7","generation":-3}}"#,
+        r#"{"metadata":{"generation":-3,"name":"a","ownerReferences":[{"apiVersion":"v1","kind":"Node","name":"n","uid":"u"}],"uid":"7"}}"#,
+    ),
+    (
+        r#"{"metadata":{"name":"a","labels":{},"annotations":{},"finalizers":[],"ownerReferences":[],"namespace":null,"managedFields":[1.5]}}"#,
+        r#"{"metadata":{"name":"a"}}"#,
+    ),
+    (
+        r#"{"spec":{"z":[],"y":null,"x":{"w":[1,-2,"t",true,{}]}},"metadata":{"name":"a"}}"#,
+        r#"{"metadata":{"name":"a"},"spec":{"x":{"w":[1,-2,"t",true,{}]},"y":null,"z":[]}}"#,
+    ),
+    (
+        r#"{"status":null,"":[],"data":{"k":"v"},"metadata":{"name":"a"},"Zone":false}"#,
+        r#"{"":[],"Zone":false,"data":{"k":"v"},"metadata":{"name":"a"},"status":null}"#,
+    ),
+    (
+        r#"{"metadata":{"name":"a"},"spec":[18446744073709551615,-9223372036854775808,0]}"#,
+        r#"{"metadata":{"name":"a"},"spec":[18446744073709551615,-9223372036854775808,0]}"#,
+    ),
+    (
+        r#"{"metadata":{"name":"a"},"spec":{"metadata":{"labels":{}},"kind":1,"apiVersion":null}}"#,
+        r#"{"metadata":{"name":"a"},"spec":{"apiVersion":null,"kind":1,"metadata":{"labels":{}}}}"#,
+    ),
+];
+
+/// Items that are no objects.
+const REFUSED: [&str; 13] = [
+    r#"{"metadata":{"name":"a"},"spec":{"size":1.5}}"#,
+    r#"{"metadata":{"name":"a"},"spec":[1e0]}"#,
+    r#"{"metadata":{"name":"a"},"spec":-0}"#,
+    r#"{"metadata":{"name":1}}"#,
+    r#"{"metadata":{"name":"a","labels":{"app":1}}}"#,
+    r#"{"metadata":[]}"#,
+    r#"{"metadata":{"name":"a","ownerReferences":[{"apiVersion":"v1","kind":"Node","name":"n"}]}}"#,
+    r#"{"metadata":{"name":"a","finalizers":[null]}}"#,
+    r#"{"metadata":{"name":"a"},"apiVersion":"v1"}"#,
+    r#"{"metadata":{"name":"a"},"kind":"ConfigMap"}"#,
+    "null",
+    "[]",
+    r#""a""#,
+];
+
 /// The script of a page with this item, of a watch that waits, and of a turn that takes once and shows the store.
 fn script_of(alloc: Global, item: &str) -> Result<String, AllocError> {
     let mut script = String::from_str(
@@ -57,136 +122,17 @@ fn refuses<R: Abort + AllocGlobal>(rt: &R, item: &str) -> Result<(), Fail> {
 }
 
 #[test]
-fn an_object_of_a_name_alone(rt: HostRuntime) -> Result<(), Fail> {
-    shows(
-        &rt,
-        r#"{"metadata":{"name":"a"}}"#,
-        r#"{"metadata":{"name":"a"}}"#,
-    )
+fn objects_are_shown_in_one_form(rt: HostRuntime) -> Result<(), Fail> {
+    for (item, object) in SHOWN {
+        shows(&rt, item, object)?;
+    }
+    Ok(())
 }
 
 #[test]
-fn types_are_written(rt: HostRuntime) -> Result<(), Fail> {
-    shows(
-        &rt,
-        r#"{"metadata":{"name":"a"},"kind":"ConfigMap","apiVersion":"v1"}"#,
-        r#"{"apiVersion":"v1","kind":"ConfigMap","metadata":{"name":"a"}}"#,
-    )
-}
-
-#[test]
-fn labels_are_written_by_their_names(rt: HostRuntime) -> Result<(), Fail> {
-    shows(
-        &rt,
-        r#"{"metadata":{"name":"a","labels":{"tier":"2","app":"x"},"resourceVersion":"1"}}"#,
-        r#"{"metadata":{"labels":{"app":"x","tier":"2"},"name":"a","resourceVersion":"1"}}"#,
-    )
-}
-
-#[test]
-fn annotations_are_written_escaped(rt: HostRuntime) -> Result<(), Fail> {
-    shows(
-        &rt,
-        r#"{"metadata":{"name":"a","annotations":{"note/x":"a \"b\"\n\u0001é"}}}"#,
-        r#"{"metadata":{"annotations":{"note/x":"a \"b\"\n\u0001é"},"name":"a"}}"#,
-    )
-}
-
-#[test]
-fn finalizers_keep_their_order(rt: HostRuntime) -> Result<(), Fail> {
-    shows(
-        &rt,
-        r#"{"metadata":{"name":"a","finalizers":["z/z","a/a","z/z"],"deletionTimestamp":"2024-01-01T00:00:00Z"}}"#,
-        r#"{"metadata":{"deletionTimestamp":"2024-01-01T00:00:00Z","finalizers":["z/z","a/a","z/z"],"name":"a"}}"#,
-    )
-}
-
-#[test]
-fn owners_are_written_without_further_members(rt: HostRuntime) -> Result<(), Fail> {
-    shows(
-        &rt,
-        r#"{"metadata":{"ownerReferences":[{"uid":"u","name":"n","kind":"Node","controller":true,"apiVersion":"v1"}],"name":"a","uid":"7","generation":-3}}"#,
-        r#"{"metadata":{"generation":-3,"name":"a","ownerReferences":[{"apiVersion":"v1","kind":"Node","name":"n","uid":"u"}],"uid":"7"}}"#,
-    )
-}
-
-#[test]
-fn empty_lists_and_maps_of_metadata_are_left_out(rt: HostRuntime) -> Result<(), Fail> {
-    shows(
-        &rt,
-        r#"{"metadata":{"name":"a","labels":{},"annotations":{},"finalizers":[],"ownerReferences":[],"namespace":null,"managedFields":[1.5]}}"#,
-        r#"{"metadata":{"name":"a"}}"#,
-    )
-}
-
-#[test]
-fn data_is_written_whole(rt: HostRuntime) -> Result<(), Fail> {
-    shows(
-        &rt,
-        r#"{"spec":{"z":[],"y":null,"x":{"w":[1,-2,"t",true,{}]}},"metadata":{"name":"a"}}"#,
-        r#"{"metadata":{"name":"a"},"spec":{"x":{"w":[1,-2,"t",true,{}]},"y":null,"z":[]}}"#,
-    )
-}
-
-#[test]
-fn data_stands_around_the_metadata(rt: HostRuntime) -> Result<(), Fail> {
-    shows(
-        &rt,
-        r#"{"status":null,"":[],"data":{"k":"v"},"metadata":{"name":"a"},"Zone":false}"#,
-        r#"{"":[],"Zone":false,"data":{"k":"v"},"metadata":{"name":"a"},"status":null}"#,
-    )
-}
-
-#[test]
-fn whole_numbers_have_64_bits(rt: HostRuntime) -> Result<(), Fail> {
-    shows(
-        &rt,
-        r#"{"metadata":{"name":"a"},"spec":[18446744073709551615,-9223372036854775808,0]}"#,
-        r#"{"metadata":{"name":"a"},"spec":[18446744073709551615,-9223372036854775808,0]}"#,
-    )
-}
-
-#[test]
-fn types_and_metadata_within_data_stay(rt: HostRuntime) -> Result<(), Fail> {
-    shows(
-        &rt,
-        r#"{"metadata":{"name":"a"},"spec":{"metadata":{"labels":{}},"kind":1,"apiVersion":null}}"#,
-        r#"{"metadata":{"name":"a"},"spec":{"apiVersion":null,"kind":1,"metadata":{"labels":{}}}}"#,
-    )
-}
-
-#[test]
-fn fractions_are_refused(rt: HostRuntime) -> Result<(), Fail> {
-    refuses(&rt, r#"{"metadata":{"name":"a"},"spec":{"size":1.5}}"#)?;
-    refuses(&rt, r#"{"metadata":{"name":"a"},"spec":[1e0]}"#)?;
-    refuses(&rt, r#"{"metadata":{"name":"a"},"spec":-0}"#)
-}
-
-#[test]
-fn wrong_metadata_is_refused(rt: HostRuntime) -> Result<(), Fail> {
-    refuses(&rt, r#"{"metadata":{"name":1}}"#)?;
-    refuses(&rt, r#"{"metadata":{"name":"a","labels":{"app":1}}}"#)?;
-    refuses(&rt, r#"{"metadata":[]}"#)
-}
-
-#[test]
-fn wrong_owners_and_finalizers_are_refused(rt: HostRuntime) -> Result<(), Fail> {
-    refuses(
-        &rt,
-        r#"{"metadata":{"name":"a","ownerReferences":[{"apiVersion":"v1","kind":"Node","name":"n"}]}}"#,
-    )?;
-    refuses(&rt, r#"{"metadata":{"name":"a","finalizers":[null]}}"#)
-}
-
-#[test]
-fn half_a_type_is_refused(rt: HostRuntime) -> Result<(), Fail> {
-    refuses(&rt, r#"{"metadata":{"name":"a"},"apiVersion":"v1"}"#)?;
-    refuses(&rt, r#"{"metadata":{"name":"a"},"kind":"ConfigMap"}"#)
-}
-
-#[test]
-fn other_values_are_refused(rt: HostRuntime) -> Result<(), Fail> {
-    refuses(&rt, "null")?;
-    refuses(&rt, "[]")?;
-    refuses(&rt, r#""a""#)
+fn other_items_are_refused(rt: HostRuntime) -> Result<(), Fail> {
+    for item in REFUSED {
+        refuses(&rt, item)?;
+    }
+    Ok(())
 }
