@@ -11,8 +11,8 @@ use Rattle.kube_meta.specs.ReferenceLaws.{same_reference_equiv}
 use Rattle.kube_model.specs.History.{Message, same_message, Taken}
 use Rattle.kube_model.specs.Queue.{Request, QueueEvent, Requested, Settled, Took, Entry, Frozen, is_request, is_settle, plus, longest_wait, entry, entry_after, entry_of, entry_requested, entry_settled, waiting, goes_before}
 use Rattle.kube_model.specs.Requests.{requested_at, numbered, requested_and_settled, took}
-use Rattle.kube_model.specs.WaitingOnce.{is_among, is_frozen}
-use Rattle.kube_model.proofs.Waits.{InOrder, IsOwn, waiting-is}
+use Rattle.kube_model.specs.WaitingOnce.{is_among, is_frozen, AreInOrder, IsEntry}
+use Rattle.kube_model.proofs.Waits.{waiting-is}
 use Rattle.kube_control.specs.Messages.{last_of_each}
 
 -- the time of an entry that is requested at this moment
@@ -129,11 +129,11 @@ module _ (same : Message → Message → Bool) (at settle : ℕ) where
       go true r = r
       go false r = (goes-first settle (time_at at) n j h, r)
 
-  order-last : (n : ℕ) (ms : List Message) → InOrder (frozen_last n ms)
+  order-last : (n : ℕ) (ms : List Message) → AreInOrder (frozen_last n ms)
   order-last n [] = tt
   order-last n (m ∷ ms) = go (is_in ms m) (order-last (n + 1) ms)
     where
-      go : (b : Bool) → InOrder (frozen_last (n + 1) ms) → InOrder (cond b (frozen_last (n + 1) ms) (frozen_at n m ∷ frozen_last (n + 1) ms))
+      go : (b : Bool) → AreInOrder (frozen_last (n + 1) ms) → AreInOrder (cond b (frozen_last (n + 1) ms) (frozen_at n m ∷ frozen_last (n + 1) ms))
       go true r = r
       go false r = (before-last n (n + 1) m ms (omega arith), r)
 
@@ -143,13 +143,13 @@ module _ (same : Message → Message → Bool) (at settle : ℕ) where
   -- each is the entry of its message, where f says what each entry is in the end
   own-last : (equiv : IsEquivalence same) (all : List (QueueEvent Message)) (n : ℕ) (ms : List Message) (before : Message → Option (Entry Message)) → nat_le (time_at at) at ≡ true
       → ((m : Message) → entry same 0 all m ≡ entry_settled at settle (latest m n ms (before m)))
-      → AllByRecursion (IsOwn same equiv 0 all) (frozen_last n ms)
+      → AllByRecursion (IsEntry same 0 all) (frozen_last n ms)
   own-last equiv all n [] before t f = tt
   own-last equiv all n (m ∷ ms) before t f =
       go (is_in ms m) refl (own-last equiv all (n + 1) ms (λ x. cond (same m x) (Some (fresh n m)) (before x)) t f)
     where
-      go : (b : Bool) → is_in ms m ≡ b → AllByRecursion (IsOwn same equiv 0 all) (frozen_last (n + 1) ms)
-          → AllByRecursion (IsOwn same equiv 0 all) (cond b (frozen_last (n + 1) ms) (frozen_at n m ∷ frozen_last (n + 1) ms))
+      go : (b : Bool) → is_in ms m ≡ b → AllByRecursion (IsEntry same 0 all) (frozen_last (n + 1) ms)
+          → AllByRecursion (IsEntry same 0 all) (cond b (frozen_last (n + 1) ms) (frozen_at n m ∷ frozen_last (n + 1) ms))
       go true k r = r
       go false k r =
           let e : latest m (n + 1) ms (cond (same m m) (Some (fresh n m)) (before m)) ≡ Some (fresh n m) =

@@ -7,7 +7,7 @@ use Rattle.std.proofs.lemmas.Bool.{false≢true}
 use Rattle.std.proofs.lemmas.Bool.Decides.{nat_tests}
 use Rattle.std.proofs.Math.Bool.{or-true}
 use Rattle.kube_model.specs.Queue.{Request, QueueEvent, Requested, Settled, Took, Entry, Frozen, entry, entry_after, entry_of, entry_requested, entry_settled, frozen, requested_message, distinct, waiting, sorted_by, insert_by, goes_before}
-use Rattle.kube_model.specs.WaitingOnce.{is_among, HasEachOnce, is_frozen}
+use Rattle.kube_model.specs.WaitingOnce.{is_among, HasEachOnce, is_frozen, AreInOrder, IsEntry}
 use Rattle.kube_model.proofs.Alls.{or-left, or-right}
 
 -- a sorted list has what the list has
@@ -42,11 +42,6 @@ as_frozen e settle = record { settle = settle; entry = e }
 
 frozen-alike : {M : Type 0} (f g : Frozen M) → f.settle ≡ g.settle → f.entry ≡ g.entry → f ≡ g
 frozen-alike f g h k = ap (as_frozen f.entry) h ∙ ap (λ e. as_frozen e g.settle) k
-
--- each stands before all behind it
-abbrev pub InOrder : {M : Type 0} → List (Frozen M) → Type 0
-InOrder [] = Unit {0}
-InOrder (z ∷ zs) = AllByRecursion (λ y. goes_before z y ≡ true) zs × InOrder zs
 
 module _ {M : Type 0} (same : M → M → Bool) (equiv : IsEquivalence same) (debounce : ℕ) where
   alike : (a b x : M) → same a b ≡ true → same x a ≡ same x b
@@ -98,27 +93,23 @@ module _ {M : Type 0} (same : M → M → Bool) (equiv : IsEquivalence same) (de
   entry-of : (es : List (QueueEvent M)) (m : M) (e : Entry M) → entry same debounce es m ≡ Some e → same e.message m ≡ true
   entry-of es m e h = subst (IsOf m) h (of-from m None es tt)
 
-  -- it is the entry of its own message among these events, frozen by its settle
-  abbrev pub IsOwn : List (QueueEvent M) → Frozen M → Type 0
-  IsOwn events f = (entry same debounce events f.entry.message ≡ Some f.entry) × (f.entry.settle ≡ Some f.settle)
-
-  pub frozen-own : (events : List (QueueEvent M)) (m : M) (f : Frozen M) → frozen (entry same debounce events m) ≡ Some f → IsOwn events f × (same f.entry.message m ≡ true)
+  pub frozen-own : (events : List (QueueEvent M)) (m : M) (f : Frozen M) → frozen (entry same debounce events m) ≡ Some f → IsEntry same debounce events f × (same f.entry.message m ≡ true)
   frozen-own events m f h = go (entry same debounce events m) refl h
     where
       settled : (e : Entry M) (s : Option ℕ) → e.settle ≡ s → entry same debounce events m ≡ Some e → option_map (as_frozen e) s ≡ Some f
-          → IsOwn events f × (same f.entry.message m ≡ true)
+          → IsEntry same debounce events f × (same f.entry.message m ≡ true)
       settled e None k i h = absurd (cc)
       settled e (Some n) k i h =
           let one : as_frozen e n ≡ f = cc in
           let of : same e.message m ≡ true = entry-of events m e i in
-          subst (λ g. IsOwn events g × (same g.entry.message m ≡ true)) one ((entry-alike events e.message m of ∙ i, k), of)
+          subst (λ g. IsEntry same debounce events g × (same g.entry.message m ≡ true)) one ((entry-alike events e.message m of ∙ i, k), of)
 
-      go : (o : Option (Entry M)) → entry same debounce events m ≡ o → frozen o ≡ Some f → IsOwn events f × (same f.entry.message m ≡ true)
+      go : (o : Option (Entry M)) → entry same debounce events m ≡ o → frozen o ≡ Some f → IsEntry same debounce events f × (same f.entry.message m ≡ true)
       go None k h = absurd (cc)
       go (Some e) k h = settled e e.settle refl k h
 
   -- own entries of messages that are the same are equal
-  own-one : (events : List (QueueEvent M)) (f g : Frozen M) → IsOwn events f → IsOwn events g → same f.entry.message g.entry.message ≡ true → f ≡ g
+  own-one : (events : List (QueueEvent M)) (f g : Frozen M) → IsEntry same debounce events f → IsEntry same debounce events g → same f.entry.message g.entry.message ≡ true → f ≡ g
   own-one events f g h k s =
       let entries : Some f.entry ≡ Some g.entry = sym h.0 ∙ (entry-alike events f.entry.message g.entry.message s ∙ k.0) in
       let e : f.entry ≡ g.entry = cc in
@@ -172,13 +163,13 @@ module _ {M : Type 0} (same : M → M → Bool) (equiv : IsEquivalence same) (de
             subst (λ o. HasEachOnce same (cons_option o (frozens xs))) (sym k)
             (none-frozen xs f.entry.message (in-alike xs f.entry.message x (frozen-own events x f k).1 ∙ i), r)
 
-    each-own : (ms : List M) → AllByRecursion (IsOwn events) (filter_map frozen_of ms)
+    each-own : (ms : List M) → AllByRecursion (IsEntry same debounce events) (filter_map frozen_of ms)
     each-own [] = tt
     each-own (x ∷ xs) = go (frozen_of x) refl (each-own xs)
       where
-        go : (o : Option (Frozen M)) → frozen_of x ≡ o → AllByRecursion (IsOwn events) (filter_map frozen_of xs) → AllByRecursion (IsOwn events) (cons_option (frozen_of x) (filter_map frozen_of xs))
-        go None k r = subst (λ o. AllByRecursion (IsOwn events) (cons_option o (filter_map frozen_of xs))) (sym k) r
-        go (Some f) k r = subst (λ o. AllByRecursion (IsOwn events) (cons_option o (filter_map frozen_of xs))) (sym k) ((frozen-own events x f k).0, r)
+        go : (o : Option (Frozen M)) → frozen_of x ≡ o → AllByRecursion (IsEntry same debounce events) (filter_map frozen_of xs) → AllByRecursion (IsEntry same debounce events) (cons_option (frozen_of x) (filter_map frozen_of xs))
+        go None k r = subst (λ o. AllByRecursion (IsEntry same debounce events) (cons_option o (filter_map frozen_of xs))) (sym k) r
+        go (Some f) k r = subst (λ o. AllByRecursion (IsEntry same debounce events) (cons_option o (filter_map frozen_of xs))) (sym k) ((frozen-own events x f k).0, r)
 
     among-cons : (o : Option (Frozen M)) (fs : List (Frozen M)) (m : M) → is_among same fs m ≡ true → is_among same (cons_option o fs) m ≡ true
     among-cons None fs m h = h
@@ -226,7 +217,7 @@ module _ {M : Type 0} (same : M → M → Bool) (equiv : IsEquivalence same) (de
         go (Some e) k true j h = settled e e.settle refl h k j
         go (Some e) k false j h = absurd (let n : entry same debounce events m ≡ None = requested-entry events m j in cc)
 
-    among-frozen : (m : M) (fs : List (Frozen M)) → AllByRecursion (IsOwn events) fs → is_among same fs m ≡ true → is_frozen (entry same debounce events m) ≡ true
+    among-frozen : (m : M) (fs : List (Frozen M)) → AllByRecursion (IsEntry same debounce events) fs → is_among same fs m ≡ true → is_frozen (entry same debounce events m) ≡ true
     among-frozen m [] owns h = absurd (false≢true h)
     among-frozen m (f ∷ fs) owns h = go (same f.entry.message m) refl h (among-frozen m fs owns.1)
       where
@@ -264,7 +255,7 @@ module _ {M : Type 0} (same : M → M → Bool) (equiv : IsEquivalence same) (de
 
   -- Exactly the frozen wait.
 
-  among-is : (events : List (QueueEvent M)) (fs : List (Frozen M)) (m : M) → AllByRecursion (IsOwn events) fs
+  among-is : (events : List (QueueEvent M)) (fs : List (Frozen M)) (m : M) → AllByRecursion (IsEntry same debounce events) fs
       → (is_frozen (entry same debounce events m) ≡ true → is_among same fs m ≡ true) → is_among same fs m ≡ is_frozen (entry same debounce events m)
   among-is events fs m owns h = both (is_among same fs m) (is_frozen (entry same debounce events m)) (among-frozen events m fs owns) h
 
@@ -306,16 +297,16 @@ module _ {M : Type 0} (same : M → M → Bool) (equiv : IsEquivalence same) (de
         go true r = (h.0, r)
         go false r = r
 
-    order-rest : (m : M) (zs : List (Frozen M)) → InOrder zs → InOrder (rest m zs)
+    order-rest : (m : M) (zs : List (Frozen M)) → AreInOrder zs → AreInOrder (rest m zs)
     order-rest m [] h = tt
     order-rest m (z ∷ zs) h = go (not (same m z.entry.message)) (order-rest m zs h.1)
       where
-        go : (b : Bool) → InOrder (rest m zs) → InOrder (cond b (z ∷ rest m zs) (rest m zs))
+        go : (b : Bool) → AreInOrder (rest m zs) → AreInOrder (cond b (z ∷ rest m zs) (rest m zs))
         go true r = (all-rest (λ y. goes_before z y ≡ true) m zs h.0, r)
         go false r = r
 
     -- none behind an own entry is of its message
-    rest-none : (z : Frozen M) (zs : List (Frozen M)) → IsOwn events z → AllByRecursion (λ y. goes_before z y ≡ true) zs → AllByRecursion (IsOwn events) zs → rest z.entry.message zs ≡ zs
+    rest-none : (z : Frozen M) (zs : List (Frozen M)) → IsEntry same debounce events z → AllByRecursion (λ y. goes_before z y ≡ true) zs → AllByRecursion (IsEntry same debounce events) zs → rest z.entry.message zs ≡ zs
     rest-none z [] own order owns = refl
     rest-none z (y ∷ ys) own order owns = go (same z.entry.message y.entry.message) refl (rest-none z ys own order.1 owns.1)
       where
@@ -325,7 +316,7 @@ module _ {M : Type 0} (same : M → M → Bool) (equiv : IsEquivalence same) (de
             absurd (false≢true (sym (one-way z z self) ∙ self))
         go false s r = ap (λ us. y ∷ us) r
 
-    before-own : (z x : Frozen M) (zs : List (Frozen M)) → IsOwn events x → AllByRecursion (λ y. goes_before z y ≡ true) zs → AllByRecursion (IsOwn events) zs
+    before-own : (z x : Frozen M) (zs : List (Frozen M)) → IsEntry same debounce events x → AllByRecursion (λ y. goes_before z y ≡ true) zs → AllByRecursion (IsEntry same debounce events) zs
         → is_among same zs x.entry.message ≡ true → goes_before z x ≡ true
     before-own z x [] own order owns h = absurd (false≢true h)
     before-own z x (y ∷ ys) own order owns h = go (same y.entry.message x.entry.message) refl h (before-own z x ys own order.1 owns.1)
@@ -336,7 +327,7 @@ module _ {M : Type 0} (same : M → M → Bool) (equiv : IsEquivalence same) (de
         go false s h r = r h
 
     -- one goes back to its place
-    insert-back : (x : Frozen M) (zs : List (Frozen M)) → IsOwn events x → InOrder zs → AllByRecursion (IsOwn events) zs → is_among same zs x.entry.message ≡ true
+    insert-back : (x : Frozen M) (zs : List (Frozen M)) → IsEntry same debounce events x → AreInOrder zs → AllByRecursion (IsEntry same debounce events) zs → is_among same zs x.entry.message ≡ true
         → insert_by goes_before x (rest x.entry.message zs) ≡ zs
     insert-back x [] own order owns h = absurd (false≢true h)
     insert-back x (z ∷ zs) own order owns h = go (same x.entry.message z.entry.message) refl (insert-back x zs own order.1 owns.1)
@@ -352,21 +343,21 @@ module _ {M : Type 0} (same : M → M → Bool) (equiv : IsEquivalence same) (de
             ap (λ b. if b then z ∷ insert_by goes_before x (rest x.entry.message zs) else x ∷ z ∷ rest x.entry.message zs) (before-own z x zs own order.0 owns.1 later)
             ∙ ap (λ us. z ∷ us) (r later)
 
-    sorted-is : (xs zs : List (Frozen M)) → HasEachOnce same xs → AllByRecursion (IsOwn events) xs → InOrder zs → AllByRecursion (IsOwn events) zs
+    sorted-is : (xs zs : List (Frozen M)) → HasEachOnce same xs → AllByRecursion (IsEntry same debounce events) xs → AreInOrder zs → AllByRecursion (IsEntry same debounce events) zs
         → ((m : M) → is_among same xs m ≡ is_among same zs m) → sorted_by goes_before xs ≡ zs
     sorted-is [] [] once owns order own h = refl
     sorted-is [] (z ∷ zs) once owns order own h =
         absurd (false≢true (h z.entry.message ∙ ap (λ b. b || is_among same zs z.entry.message) (equiv.refl z.entry.message)))
     sorted-is (x ∷ xs) zs once owns order own h =
         let m : M = x.entry.message in
-        ap (insert_by goes_before x) (sorted-is xs (rest m zs) once.1 owns.1 (order-rest m zs order) (all-rest (IsOwn events) m zs own) (λ n. others n (same m n) refl ∙ sym (among-rest m n zs)))
+        ap (insert_by goes_before x) (sorted-is xs (rest m zs) once.1 owns.1 (order-rest m zs order) (all-rest (IsEntry same debounce events) m zs own) (λ n. others n (same m n) refl ∙ sym (among-rest m n zs)))
         ∙ insert-back x zs owns.0 order own (sym (h m) ∙ ap (λ b. b || is_among same xs m) (equiv.refl m))
       where
         others : (n : M) (b : Bool) → same x.entry.message n ≡ b → is_among same xs n ≡ not (same x.entry.message n) && is_among same zs n
         others n true s = sym (among-alike xs x.entry.message n s) ∙ (once.0 ∙ sym (ap (λ b. not b && is_among same zs n) s))
         others n false s = sym (ap (λ b. b || is_among same xs n) s) ∙ (h n ∙ sym (ap (λ b. not b && is_among same zs n) s))
 
-    pub waiting-is : (zs : List (Frozen M)) → InOrder zs → AllByRecursion (IsOwn events) zs → ((m : M) → is_frozen (entry same debounce events m) ≡ true → is_among same zs m ≡ true)
+    pub waiting-is : (zs : List (Frozen M)) → AreInOrder zs → AllByRecursion (IsEntry same debounce events) zs → ((m : M) → is_frozen (entry same debounce events m) ≡ true → is_among same zs m ≡ true)
         → waiting same debounce events ≡ zs
     waiting-is zs order owns whole =
         sorted-is (frozens events (all events)) zs (once-frozen events (all events)) (each-own events (distinct same (all events))) order owns

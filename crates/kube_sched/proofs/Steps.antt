@@ -9,8 +9,8 @@ use Rattle.std.proofs.Math.Bool.{or-true}
 use Rattle.std.proofs.lemmas.List.Elements.{filter-append, filter_map-append}
 use Rattle.kube_meta.specs.declared.moment.Moment.{Moment}
 use Rattle.kube_model.specs.Queue.{Request, QueueEvent, Requested, Settled, Took, is_request, is_settle, Entry, Frozen, entry, entry_of, goes_before, insert_by, sorted_by, waiting, plus, longest_wait}
-use Rattle.kube_model.specs.WaitingOnce.{is_frozen}
-use Rattle.kube_model.proofs.Waits.{InOrder, IsOwn, waiting-is}
+use Rattle.kube_model.specs.WaitingOnce.{is_frozen, AreInOrder, IsEntry}
+use Rattle.kube_model.proofs.Waits.{waiting-is}
 use Rattle.kube_sched.specs.declared.held.Held.{Held}
 use Rattle.kube_sched.specs.declared.request.ScheduleRequest.{ScheduleRequest}
 use Rattle.kube_sched.specs.Held.{is_of, is_due, is_earlier, comes_before, set_in, messages, IsFirstAt}
@@ -532,17 +532,17 @@ rising-frozens (e ∷ es) h = go e.settle (rising-frozens es h.1)
     go None r = r
     go (Some n) r = (all-of_frozens (λ g. e.number < g.entry.number) (λ g. e.number < g.number) (λ g s k l. l) es h.0, r)
 
-order-insert : {M : Type 0} (x : Frozen M) (ys : List (Frozen M)) → AllByRecursion (λ y. x.entry.number < y.entry.number) ys → InOrder ys → InOrder (insert_by goes_before x ys)
+order-insert : {M : Type 0} (x : Frozen M) (ys : List (Frozen M)) → AllByRecursion (λ y. x.entry.number < y.entry.number) ys → AreInOrder ys → AreInOrder (insert_by goes_before x ys)
 order-insert x [] h o = (tt, tt)
 order-insert x (y ∷ ys) h o = go (goes_before y x) refl (order-insert x ys h.1 o.1)
   where
-    go : (b : Bool) → goes_before y x ≡ b → InOrder (insert_by goes_before x ys) → InOrder (if b then y ∷ insert_by goes_before x ys else x ∷ y ∷ ys)
+    go : (b : Bool) → goes_before y x ≡ b → AreInOrder (insert_by goes_before x ys) → AreInOrder (if b then y ∷ insert_by goes_before x ys else x ∷ y ∷ ys)
     go true e r = (all-insert goes_before (λ u. goes_before y u ≡ true) x ys e o.0, r)
     go false e r =
         let first : goes_before x y ≡ true = before-other x y e h.0 in
         ((first, all-to (λ u. goes_before y u ≡ true) (λ u. goes_before x u ≡ true) (λ u k. before-behind x y u first k) ys o.0), o)
 
-order-sorted : {M : Type 0} (fs : List (Frozen M)) → RisingFrozen fs → InOrder (sorted_by goes_before fs)
+order-sorted : {M : Type 0} (fs : List (Frozen M)) → RisingFrozen fs → AreInOrder (sorted_by goes_before fs)
 order-sorted [] h = tt
 order-sorted (f ∷ fs) h =
     order-insert f (sorted_by goes_before fs) (all-sorted goes_before (λ g. f.entry.number < g.entry.number) fs h.0) (order-sorted fs h.1)
@@ -567,11 +567,11 @@ module _ {M : Type 0} (same : M → M → Bool) (equiv : IsEquivalence same) (de
   waits-are : (es : List (QueueEvent M)) (r s : ℕ) → Good same equiv debounce es r s → map held_of_frozen (waiting same debounce es) ≡ waits_of (entries same debounce es)
   waits-are es r s g =
       let all = entries same debounce es in
-      let owns : AllByRecursion (IsOwn same equiv debounce es) (frozens all) =
-      all-of_frozens (IsOwn same equiv debounce es) (λ f. find (of same f.message) all ≡ Some f) (λ e s k h. (sym (g.found e.message) ∙ h, k)) all (each-found all g.distinct) in
+      let owns : AllByRecursion (IsEntry same debounce es) (frozens all) =
+      all-of_frozens (IsEntry same debounce es) (λ f. find (of same f.message) all ≡ Some f) (λ e s k h. (sym (g.found e.message) ∙ h, k)) all (each-found all g.distinct) in
       ap (map held_of_frozen)
       (waiting-is same equiv debounce es (sorted_by goes_before (frozens all)) (order-sorted (frozens all) (rising-frozens all g.rising))
-      (all-sorted goes_before (IsOwn same equiv debounce es) (frozens all) owns)
+      (all-sorted goes_before (IsEntry same debounce es) (frozens all) owns)
       (λ m h. any-sorted goes_before (λ f. same f.entry.message m) (frozens all) ∙ (any-frozens same equiv debounce all m g.distinct ∙ (ap is_frozen (g.found m) ∙ h))))
 
 -- The steps of a scheduler.
