@@ -1,9 +1,10 @@
 -- Nothing stays unreconciled: one more turn, and a whole trace.
-use Rattle.std.proofs.Common.{◌≡◌, ℕ, ◌+◌, Bool, true, false, not, ◌&&◌, ◌||◌, ◌==◌, List, [], ◌∷◌, ◌++◌, map, Option, Some, None, if◌then◌else◌, is_some, refl, sym, ap, subst, ◌∙◌, ◌⊎◌, inl, inr, append_assoc, append-nil}
+use Rattle.std.proofs.Common.{◌≡◌, ℕ, zero, suc, ◌+◌, Bool, true, false, not, ◌&&◌, ◌||◌, ◌==◌, List, [], ◌∷◌, ◌++◌, map, Option, Some, None, if◌then◌else◌, is_some, refl, sym, ap, subst, ◌∙◌, ◌⊎◌, inl, inr, append_assoc, append-nil, take, drop}
 use Rattle.std.specs.List.{filter_map, flat_map, list_any, last_or, AllByRecursion, count_by}
 use Rattle.std.proofs.lemmas.List.Elements.{filter_map-append}
 use Rattle.std.proofs.lemmas.List.Folds.{list_any-append}
 use Rattle.std.proofs.lemmas.Grind.{flat_map-append}
+use Rattle.std.proofs.lemmas.List.{take-append-drop}
 use Rattle.std.proofs.Math.Bool.{or-true}
 use Rattle.std.proofs.lemmas.Bool.{eqb-true}
 use Rattle.std.specs.Cmp.{on_equiv}
@@ -196,21 +197,34 @@ module _ {O B : Type 0} (w : World O B) (settings : Settings) (watched : feed_of
   exchanges-append : (g h : List (Step O)) → exchanges (g ++ h) ≡ exchanges g ++ exchanges h
   exchanges-append g h = flat_map-append (λ s. dated s.turn.at s.made.exchanges) g h
 
-  pub settled-steps : (policies : ℕ → ℕ → O → Option ℕ) (h : List (Step O)) (ts : List Turn) (ms : List (Made O)) → IsTrace w policies h ts ms → IsSettled w h
-      → is_shut (h ++ steps ts ms) ≡ false → gave_up w (exchanges (h ++ steps ts ms)) ≡ false → IsSettled w (h ++ steps ts ms)
-  settled-steps policies h [] ms k s u g = subst (IsSettled w) (sym (append-nil h)) s
-  settled-steps policies h (t ∷ ts) [] k s u g = subst (IsSettled w) (sym (append-nil h)) s
-  settled-steps policies h (t ∷ ts) (m ∷ ms) k s u g =
-      let assoc : h ++ step t m ∷ steps ts ms ≡ (h ++ step t m ∷ []) ++ steps ts ms = sym (append_assoc h (step t m ∷ []) (steps ts ms)) in
-      let unshut : is_shut ((h ++ step t m ∷ []) ++ steps ts ms) ≡ false = ap is_shut (sym assoc) ∙ u in
-      let going : gave_up w (exchanges ((h ++ step t m ∷ []) ++ steps ts ms)) ≡ false = ap (λ z. gave_up w (exchanges z)) (sym assoc) ∙ g in
+  -- after the first n turns of a trace, until shutdown
+  pub settled-each : (policies : ℕ → ℕ → O → Option ℕ) (h : List (Step O)) (ts : List Turn) (ms : List (Made O)) → IsTrace w policies h ts ms → IsSettled w h → (n : ℕ)
+      → is_shut (h ++ take n (steps ts ms)) ≡ false → gave_up w (exchanges (h ++ take n (steps ts ms))) ≡ false → IsSettled w (h ++ take n (steps ts ms))
+  settled-each policies h ts ms k s zero u g = subst (IsSettled w) (sym (append-nil h)) s
+  settled-each policies h [] ms k s (suc n) u g = subst (IsSettled w) (sym (append-nil h)) s
+  settled-each policies h (t ∷ ts) [] k s (suc n) u g = subst (IsSettled w) (sym (append-nil h)) s
+  settled-each policies h (t ∷ ts) (m ∷ ms) k s (suc n) u g =
+      let rest : List (Step O) = take n (steps ts ms) in
+      let assoc : h ++ step t m ∷ rest ≡ (h ++ step t m ∷ []) ++ rest = sym (append_assoc h (step t m ∷ []) rest) in
+      let unshut : is_shut ((h ++ step t m ∷ []) ++ rest) ≡ false = ap is_shut (sym assoc) ∙ u in
+      let going : gave_up w (exchanges ((h ++ step t m ∷ []) ++ rest)) ≡ false = ap (λ z. gave_up w (exchanges z)) (sym assoc) ∙ g in
       subst (IsSettled w) (sym assoc)
-      (settled-steps (λ n. policies (n + 1)) (h ++ step t m ∷ []) ts ms k.2
-      (settled-turn h t m (shut-before (h ++ step t m ∷ []) (steps ts ms) unshut)
-      (gave_up-before w (exchanges (h ++ step t m ∷ [])) (exchanges (steps ts ms)) (ap (gave_up w) (sym (exchanges-append (h ++ step t m ∷ []) (steps ts ms))) ∙ going)) (policies 0) k.1 s)
-      unshut going)
+      (settled-each (λ n. policies (n + 1)) (h ++ step t m ∷ []) ts ms k.2
+      (settled-turn h t m (shut-before (h ++ step t m ∷ []) rest unshut)
+      (gave_up-before w (exchanges (h ++ step t m ∷ [])) (exchanges rest) (ap (gave_up w) (sym (exchanges-append (h ++ step t m ∷ []) rest)) ∙ going)) (policies 0) k.1 s)
+      n unshut going)
 
-  -- in every trace until shutdown
-  pub settled-trace : (policies : ℕ → ℕ → O → Option ℕ) (ts : List Turn) (ms : List (Made O)) → IsTrace w policies [] ts ms
-      → is_shut (steps ts ms) ≡ false → gave_up w (exchanges (steps ts ms)) ≡ false → IsSettled w (steps ts ms)
-  settled-trace policies ts ms k u g = settled-steps policies [] ts ms k tt u g
+  -- where shutdown came in no turn of a history and of a trace after it, the history and each front of the trace are settled
+  pub settled-fronts : (policies : ℕ → ℕ → O → Option ℕ) (h : List (Step O)) (ts : List Turn) (ms : List (Made O)) → IsTrace w policies h ts ms → IsSettled w h
+      → is_shut (h ++ steps ts ms) ≡ false → gave_up w (exchanges (h ++ steps ts ms)) ≡ false → (n : ℕ) → IsSettled w (h ++ take n (steps ts ms))
+  settled-fronts policies h ts ms k s u g n =
+      let front : List (Step O) = h ++ take n (steps ts ms) in
+      let back : List (Step O) = drop n (steps ts ms) in
+      let whole : front ++ back ≡ h ++ steps ts ms = append_assoc h (take n (steps ts ms)) back ∙ ap (λ z. h ++ z) (take-append-drop n (steps ts ms)) in
+      settled-each policies h ts ms k s n (shut-before front back (ap is_shut whole ∙ u))
+      (gave_up-before w (exchanges front) (exchanges back) (ap (gave_up w) (sym (exchanges-append front back)) ∙ ap (λ z. gave_up w (exchanges z)) whole ∙ g))
+
+  -- in every trace, after each turn until shutdown
+  pub settled-trace : (policies : ℕ → ℕ → O → Option ℕ) (ts : List Turn) (ms : List (Made O)) → IsTrace w policies [] ts ms → (n : ℕ)
+      → is_shut (take n (steps ts ms)) ≡ false → gave_up w (exchanges (take n (steps ts ms))) ≡ false → IsSettled w (take n (steps ts ms))
+  settled-trace policies ts ms k n u g = settled-each policies [] ts ms k tt n u g

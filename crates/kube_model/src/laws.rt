@@ -11,7 +11,9 @@ ghost use Rattle.kube_model.specs.Owed.{is_initial, owed, seen};
 ghost use Rattle.kube_model.specs.Fits.{silent_since};
 ghost use Rattle.kube_model.specs.Shapes.{shapes, dated_shapes};
 ghost use Rattle.kube_model.specs.SecondForms.{initial_after, running_after};
-ghost use Rattle.kube_model.specs.Takes.{running, found_with, has_room, within_room};
+ghost use Rattle.kube_model.specs.Takes.{running, candidates, found_with, has_room, within_room};
+ghost use Rattle.kube_model.specs.Stored.{may_take, stored_in};
+ghost use Rattle.kube_model.specs.Turns.{running_in};
 ghost use Rattle.kube_model.specs.Queue.{QueueEvent, Frozen, entry, waiting};
 ghost use Rattle.kube_model.specs.WaitingOnce.{HasEachOnce, is_among, is_frozen, AreInOrder, IsEntry};
 ghost use Rattle.kube_model.specs.Reads.{Reads};
@@ -70,13 +72,17 @@ pub fn what_is_told_determines_the_trace<O, B>()
         → IsTrace w policies h ts ms → IsTrace w policies h ts ns → map (told_in w) ms ≡ map (told_in w) ns → ms ≡ ns }
 {}
 
-/// Of the candidates exactly those are taken before which fewer than the room are found.
-pub fn taken_where_there_is_room<O>()
-    ensures { (limit running : ℕ) (before after : List (Taken O)) (t : Taken O)
-        → within_room limit running 0 (before ++ t ∷ after)
-        ≡ within_room limit running 0 before
-        ++ ((if has_room limit running (count_by (λ u. is_some u.object) before) then t ∷ [] else [])
-        ++ within_room limit running (found_with (count_by (λ u. is_some u.object) before) t.object) after) }
+/// A turn takes exactly the due ones that nothing held back: where the store is ready and shutdown came neither before nor
+/// in it, each waiting message with no equal running one is taken, as it was found, exactly where fewer than the room are
+/// found before it; else nothing is taken.
+pub fn exactly_the_due_ones_are_taken<O, B>()
+    ensures due { (w : World O B) (policies : ℕ → O → Option ℕ) (h : List (Step O)) (t : Turn) (m : Made O) → IsRecord w policies h t m → may_take w h t m.1 m.0.exchanges ≡ true
+        → (before after : List (Taken O)) (u : Taken O)
+        → (stored_in w h t m.1 m.0.exchanges).found_of (map (λ z. z.entry.message) (candidates (running_in w h t) (waiting_in w h t m.1 m.0.finished m.0.exchanges))) ≡ before ++ u ∷ after
+        → (n running : ℕ) → n ≡ count_by (λ v. is_some v.object) before → running ≡ length (running_in w h t)
+        → m.0.taken ≡ within_room w.limit running 0 before ++ ((if has_room w.limit running n then u ∷ [] else []) ++ within_room w.limit running (found_with n u.object) after) }
+    ensures nothing { (w : World O B) (policies : ℕ → O → Option ℕ) (h : List (Step O)) (t : Turn) (m : Made O) → IsRecord w policies h t m → may_take w h t m.1 m.0.exchanges ≡ false
+        → m.0.taken ≡ [] }
 {}
 
 /// What a record shows is the last complete list of the root, changed by the items of later watches since.
@@ -98,5 +104,6 @@ pub fn watchers_look_at_calls_and_answers<O, V>()
 /// asked or the backoff gives up, every stored object was last handed over as it stands, or its key has an entry.
 pub fn nothing_stays_unreconciled<O, B>()
     ensures { (w : World O B) (settings : Settings) → feed_of w 0 ≡ Watched settings → (policies : ℕ → ℕ → O → Option ℕ) (ts : List Turn) (ms : List (Made O))
-        → IsTrace w policies [] ts ms → is_shut (steps ts ms) ≡ false → gave_up w (exchanges (steps ts ms)) ≡ false → IsSettled w (steps ts ms) }
+        → IsTrace w policies [] ts ms → (n : ℕ) → is_shut (take n (steps ts ms)) ≡ false → gave_up w (exchanges (take n (steps ts ms))) ≡ false
+        → IsSettled w (take n (steps ts ms)) }
 {}

@@ -4,7 +4,7 @@ use Rattle.kube_meta.specs.declared.poll.Next.{Next}
 use Rattle.kube_meta.specs.declared.poll.Next.TheVariants.{Item, NotReady, Spent, End}
 use Rattle.kube_model.specs.declared.error.Error.{Error}
 use Rattle.kube_model.specs.Raw.{grown}
-use Rattle.kube_model.specs.Streams.{StreamAnswer, Gives, GivesError, Waits, GivesNothing, Ends, Unnamed as HasNoName}
+use Rattle.kube_model.specs.Streams.{StreamAnswer, Gives, GivesError, IsWaiting, GivesNothing, Ends, Unnamed as HasNoName}
 use Rattle.kube_watch.specs.declared.stream.StreamFault.{StreamFault}
 use Rattle.kube_watch.specs.declared.stream.StreamFault.TheVariants.{NoMemory, Unnamed}
 
@@ -22,7 +22,7 @@ told_after told (Err NoMemory) = told
 abbrev pub stream_answer : {I O : Type 0} → (I → O) → Answer I → Option (StreamAnswer O)
 stream_answer value (Ok (Item (Ok item))) = Some (Gives (value item))
 stream_answer value (Ok (Item (Err error))) = Some (GivesError error)
-stream_answer value (Ok NotReady) = Some Waits
+stream_answer value (Ok NotReady) = Some IsWaiting
 stream_answer value (Ok Spent) = Some GivesNothing
 stream_answer value (Ok End) = Some Ends
 stream_answer value (Err Unnamed) = Some HasNoName

@@ -100,10 +100,10 @@ impl<A: ApiMode> Controller<WatchRoot<A>, NoRelated, ()> {
         ensures handed_before { IfErr result (λ e. IfNotBuiltTurn e (λ turn records. Rc.handed reconciler.new
             ≡ grown_by (Rc.handed reconciler.old) (filter_map handed (taken_in (records_of A.Value.type_of records))))) }
 
-        // Each stored object was last handed over as it stands, or its key has an entry.
+        // After each turn each stored object was last handed over as it stands, or its key has an entry.
         ensures settled { (ts : List PlainTurn) (rs : List (PlainRecord A.Value)) → IsTrace (world A.Value.type_of A.Value.meta_of self.old) [] ts rs
             → StandsFor A.Value.type_of A.Value.meta_of (steps ts rs) self.old
-            → IfOk result (λ r. IsSettled (world A.Value.type_of A.Value.meta_of self.old) (steps ts rs ++ steps (turns_of A.Value.type_of turns.items) (records_of A.Value.type_of r.records))) }
+            → IfOk result (λ r. (n : ℕ) → IsSettled (world A.Value.type_of A.Value.meta_of self.old) (steps ts rs ++ take n (steps (turns_of A.Value.type_of turns.items) (records_of A.Value.type_of r.records)))) }
 
         // An error carries the trace of the turns before it.
         ensures before { (h : List (Step A.Value)) → StandsFor A.Value.type_of A.Value.meta_of h self.old
