@@ -25,7 +25,6 @@ use Rattle.kube_model.specs.Traces.{IsValid, Moment, last_moment, unread}
 use Rattle.kube_control.specs.PlainTraces.{step, IsRecord}
 use Rattle.kube_model.specs.SecondForms.{running_after}
 use Rattle.kube_model.proofs.Lasts.{last-push}
-use Rattle.kube_model.proofs.Numbers.{numbered-history}
 use Rattle.kube_model.proofs.Histories.{exchanges-push, running-push, events-push}
 use Rattle.kube_control.specs.declared.watcher.State.{State}
 use Rattle.kube_control.specs.declared.watcher.State.TheVariants.{Start, From, Open}
@@ -152,7 +151,7 @@ module _ {O : Type 0} (t : ObjectType) (meta : O → ObjectMeta) where
     waiting-now : map (λ f. f.entry.message) (waiting_in (world_of t meta) h tn nothing_read [] xs) ≡ waiting_after xs
     waiting-now =
         ap (λ es. map (λ f. f.entry.message) (waiting same_message 0 (events_of (world_of t meta) h ++ es))) events-now
-        ∙ waiting-requested (events_of (world_of t meta) h) at (requested xs) (numbered-history (world_of t meta) h) s.quiet early
+        ∙ waiting-requested (events_of (world_of t meta) h) at (requested xs) s.quiet early
 
     running-now : running_in (world_of t meta) h tn ≡ running h
     running-now = unfinished-none (running h)

@@ -1,6 +1,6 @@
 -- The queue of one turn: of what is requested at one moment and settled, the last of each reference waits, and nothing has an entry once these are taken.
 use Rattle.std.proofs.Common.{◌≡◌, ℕ, ◌+◌, ◌^◌, ◌<◌, ◌≤◌, min, Bool, true, false, ◌||◌, ◌&&◌, ◌==◌, not, cond, nat_lt, nat_le, is_some, List, [], ◌∷◌, ◌++◌, map, Option, Some, None, refl, sym, ap, ◌∙◌, append-nil, zero-add, arith}
-use Rattle.std.specs.List.{fold, filter_map, list_any, cons_option, count_by}
+use Rattle.std.specs.List.{fold, list_any, count_by, AllByRecursion}
 use Rattle.std.specs.Cmp.{IsEquivalence, on_equiv}
 use Rattle.std.proofs.lemmas.Bool.{false≢true}
 use Rattle.std.proofs.lemmas.Bool.Decides.{nat_tests}
@@ -9,9 +9,10 @@ use Rattle.std.proofs.lemmas.List.Elements.{filter_map-append}
 use Rattle.std.proofs.Math.Bool.{or-true}
 use Rattle.kube_meta.specs.ReferenceLaws.{same_reference_equiv}
 use Rattle.kube_model.specs.History.{Message, same_message, Taken}
-use Rattle.kube_model.specs.Queue.{Request, QueueEvent, Requested, Settled, Took, Entry, Frozen, is_request, is_settle, plus, longest_wait, entry, entry_after, entry_of, entry_requested, entry_settled, frozen_by, frozen_at, waiting, goes_before, insert_by, sorted_by}
+use Rattle.kube_model.specs.Queue.{Request, QueueEvent, Requested, Settled, Took, Entry, Frozen, is_request, is_settle, plus, longest_wait, entry, entry_after, entry_of, entry_requested, entry_settled, waiting, goes_before}
 use Rattle.kube_model.specs.Requests.{requested_at, numbered, requested_and_settled, took}
-use Rattle.kube_model.specs.WaitingOnce.{AreNumbered}
+use Rattle.kube_model.specs.WaitingOnce.{is_among, is_frozen, AreInOrder, IsEntry}
+use Rattle.kube_model.proofs.Waits.{waiting-is}
 use Rattle.kube_control.specs.Messages.{last_of_each}
 
 -- the time of an entry that is requested at this moment
@@ -21,8 +22,8 @@ time_at at = min (plus at 0) (plus at longest_wait)
 time-at : (at : ℕ) → at < 2 ^ 63 → time_at at ≡ at
 time-at at h = omega arith
 
-not-before : (s t n j : ℕ) → n < j → (nat_lt s s || (s == s) && (nat_lt t t || (t == t) && nat_lt j n)) ≡ false
-not-before s t n j h = grind (arith, nat_tests)
+goes-first : (s t n j : ℕ) → n < j → (nat_lt s s || (s == s) && (nat_lt t t || (t == t) && nat_lt n j)) ≡ true
+goes-first s t n j h = grind (arith, nat_tests)
 
 module _ (same : Message → Message → Bool) (at settle : ℕ) where
   abbrev fresh : ℕ → Message → Entry Message
@@ -31,8 +32,8 @@ module _ (same : Message → Message → Bool) (at settle : ℕ) where
   abbrev settled : ℕ → Message → Entry Message
   settled n m = record { message = m; time = time_at at; number = n; settle = Some settle }
 
-  abbrev frozen : ℕ → Message → Frozen Message
-  frozen n m = record { settle = settle; entry = settled n m }
+  abbrev frozen_at : ℕ → Message → Frozen Message
+  frozen_at n m = record { settle = settle; entry = settled n m }
 
   abbrev requests : ℕ → List Message → List (QueueEvent Message)
   requests n ms = numbered n at (map (requested_at at) ms)
@@ -107,93 +108,73 @@ module _ (same : Message → Message → Bool) (at settle : ℕ) where
   -- the last of each, frozen
   abbrev frozen_last : ℕ → List Message → List (Frozen Message)
   frozen_last n [] = []
-  frozen_last n (m ∷ ms) = cond (is_in ms m) (frozen_last (n + 1) ms) (frozen n m ∷ frozen_last (n + 1) ms)
+  frozen_last n (m ∷ ms) = cond (is_in ms m) (frozen_last (n + 1) ms) (frozen_at n m ∷ frozen_last (n + 1) ms)
 
   messages-last : (n : ℕ) (ms : List Message) → map (λ f. f.entry.message) (frozen_last n ms) ≡ last_of_each same ms
   messages-last n [] = refl
   messages-last n (m ∷ ms) = go (is_in ms m) (messages-last (n + 1) ms)
     where
       go : (b : Bool) → map (λ f. f.entry.message) (frozen_last (n + 1) ms) ≡ last_of_each same ms
-          → map (λ f. f.entry.message) (cond b (frozen_last (n + 1) ms) (frozen n m ∷ frozen_last (n + 1) ms)) ≡ cond b (last_of_each same ms) (m ∷ last_of_each same ms)
+          → map (λ f. f.entry.message) (cond b (frozen_last (n + 1) ms) (frozen_at n m ∷ frozen_last (n + 1) ms)) ≡ cond b (last_of_each same ms) (m ∷ last_of_each same ms)
       go true h = h
       go false h = ap (λ ms. m ∷ ms) h
 
   -- they stand in their order
-  insert-first : (n j : ℕ) (m : Message) (ms : List Message) → n < j → insert_by goes_before (frozen n m) (frozen_last j ms) ≡ frozen n m ∷ frozen_last j ms
-  insert-first n j m [] h = refl
-  insert-first n j m (x ∷ xs) h = go (is_in xs x) (insert-first n (j + 1) m xs (omega arith))
+  before-last : (n j : ℕ) (m : Message) (ms : List Message) → n < j → AllByRecursion (λ f. goes_before (frozen_at n m) f ≡ true) (frozen_last j ms)
+  before-last n j m [] h = tt
+  before-last n j m (x ∷ xs) h = go (is_in xs x) (before-last n (j + 1) m xs (omega arith))
     where
-      go : (b : Bool) → insert_by goes_before (frozen n m) (frozen_last (j + 1) xs) ≡ frozen n m ∷ frozen_last (j + 1) xs
-          → insert_by goes_before (frozen n m) (cond b (frozen_last (j + 1) xs) (frozen j x ∷ frozen_last (j + 1) xs)) ≡ frozen n m ∷ cond b (frozen_last (j + 1) xs) (frozen j x ∷ frozen_last (j + 1) xs)
-      go true f = f
-      go false f = ap (λ b. cond b (frozen j x ∷ insert_by goes_before (frozen n m) (frozen_last (j + 1) xs)) (frozen n m ∷ frozen j x ∷ frozen_last (j + 1) xs)) (not-before settle (time_at at) n j h)
+      go : (b : Bool) → AllByRecursion (λ f. goes_before (frozen_at n m) f ≡ true) (frozen_last (j + 1) xs)
+          → AllByRecursion (λ f. goes_before (frozen_at n m) f ≡ true) (cond b (frozen_last (j + 1) xs) (frozen_at j x ∷ frozen_last (j + 1) xs))
+      go true r = r
+      go false r = (goes-first settle (time_at at) n j h, r)
 
-  sorted-last : (n : ℕ) (ms : List Message) → sorted_by goes_before (frozen_last n ms) ≡ frozen_last n ms
-  sorted-last n [] = refl
-  sorted-last n (m ∷ ms) = go (is_in ms m) (sorted-last (n + 1) ms)
+  order-last : (n : ℕ) (ms : List Message) → AreInOrder (frozen_last n ms)
+  order-last n [] = tt
+  order-last n (m ∷ ms) = go (is_in ms m) (order-last (n + 1) ms)
     where
-      go : (b : Bool) → sorted_by goes_before (frozen_last (n + 1) ms) ≡ frozen_last (n + 1) ms
-          → sorted_by goes_before (cond b (frozen_last (n + 1) ms) (frozen n m ∷ frozen_last (n + 1) ms)) ≡ cond b (frozen_last (n + 1) ms) (frozen n m ∷ frozen_last (n + 1) ms)
-      go true f = f
-      go false f = ap (insert_by goes_before (frozen n m)) f ∙ insert-first n (n + 1) m ms (omega arith)
+      go : (b : Bool) → AreInOrder (frozen_last (n + 1) ms) → AreInOrder (cond b (frozen_last (n + 1) ms) (frozen_at n m ∷ frozen_last (n + 1) ms))
+      go true r = r
+      go false r = (before-last n (n + 1) m ms (omega arith), r)
 
   settled-fresh : (n : ℕ) (m : Message) → nat_le (time_at at) at ≡ true → entry_settled at settle (Some (fresh n m)) ≡ Some (settled n m)
   settled-fresh n m t = ap (λ b. cond b (Some (settled n m)) (Some (fresh n m))) t
 
-  frozen-other : (n k : ℕ) (m : Message) → n < k → frozen_by n (Some (settled k m)) ≡ None
-  frozen-other n k m h = let e : (k == n) ≡ false = grind (arith, nat_tests) in ap (λ b. cond b (Some (frozen k m)) None) e
-
-  frozen-own : (n : ℕ) (m : Message) → frozen_by n (Some (settled n m)) ≡ Some (frozen n m)
-  frozen-own n m = let e : (n == n) ≡ true = grind (arith, nat_tests) in ap (λ b. cond b (Some (frozen n m)) None) e
-
-  -- what is frozen of these requests, where f says what each entry is in the end
-  waits : (all : List (QueueEvent Message)) (n : ℕ) (ms : List Message) (before : Message → Option (Entry Message)) → ((m : Message) → same m m ≡ true) → nat_le (time_at at) at ≡ true
+  -- each is the entry of its message, where f says what each entry is in the end
+  own-last : (equiv : IsEquivalence same) (all : List (QueueEvent Message)) (n : ℕ) (ms : List Message) (before : Message → Option (Entry Message)) → nat_le (time_at at) at ≡ true
       → ((m : Message) → entry same 0 all m ≡ entry_settled at settle (latest m n ms (before m)))
-      → filter_map (frozen_at same 0 all) (requests n ms) ≡ frozen_last n ms
-  waits all n [] before same-refl t f = refl
-  waits all n (m ∷ ms) before same-refl t f =
-      go (is_in ms m) refl (waits all (n + 1) ms (λ x. cond (same m x) (Some (fresh n m)) (before x)) same-refl t f)
+      → AllByRecursion (IsEntry same 0 all) (frozen_last n ms)
+  own-last equiv all n [] before t f = tt
+  own-last equiv all n (m ∷ ms) before t f =
+      go (is_in ms m) refl (own-last equiv all (n + 1) ms (λ x. cond (same m x) (Some (fresh n m)) (before x)) t f)
     where
-      go : (b : Bool) → is_in ms m ≡ b → filter_map (frozen_at same 0 all) (requests (n + 1) ms) ≡ frozen_last (n + 1) ms
-          → cons_option (frozen_by n (entry same 0 all m)) (filter_map (frozen_at same 0 all) (requests (n + 1) ms)) ≡ cond b (frozen_last (n + 1) ms) (frozen n m ∷ frozen_last (n + 1) ms)
-      go true k h =
-          let i = latest-some m (n + 1) ms (cond (same m m) (Some (fresh n m)) (before m)) k in
-          let l : n + 1 ≤ i.number = i.later in
-          let e : frozen_by n (entry same 0 all m) ≡ None =
-          ap (frozen_by n) (f m ∙ (ap (entry_settled at settle) i.is ∙ settled-fresh i.number i.message t)) ∙ frozen-other n i.number i.message (omega arith) in
-          ap (λ o. cons_option o (filter_map (frozen_at same 0 all) (requests (n + 1) ms))) e ∙ h
-      go false k h =
-          let e : frozen_by n (entry same 0 all m) ≡ Some (frozen n m) =
-          ap (frozen_by n)
-          (f m ∙ (ap (entry_settled at settle) (latest-none m (n + 1) ms (cond (same m m) (Some (fresh n m)) (before m)) k ∙ ap (λ b. cond b (Some (fresh n m)) (before m)) (same-refl m)) ∙ settled-fresh n m t))
-          ∙ frozen-own n m in
-          ap (λ o. cons_option o (filter_map (frozen_at same 0 all) (requests (n + 1) ms))) e ∙ ap (λ fs. frozen n m ∷ fs) h
+      go : (b : Bool) → is_in ms m ≡ b → AllByRecursion (IsEntry same 0 all) (frozen_last (n + 1) ms)
+          → AllByRecursion (IsEntry same 0 all) (cond b (frozen_last (n + 1) ms) (frozen_at n m ∷ frozen_last (n + 1) ms))
+      go true k r = r
+      go false k r =
+          let e : latest m (n + 1) ms (cond (same m m) (Some (fresh n m)) (before m)) ≡ Some (fresh n m) =
+          latest-none m (n + 1) ms (cond (same m m) (Some (fresh n m)) (before m)) k ∙ ap (λ b. cond b (Some (fresh n m)) (before m)) (equiv.refl m) in
+          ((f m ∙ (ap (entry_settled at settle) e ∙ settled-fresh n m t), refl), r)
 
-  -- earlier requests set none of these entries
-  earlier-none : (n k : ℕ) (ms : List Message) (m : Message) → n < k → nat_le (time_at at) at ≡ true → frozen_by n (entry_settled at settle (latest m k ms None)) ≡ None
-  earlier-none n k ms m h t = go (is_in ms m) refl
+  in-same : (m n : Message) (ms : List Message) → ((x : Message) → same x n ≡ true → same x m ≡ true) → is_in ms n ≡ true → is_in ms m ≡ true
+  in-same m n [] f h = absurd (false≢true h)
+  in-same m n (x ∷ xs) f h = go (same x n) refl h (in-same m n xs f)
     where
-      go : (b : Bool) → is_in ms m ≡ b → frozen_by n (entry_settled at settle (latest m k ms None)) ≡ None
-      go true e =
-          let i = latest-some m k ms None e in
-          let l : k ≤ i.number = i.later in
-          ap (λ o. frozen_by n (entry_settled at settle o)) i.is ∙ (ap (frozen_by n) (settled-fresh i.number i.message t) ∙ frozen-other n i.number i.message (omega arith))
-      go false e = ap (λ o. frozen_by n (entry_settled at settle o)) (latest-none m k ms None e)
+      go : (b : Bool) → same x n ≡ b → (b || is_in xs n) ≡ true → (is_in xs n ≡ true → is_in xs m ≡ true) → (same x m || is_in xs m) ≡ true
+      go true e k g = ap (λ c. c || is_in xs m) (f x e)
+      go false e k g = ap (λ c. same x m || c) (g k) ∙ or-true (same x m)
 
-  earlier-wait : (all es : List (QueueEvent Message)) (n k : ℕ) → AreNumbered n es → k ≡ n + count_by is_request es
-      → ((i : ℕ) → i < k → (m : Message) → frozen_by i (entry same 0 all m) ≡ None) → filter_map (frozen_at same 0 all) es ≡ []
-  earlier-wait all [] n k h e f = refl
-  earlier-wait all (Requested q ∷ es) n k h e f =
-      let c : count_by is_request (Requested q ∷ es) ≡ 1 + count_by is_request es = sum_by-cons (λ x. cond (is_request x) 1 0) (Requested q) es in
-      let i : q.number ≡ n = h.0 in
-      ap (λ o. cons_option o (filter_map (frozen_at same 0 all) es)) (f q.number (omega arith) q.message)
-      ∙ earlier-wait all es (n + 1) k h.1 (omega arith) f
-  earlier-wait all (Settled now number ∷ es) n k h e f =
-      let c : count_by is_request (Settled now number ∷ es) ≡ 0 + count_by is_request es = sum_by-cons (λ x. cond (is_request x) 1 0) (Settled now number) es in
-      earlier-wait all es n k h (omega arith) f
-  earlier-wait all (Took m ∷ es) n k h e f =
-      let c : count_by is_request (Took m ∷ es) ≡ 0 + count_by is_request es = sum_by-cons (λ x. cond (is_request x) 1 0) (Took m) es in
-      earlier-wait all es n k h (omega arith) f
+  -- and each that is requested stands there
+  whole-last : IsEquivalence same → (n : ℕ) (ms : List Message) (m : Message) → is_in ms m ≡ true → is_among same (frozen_last n ms) m ≡ true
+  whole-last equiv n [] m h = absurd (false≢true h)
+  whole-last equiv n (x ∷ xs) m h = go (is_in xs x) (same x m) refl refl h (whole-last equiv (n + 1) xs m)
+    where
+      go : (b c : Bool) → is_in xs x ≡ b → same x m ≡ c → c || is_in xs m ≡ true → (is_in xs m ≡ true → is_among same (frozen_last (n + 1) xs) m ≡ true)
+          → is_among same (cond b (frozen_last (n + 1) xs) (frozen_at n x ∷ frozen_last (n + 1) xs)) m ≡ true
+      go true true i s h r = r (in-same m x xs (λ y d. equiv.congr y x m d ∙ s) i)
+      go true false i s h r = r h
+      go false true i s h r = ap (λ b. b || is_among same (frozen_last (n + 1) xs) m) s
+      go false false i s h r = ap (λ b. same x m || b) (r h) ∙ or-true (same x m)
 
   -- these events, then the requests and a settle
   abbrev turned : List (QueueEvent Message) → ℕ → List Message → List (QueueEvent Message)
@@ -206,22 +187,21 @@ module _ (same : Message → Message → Bool) (at settle : ℕ) where
       ∙ (ap (λ e. fold (entry_after same 0 m) e (requests n ms ++ Settled at settle ∷ [])) h
       ∙ fold-append (entry_after same 0 m) None (requests n ms) (Settled at settle ∷ []))
 
-  waiting-turned : (es : List (QueueEvent Message)) (n : ℕ) (ms : List Message) → ((m : Message) → same m m ≡ true) → AreNumbered 0 es → n ≡ count_by is_request es
+  waiting-turned : IsEquivalence same → (es : List (QueueEvent Message)) (n : ℕ) (ms : List Message)
       → ((m : Message) → entry same 0 es m ≡ None) → nat_le at (time_at at) ≡ true → nat_le (time_at at) at ≡ true
       → map (λ f. f.entry.message) (waiting same 0 (turned es n ms)) ≡ last_of_each same ms
-  waiting-turned es n ms same-refl h c q t u =
+  waiting-turned equiv es n ms q t u =
       let all = turned es n ms in
       let ends : (m : Message) → entry same 0 all m ≡ entry_settled at settle (latest m n ms None) =
       λ m. entry-turned es n ms m (q m) ∙ ap (entry_settled at settle) (fold-requests m n ms None t tt) in
-      let old : filter_map (frozen_at same 0 all) es ≡ [] =
-      earlier-wait all es 0 n h (c ∙ sym (zero-add (count_by is_request es))) (λ i l m. ap (frozen_by i) (ends m) ∙ earlier-none i n ms m l u) in
-      let own : filter_map (frozen_at same 0 all) (requests n ms) ≡ frozen_last n ms = waits all n ms (λ m. None) same-refl u ends in
-      let whole : filter_map (frozen_at same 0 all) all ≡ frozen_last n ms =
-      filter_map-append (frozen_at same 0 all) es (requests n ms ++ Settled at settle ∷ [])
-      ∙ (ap (λ fs. fs ++ filter_map (frozen_at same 0 all) (requests n ms ++ Settled at settle ∷ [])) old
-      ∙ (filter_map-append (frozen_at same 0 all) (requests n ms) (Settled at settle ∷ []) ∙ (append-nil (filter_map (frozen_at same 0 all) (requests n ms)) ∙ own))) in
-      ap (λ fs. map (λ f. f.entry.message) (sorted_by goes_before fs)) whole
-      ∙ (ap (map (λ (f : Frozen Message). f.entry.message)) (sorted-last n ms) ∙ messages-last n ms)
+      ap (map (λ (f : Frozen Message). f.entry.message))
+      (waiting-is same equiv 0 all (frozen_last n ms) (order-last n ms) (own-last equiv all n ms (λ m. None) u ends) (λ m h. requested m (is_in ms m) refl (ends m) h))
+      ∙ messages-last n ms
+    where
+      requested : (m : Message) (b : Bool) → is_in ms m ≡ b → entry same 0 (turned es n ms) m ≡ entry_settled at settle (latest m n ms None)
+          → is_frozen (entry same 0 (turned es n ms) m) ≡ true → is_among same (frozen_last n ms) m ≡ true
+      requested m true k e h = whole-last equiv n ms m k
+      requested m false k e h = absurd (false≢true (ap is_frozen (sym (e ∙ ap (entry_settled at settle) (latest-none m n ms None k))) ∙ h))
 
   -- requests for others make no entry
   none-requests : (m : Message) (n : ℕ) (ms : List Message) → is_in ms m ≡ false → fold (entry_after same 0 m) None (requests n ms) ≡ None
@@ -244,14 +224,6 @@ module _ (same : Message → Message → Bool) (at settle : ℕ) where
       go true true h p q = p ∙ ap (λ x. cond x None None) h
       go true false h p q = p ∙ ap (λ x. cond x None None) h
       go false c h p q = q
-
-  in-same : (m n : Message) (ms : List Message) → ((x : Message) → same x n ≡ true → same x m ≡ true) → is_in ms n ≡ true → is_in ms m ≡ true
-  in-same m n [] f h = absurd (false≢true h)
-  in-same m n (x ∷ xs) f h = go (same x n) refl h (in-same m n xs f)
-    where
-      go : (b : Bool) → same x n ≡ b → (b || is_in xs n) ≡ true → (is_in xs n ≡ true → is_in xs m ≡ true) → (same x m || is_in xs m) ≡ true
-      go true e k g = ap (λ c. c || is_in xs m) (f x e)
-      go false e k g = ap (λ c. same x m || c) (g k) ∙ or-true (same x m)
 
   -- what was requested is among the last of each
   in-last : IsEquivalence same → (m : Message) (ms : List Message) → is_in ms m ≡ true → is_in (last_of_each same ms) m ≡ true
@@ -285,12 +257,12 @@ equivalence : IsEquivalence same_message
 equivalence = on_equiv (λ (m : Message). m.reference) same_reference_equiv
 
 -- of what is requested at one moment and settled, the last of each reference waits
-pub waiting-requested : (es : List (QueueEvent Message)) (at : ℕ) (ms : List Message) → AreNumbered 0 es → ((m : Message) → entry same_message 0 es m ≡ None) → at < 2 ^ 63
+pub waiting-requested : (es : List (QueueEvent Message)) (at : ℕ) (ms : List Message) → ((m : Message) → entry same_message 0 es m ≡ None) → at < 2 ^ 63
     → map (λ f. f.entry.message) (waiting same_message 0 (es ++ requested_and_settled es at (map (requested_at at) ms))) ≡ last_of_each same_message ms
-waiting-requested es at ms h q b =
+waiting-requested es at ms q b =
     let t : time_at at ≡ at = time-at at b in
     let own : nat_le at at ≡ true = grind (arith, nat_tests) in
-    waiting-turned same_message at (count_by is_settle es) es (count_by is_request es) ms equivalence.refl h refl q (ap (nat_le at) t ∙ own) (ap (λ k. nat_le k at) t ∙ own)
+    waiting-turned same_message at (count_by is_settle es) equivalence es (count_by is_request es) ms q (ap (nat_le at) t ∙ own) (ap (λ k. nat_le k at) t ∙ own)
 
 -- nothing has an entry once these are taken
 pub entries-taken : {O : Type 0} (es : List (QueueEvent Message)) (at : ℕ) (ms : List Message) (ts : List (Taken O)) → ((m : Message) → entry same_message 0 es m ≡ None)

@@ -18,7 +18,6 @@ use Rattle.kube_model.specs.Named.{EachIsNamed}
 use Rattle.kube_model.specs.WaitingOnce.{HasEachOnce}
 use Rattle.kube_model.proofs.Alls.{all-append}
 use Rattle.kube_model.proofs.Histories.{exchanges-push, running-push, events-push}
-use Rattle.kube_model.proofs.Numbers.{numbered-turn, numbered-history}
 use Rattle.kube_model.proofs.Waits.{waiting-once}
 use Rattle.kube_history.specs.CoreWorld.{core_world}
 use Rattle.kube_history.specs.CoreEvents.{CoreEvent, Settled, Took, answers_in, was_shut, clock_of, running_of, queue_after, queue_of, next_taken}
@@ -159,7 +158,6 @@ module _ {O B : Type 0} (w : World O B) (settings : Settings) (watched : feed_of
   once : HasEachOnce same_message (waiting_in w h t m.1 m.0.finished m.0.exchanges)
   once =
       waiting-once same_message (seen_equiv (λ (m : Message). m.reference)) w.debounce (events_of w h ++ turn_events w h (events_of w h) t m.1 m.0.finished m.0.exchanges)
-      (numbered-turn w h (events_of w h) t m.1 m.0.finished m.0.exchanges (numbered-history w h))
 
   replies-taking : (g y : Bool) → gave_up w (exchanges_with h t m.0.exchanges) ≡ g → is_ready (exchanges_of 0 (exchanges_with h t m.0.exchanges)) ≡ y → AreReplies (core_world w) ended taking
   replies-taking true y e f = none-replies (none-shut (core_world w) ended (shut-ended ∙ e)) (none-over w settings watched policies h t m k (over-is ∙ e))

@@ -9,7 +9,7 @@ use Rattle.kube_meta.specs.Reference.{Reference}
 use Rattle.kube_meta.specs.ReferenceLaws.{seen_equiv}
 use Rattle.kube_model.specs.History.{Message, same_message, Taken, exchanges_of}
 use Rattle.kube_model.specs.Store.{is_ready, found, store_of}
-use Rattle.kube_model.specs.Queue.{QueueEvent, Requested as QueueRequested, Settled as QueueSettled, Took as QueueTook, Request, Frozen, entry, entry_after, frozen_by, frozen_at, waiting, sorted_by, goes_before}
+use Rattle.kube_model.specs.Queue.{QueueEvent, Took as QueueTook, Frozen, entry, entry_after, frozen, requested_message, distinct, waiting, sorted_by, goes_before}
 use Rattle.kube_model.specs.Requests.{took}
 use Rattle.kube_model.specs.Takes.{Running, started, candidates, has_room, within_room, taken_of, found_in}
 use Rattle.kube_model.specs.WaitingOnce.{HasEachOnce}
@@ -46,33 +46,32 @@ module _ (d : ℕ) (es : List (QueueEvent Message)) (m : Message) where
   keeps None fs h = refl
   keeps (Some f) fs h = ap (λ b. cond (not b) (f ∷ filter stays fs) (filter stays fs)) (h f refl)
 
-  -- a frozen entry is of its request's message
-  of-request : (q : Request Message) (f : Frozen Message) → frozen_by q.number (entry same_message d es q.message) ≡ Some f → same_message m f.entry.message ≡ same_message m q.message
-  of-request q f e =
-      let one : same_message f.entry.message q.message ≡ true = (frozen-own same_message message_equiv d es q f e).2 in
-      message_equiv.symm m f.entry.message ∙ (message_equiv.congr f.entry.message q.message m one ∙ message_equiv.symm q.message m)
-
-  frozen-after : (fs : List (QueueEvent Message)) → filter_map (frozen_at same_message d after) fs ≡ filter stays (filter_map (frozen_at same_message d es) fs)
+  frozen-after : (ns : List Message) → filter_map (λ n. frozen (entry same_message d after n)) ns ≡ filter stays (filter_map (λ n. frozen (entry same_message d es n)) ns)
   frozen-after [] = refl
-  frozen-after (QueueRequested q ∷ fs) = go (same_message m q.message) refl (frozen-after fs)
+  frozen-after (n ∷ ns) = go (same_message m n) refl (frozen-after ns)
     where
-      go : (b : Bool) → same_message m q.message ≡ b
-          → filter_map (frozen_at same_message d after) fs ≡ filter stays (filter_map (frozen_at same_message d es) fs)
-          → cons_option (frozen_by q.number (entry same_message d after q.message)) (filter_map (frozen_at same_message d after) fs)
-          ≡ filter stays (cons_option (frozen_by q.number (entry same_message d es q.message)) (filter_map (frozen_at same_message d es) fs))
+      is-of : (f : Frozen Message) → frozen (entry same_message d es n) ≡ Some f → same_message m f.entry.message ≡ same_message m n
+      is-of f e = message_equiv.symm m f.entry.message ∙ (message_equiv.congr f.entry.message n m (frozen-own same_message message_equiv d es n f e).1 ∙ message_equiv.symm n m)
+
+      go : (b : Bool) → same_message m n ≡ b
+          → filter_map (λ n. frozen (entry same_message d after n)) ns ≡ filter stays (filter_map (λ n. frozen (entry same_message d es n)) ns)
+          → cons_option (frozen (entry same_message d after n)) (filter_map (λ n. frozen (entry same_message d after n)) ns)
+          ≡ filter stays (cons_option (frozen (entry same_message d es n)) (filter_map (λ n. frozen (entry same_message d es n)) ns))
       go true e rest =
-          ap (λ o. cons_option (frozen_by q.number o) (filter_map (frozen_at same_message d after) fs)) (entry-after q.message ∙ ap (λ b. if b then None else entry same_message d es q.message) e)
-          ∙ (rest ∙ sym (drops (frozen_by q.number (entry same_message d es q.message)) (filter_map (frozen_at same_message d es) fs) (λ f k. of-request q f k ∙ e)))
+          ap (λ o. cons_option (frozen o) (filter_map (λ n. frozen (entry same_message d after n)) ns)) (entry-after n ∙ ap (λ b. if b then None else entry same_message d es n) e)
+          ∙ (rest ∙ sym (drops (frozen (entry same_message d es n)) (filter_map (λ n. frozen (entry same_message d es n)) ns) (λ f k. is-of f k ∙ e)))
       go false e rest =
-          ap (λ o. cons_option (frozen_by q.number o) (filter_map (frozen_at same_message d after) fs)) (entry-after q.message ∙ ap (λ b. if b then None else entry same_message d es q.message) e)
-          ∙ (ap (cons_option (frozen_by q.number (entry same_message d es q.message))) rest ∙ sym (keeps (frozen_by q.number (entry same_message d es q.message)) (filter_map (frozen_at same_message d es) fs) (λ f k. of-request q f k ∙ e)))
-  frozen-after (QueueSettled now number ∷ fs) = frozen-after fs
-  frozen-after (QueueTook n ∷ fs) = frozen-after fs
+          ap (λ o. cons_option (frozen o) (filter_map (λ n. frozen (entry same_message d after n)) ns)) (entry-after n ∙ ap (λ b. if b then None else entry same_message d es n) e)
+          ∙ (ap (cons_option (frozen (entry same_message d es n))) rest ∙ sym (keeps (frozen (entry same_message d es n)) (filter_map (λ n. frozen (entry same_message d es n)) ns) (λ f k. is-of f k ∙ e)))
+
+  requested-after : filter_map requested_message after ≡ filter_map requested_message es
+  requested-after = filter_map-append requested_message es (QueueTook m ∷ []) ∙ append-nil (filter_map requested_message es)
 
   pub waiting-took : waiting same_message d (es ++ QueueTook m ∷ []) ≡ without m (waiting same_message d es)
   waiting-took =
-      ap (sorted_by goes_before) (filter_map-append (frozen_at same_message d after) es (QueueTook m ∷ []) ∙ (append-nil (filter_map (frozen_at same_message d after) es) ∙ frozen-after es))
-      ∙ sym (filter-sorted goes_before before-orders stays (filter_map (frozen_at same_message d es) es))
+      ap (λ ms. sorted_by goes_before (filter_map (λ n. frozen (entry same_message d after n)) (distinct same_message ms))) requested-after
+      ∙ ap (sorted_by goes_before) (frozen-after (distinct same_message (filter_map requested_message es)))
+      ∙ sym (filter-sorted goes_before before-orders stays (filter_map (λ n. frozen (entry same_message d es n)) (distinct same_message (filter_map requested_message es))))
 
 -- There are takes one after another, and so they are those of a turn.
 module _ {O : Type 0} (l : ℕ) (look : ℕ → Message → Option O) where

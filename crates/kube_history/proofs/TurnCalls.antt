@@ -13,7 +13,6 @@ use Rattle.kube_model.specs.Turns.{running_in, record_with, next_source, AreRead
 use Rattle.kube_model.specs.Traces.{IsValid, AreFinishesOf, EachIsNext, IsRecord}
 use Rattle.kube_model.specs.Takes.{running}
 use Rattle.kube_model.specs.WaitingOnce.{HasEachOnce}
-use Rattle.kube_model.proofs.Numbers.{numbered-turn, numbered-history}
 use Rattle.kube_model.proofs.Waits.{waiting-once}
 use Rattle.kube_history.specs.InTurn.{AreTaken}
 use Rattle.kube_history.specs.TurnCalls.{with_requests, look_by, TakesBy, ReaderAnswers, ReadsBy, ReadsAndTakes}
@@ -62,7 +61,6 @@ module _ {O B : Type 0} (w : World O B) (h : List (Step O)) (t : Turn) (r : Read
   once : HasEachOnce same_message (waiting_in w h t r fs xs)
   once =
       waiting-once same_message (seen_equiv (λ (n : Message). n.reference)) w.debounce (events_of w h ++ turn_events w h (events_of w h) t r fs xs)
-      (numbered-turn w h (events_of w h) t r fs xs (numbered-history w h))
 
   -- what is found of the candidates is what the look-ups answer
   looks : (feed : Feed) → ReadsFit w feed h t r fs xs → may_take w h t r xs ≡ true

@@ -8,7 +8,6 @@ pub mod HandedOver
 pub mod Histories
 pub mod SettledSteps
 pub mod Waits
-pub mod Numbers
 pub mod Joins
 pub mod ShapeLemmas
 pub mod Fronts

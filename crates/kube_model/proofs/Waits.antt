@@ -1,12 +1,13 @@
--- The waiting list has each message once, and exactly the frozen ones, where the requests are numbered in order.
-use Rattle.std.proofs.Common.{◌≡◌, ℕ, ◌+◌, ◌≤◌, Bool, true, false, not, ◌&&◌, ◌||◌, ◌==◌, List, [], ◌∷◌, ◌++◌, Option, Some, None, if◌then◌else◌, is_some, nat_le, refl, sym, ap, subst, ◌∙◌, append_assoc, append-nil, arith}
-use Rattle.std.specs.List.{fold, filter_map, cons_option, list_any, AllByRecursion}
+-- The waiting list has each message once, and exactly the frozen ones; it is the list of the frozen entries that goes by their order.
+use Rattle.std.proofs.Common.{◌≡◌, ℕ, Bool, true, false, not, ◌&&◌, ◌||◌, cond, List, [], ◌∷◌, Option, Some, None, if◌then◌else◌, is_some, nat_le, refl, sym, ap, subst, ◌∙◌, arith}
+use Rattle.std.specs.List.{fold, filter, filter_map, cons_option, list_any, AllByRecursion}
+use Rattle.std.specs.Option.{option_map}
 use Rattle.std.specs.Cmp.{IsEquivalence}
-use Rattle.std.proofs.lemmas.Bool.{false≢true, eqb-true, eq-eqb}
-use Rattle.std.proofs.lemmas.List.Folds.{list_any-append}
+use Rattle.std.proofs.lemmas.Bool.{false≢true}
+use Rattle.std.proofs.lemmas.Bool.Decides.{nat_tests}
 use Rattle.std.proofs.Math.Bool.{or-true}
-use Rattle.kube_model.specs.Queue.{Request, QueueEvent, Requested, Settled, Took, Entry, Frozen, entry, entry_after, entry_of, entry_requested, entry_settled, frozen_by, frozen_entry, frozen_at, waiting, sorted_by, insert_by, goes_before}
-use Rattle.kube_model.specs.WaitingOnce.{AreNumbered, is_among, HasEachOnce, is_frozen}
+use Rattle.kube_model.specs.Queue.{Request, QueueEvent, Requested, Settled, Took, Entry, Frozen, entry, entry_after, entry_of, entry_requested, entry_settled, frozen, requested_message, distinct, waiting, sorted_by, insert_by, goes_before}
+use Rattle.kube_model.specs.WaitingOnce.{is_among, HasEachOnce, is_frozen, AreInOrder, IsEntry}
 use Rattle.kube_model.proofs.Alls.{or-left, or-right}
 
 -- a sorted list has what the list has
@@ -28,12 +29,23 @@ any-sorted : {A : Type 0} (before : A → A → Bool) (p : A → Bool) (xs : Lis
 any-sorted before p [] = refl
 any-sorted before p (x ∷ xs) = any-insert before p x (sorted_by before xs) ∙ ap (λ c. p x || c) (any-sorted before p xs)
 
+-- what is before goes not behind
+one-way : {M : Type 0} (a b : Frozen M) → goes_before a b ≡ true → goes_before b a ≡ false
+one-way a b h = grind (arith, nat_tests)
+
+insert-first : {M : Type 0} (x : Frozen M) (ys : List (Frozen M)) → AllByRecursion (λ y. goes_before x y ≡ true) ys → insert_by goes_before x ys ≡ x ∷ ys
+insert-first x [] h = refl
+insert-first x (y ∷ ys) h = ap (λ b. if b then y ∷ insert_by goes_before x ys else x ∷ y ∷ ys) (one-way x y h.0)
+
+abbrev as_frozen : {M : Type 0} → Entry M → ℕ → Frozen M
+as_frozen e settle = record { settle = settle; entry = e }
+
+frozen-alike : {M : Type 0} (f g : Frozen M) → f.settle ≡ g.settle → f.entry ≡ g.entry → f ≡ g
+frozen-alike f g h k = ap (as_frozen f.entry) h ∙ ap (λ e. as_frozen e g.settle) k
+
 module _ {M : Type 0} (same : M → M → Bool) (equiv : IsEquivalence same) (debounce : ℕ) where
   alike : (a b x : M) → same a b ≡ true → same x a ≡ same x b
   alike a b x h = equiv.symm x a ∙ (equiv.congr a b x h ∙ equiv.symm b x)
-
-  on_from : M → Option (Entry M) → List (QueueEvent M) → Option (Entry M)
-  on_from m e events = fold (entry_after same debounce m) e events
 
   -- entries of messages that are the same are equal
   pub entry-alike : (es : List (QueueEvent M)) (m n : M) → same m n ≡ true → entry same debounce es m ≡ entry same debounce es n
@@ -81,93 +93,140 @@ module _ {M : Type 0} (same : M → M → Bool) (equiv : IsEquivalence same) (de
   entry-of : (es : List (QueueEvent M)) (m : M) (e : Entry M) → entry same debounce es m ≡ Some e → same e.message m ≡ true
   entry-of es m e h = subst (IsOf m) h (of-from m None es tt)
 
-  -- what is frozen by a number is an entry of that number
-  frozen-number : (number : ℕ) (e : Entry M) (s : Option ℕ) (f : Frozen M) → frozen_entry number e s ≡ Some f → (e ≡ f.entry) × (e.number ≡ number) × (s ≡ Some f.settle)
-  frozen-number number e None f h = absurd (cc)
-  frozen-number number e (Some settle) f h = go (e.number == number) refl h
+  pub frozen-own : (events : List (QueueEvent M)) (m : M) (f : Frozen M) → frozen (entry same debounce events m) ≡ Some f → IsEntry same debounce events f × (same f.entry.message m ≡ true)
+  frozen-own events m f h = go (entry same debounce events m) refl h
     where
-      go : (b : Bool) → (e.number == number) ≡ b → (if b then Some (record { settle = settle; entry = e }) else None) ≡ Some f
-          → (e ≡ f.entry) × (e.number ≡ number) × (Some settle ≡ Some f.settle)
-      go true n h =
-          let same_one : record { settle = settle; entry = e } ≡ f = cc in
-          (ap (λ (g : Frozen M). g.entry) same_one, eqb-true e.number number n, ap (λ (g : Frozen M). Some g.settle) same_one)
-      go false n h = absurd (cc)
+      settled : (e : Entry M) (s : Option ℕ) → e.settle ≡ s → entry same debounce events m ≡ Some e → option_map (as_frozen e) s ≡ Some f
+          → IsEntry same debounce events f × (same f.entry.message m ≡ true)
+      settled e None k i h = absurd (cc)
+      settled e (Some n) k i h =
+          let one : as_frozen e n ≡ f = cc in
+          let of : same e.message m ≡ true = entry-of events m e i in
+          subst (λ g. IsEntry same debounce events g × (same g.entry.message m ≡ true)) one ((entry-alike events e.message m of ∙ i, k), of)
 
-  -- it is the entry of its own message among these events
-  abbrev IsOwn : List (QueueEvent M) → Frozen M → Type 0
-  IsOwn events f = (entry same debounce events f.entry.message ≡ Some f.entry) × (f.entry.settle ≡ Some f.settle)
-
-  pub frozen-own : (events : List (QueueEvent M)) (q : Request M) (f : Frozen M) → frozen_by q.number (entry same debounce events q.message) ≡ Some f
-      → IsOwn events f × (f.entry.number ≡ q.number) × (same f.entry.message q.message ≡ true)
-  frozen-own events q f h = go (entry same debounce events q.message) refl h
-    where
-      go : (o : Option (Entry M)) → entry same debounce events q.message ≡ o → frozen_by q.number o ≡ Some f
-          → IsOwn events f × (f.entry.number ≡ q.number) × (same f.entry.message q.message ≡ true)
+      go : (o : Option (Entry M)) → entry same debounce events m ≡ o → frozen o ≡ Some f → IsEntry same debounce events f × (same f.entry.message m ≡ true)
       go None k h = absurd (cc)
-      go (Some e) k h =
-          let p : (e ≡ f.entry) × (e.number ≡ q.number) × (e.settle ≡ Some f.settle) = frozen-number q.number e e.settle f h in
-          let own : entry same debounce events q.message ≡ Some f.entry = k ∙ ap Some p.0 in
-          let of : same f.entry.message q.message ≡ true = entry-of events q.message f.entry own in
-          ((entry-alike events f.entry.message q.message of ∙ own, ap (λ (g : Entry M). g.settle) (sym p.0) ∙ p.2), ap (λ (g : Entry M). g.number) (sym p.0) ∙ p.1, of)
+      go (Some e) k h = settled e e.settle refl k h
 
-  abbrev frozen_in : List (QueueEvent M) → List (QueueEvent M) → List (Frozen M)
-  frozen_in events es = filter_map (frozen_at same debounce events) es
+  -- own entries of messages that are the same are equal
+  own-one : (events : List (QueueEvent M)) (f g : Frozen M) → IsEntry same debounce events f → IsEntry same debounce events g → same f.entry.message g.entry.message ≡ true → f ≡ g
+  own-one events f g h k s =
+      let entries : Some f.entry ≡ Some g.entry = sym h.0 ∙ (entry-alike events f.entry.message g.entry.message s ∙ k.0) in
+      let e : f.entry ≡ g.entry = cc in
+      let settles : Some f.settle ≡ Some g.settle = sym h.1 ∙ (ap (λ (x : Entry M). x.settle) e ∙ k.1) in
+      let n : f.settle ≡ g.settle = cc in
+      frozen-alike f g n e
 
-  all-more : (n : ℕ) (fs : List (Frozen M)) → AllByRecursion (λ f. n + 1 ≤ f.entry.number) fs → AllByRecursion (λ f. n ≤ f.entry.number) fs
-  all-more n [] h = tt
-  all-more n (f ∷ fs) h = (let k = h.0 in omega arith, all-more n fs h.1)
+  -- whether a message is among these
+  abbrev is_in : List M → M → Bool
+  is_in ms m = list_any (λ n. same n m) ms
 
-  cons-all : (P : Frozen M → Type 0) (o : Option (Frozen M)) (fs : List (Frozen M)) → ((f : Frozen M) → o ≡ Some f → P f) → AllByRecursion P fs → AllByRecursion P (cons_option o fs)
-  cons-all P None fs h k = k
-  cons-all P (Some f) fs h k = (h f refl, k)
+  in-alike : (ms : List M) (m n : M) → same m n ≡ true → is_in ms m ≡ is_in ms n
+  in-alike [] m n h = refl
+  in-alike (x ∷ xs) m n h = ap (λ b. b || is_in xs m) (alike m n x h) ∙ ap (λ b. same x n || b) (in-alike xs m n h)
 
-  -- their numbers go on from n, and each is its message's own
-  numbers-from : (events es : List (QueueEvent M)) (n : ℕ) → AreNumbered n es → AllByRecursion (λ f. n ≤ f.entry.number) (frozen_in events es)
-  numbers-from events [] n h = tt
-  numbers-from events (Requested q ∷ es) n h =
-      cons-all (λ f. n ≤ f.entry.number) (frozen_by q.number (entry same debounce events q.message)) (frozen_in events es)
-      (λ f e. let k : f.entry.number ≡ q.number = (frozen-own events q f e).1 in let l : q.number ≡ n = h.0 in omega arith)
-      (all-more n (frozen_in events es) (numbers-from events es (n + 1) h.1))
-  numbers-from events (Settled now number ∷ es) n h = numbers-from events es n h
-  numbers-from events (Took m ∷ es) n h = numbers-from events es n h
+  among-alike : (fs : List (Frozen M)) (m n : M) → same m n ≡ true → is_among same fs m ≡ is_among same fs n
+  among-alike [] m n h = refl
+  among-alike (f ∷ fs) m n h = ap (λ b. b || is_among same fs m) (alike m n f.entry.message h) ∙ ap (λ b. same f.entry.message n || b) (among-alike fs m n h)
 
-  each-own : (events es : List (QueueEvent M)) → AllByRecursion (IsOwn events) (frozen_in events es)
-  each-own events [] = tt
-  each-own events (Requested q ∷ es) =
-      cons-all (IsOwn events) (frozen_by q.number (entry same debounce events q.message)) (frozen_in events es) (λ f e. (frozen-own events q f e).0) (each-own events es)
-  each-own events (Settled now number ∷ es) = each-own events es
-  each-own events (Took m ∷ es) = each-own events es
+  -- The frozen entries of distinct messages.
+  module _ (events : List (QueueEvent M)) where
+    abbrev frozen_of : M → Option (Frozen M)
+    frozen_of m = frozen (entry same debounce events m)
 
-  -- none later is of the same message
-  none-later : (events : List (QueueEvent M)) (f : Frozen M) (n : ℕ) → IsOwn events f → f.entry.number ≡ n → (gs : List (Frozen M)) → AllByRecursion (λ g. n + 1 ≤ g.entry.number) gs
-      → AllByRecursion (IsOwn events) gs → is_among same gs f.entry.message ≡ false
-  none-later events f n own k [] later owns = refl
-  none-later events f n own k (g ∷ gs) later owns = go (same g.entry.message f.entry.message) refl (none-later events f n own k gs later.1 owns.1)
-    where
-      go : (b : Bool) → same g.entry.message f.entry.message ≡ b → is_among same gs f.entry.message ≡ false → is_among same (g ∷ gs) f.entry.message ≡ false
-      go true s r =
-          let alike_entries : Some g.entry ≡ Some f.entry = sym owns.0.0 ∙ (entry-alike events g.entry.message f.entry.message s ∙ own.0) in
-          let one : g.entry ≡ f.entry = cc in
-          let number : g.entry.number ≡ f.entry.number = ap (λ (e : Entry M). e.number) one in
-          let l = later.0 in
-          absurd (omega arith)
-      go false s r = ap (λ b. b || is_among same gs f.entry.message) s ∙ r
+    abbrev frozens : List M → List (Frozen M)
+    frozens ms = filter_map frozen_of (distinct same ms)
 
-  once-cons : (events : List (QueueEvent M)) (n : ℕ) (o : Option (Frozen M)) (fs : List (Frozen M)) → ((f : Frozen M) → o ≡ Some f → IsOwn events f × (f.entry.number ≡ n))
-      → AllByRecursion (λ g. n + 1 ≤ g.entry.number) fs → AllByRecursion (IsOwn events) fs → HasEachOnce same fs → HasEachOnce same (cons_option o fs)
-  once-cons events n None fs h later owns once = once
-  once-cons events n (Some f) fs h later owns once = (none-later events f n (h f refl).0 (h f refl).1 fs later owns, once)
+    -- none is of a message that is none of these
+    none-frozen : (ms : List M) (m : M) → is_in ms m ≡ false → is_among same (frozens ms) m ≡ false
+    none-frozen [] m h = refl
+    none-frozen (x ∷ xs) m h =
+        go (is_in xs x) (frozen_of x) refl (or-left (same x m) (is_in xs m) h) (none-frozen xs m (or-right (same x m) (is_in xs m) h))
+      where
+        go : (b : Bool) (o : Option (Frozen M)) → frozen_of x ≡ o → same x m ≡ false → is_among same (frozens xs) m ≡ false
+            → is_among same (filter_map frozen_of (if b then distinct same xs else x ∷ distinct same xs)) m ≡ false
+        go true o k s r = r
+        go false None k s r = ap (λ o. is_among same (cons_option o (frozens xs)) m) k ∙ r
+        go false (Some f) k s r =
+            ap (λ o. is_among same (cons_option o (frozens xs)) m) k
+            ∙ (ap (λ b. b || is_among same (frozens xs) m) (equiv.congr f.entry.message x m (frozen-own events x f k).1 ∙ s) ∙ r)
 
-  frozen-once : (events es : List (QueueEvent M)) (n : ℕ) → AreNumbered n es → HasEachOnce same (frozen_in events es)
-  frozen-once events [] n h = tt
-  frozen-once events (Requested q ∷ es) n h =
-      once-cons events n (frozen_by q.number (entry same debounce events q.message)) (frozen_in events es)
-      (λ f e. ((frozen-own events q f e).0, (frozen-own events q f e).1 ∙ h.0))
-      (numbers-from events es (n + 1) h.1) (each-own events es) (frozen-once events es (n + 1) h.1)
-  frozen-once events (Settled now number ∷ es) n h = frozen-once events es n h
-  frozen-once events (Took m ∷ es) n h = frozen-once events es n h
+    once-frozen : (ms : List M) → HasEachOnce same (frozens ms)
+    once-frozen [] = tt
+    once-frozen (x ∷ xs) = go (is_in xs x) (frozen_of x) refl refl (once-frozen xs)
+      where
+        go : (b : Bool) (o : Option (Frozen M)) → is_in xs x ≡ b → frozen_of x ≡ o → HasEachOnce same (frozens xs)
+            → HasEachOnce same (filter_map frozen_of (if b then distinct same xs else x ∷ distinct same xs))
+        go true o i k r = r
+        go false None i k r = subst (λ o. HasEachOnce same (cons_option o (frozens xs))) (sym k) r
+        go false (Some f) i k r =
+            subst (λ o. HasEachOnce same (cons_option o (frozens xs))) (sym k)
+            (none-frozen xs f.entry.message (in-alike xs f.entry.message x (frozen-own events x f k).1 ∙ i), r)
 
-  -- sorting keeps that
+    each-own : (ms : List M) → AllByRecursion (IsEntry same debounce events) (filter_map frozen_of ms)
+    each-own [] = tt
+    each-own (x ∷ xs) = go (frozen_of x) refl (each-own xs)
+      where
+        go : (o : Option (Frozen M)) → frozen_of x ≡ o → AllByRecursion (IsEntry same debounce events) (filter_map frozen_of xs) → AllByRecursion (IsEntry same debounce events) (cons_option (frozen_of x) (filter_map frozen_of xs))
+        go None k r = subst (λ o. AllByRecursion (IsEntry same debounce events) (cons_option o (filter_map frozen_of xs))) (sym k) r
+        go (Some f) k r = subst (λ o. AllByRecursion (IsEntry same debounce events) (cons_option o (filter_map frozen_of xs))) (sym k) ((frozen-own events x f k).0, r)
+
+    among-cons : (o : Option (Frozen M)) (fs : List (Frozen M)) (m : M) → is_among same fs m ≡ true → is_among same (cons_option o fs) m ≡ true
+    among-cons None fs m h = h
+    among-cons (Some f) fs m h = ap (λ b. same f.entry.message m || b) h ∙ or-true (same f.entry.message m)
+
+    some-frozen : (ms : List M) (m : M) (f : Frozen M) → frozen_of m ≡ Some f → is_in ms m ≡ true → is_among same (frozens ms) m ≡ true
+    some-frozen [] m f k h = absurd (false≢true h)
+    some-frozen (x ∷ xs) m f k h = go (is_in xs x) (same x m) refl refl h (some-frozen xs m f k)
+      where
+        go : (b c : Bool) → is_in xs x ≡ b → same x m ≡ c → c || is_in xs m ≡ true → (is_in xs m ≡ true → is_among same (frozens xs) m ≡ true)
+            → is_among same (filter_map frozen_of (if b then distinct same xs else x ∷ distinct same xs)) m ≡ true
+        go true true i s h r = r (sym (in-alike xs x m s) ∙ i)
+        go true false i s h r = r h
+        go false true i s h r =
+            ap (λ o. is_among same (cons_option o (frozens xs)) m) (ap frozen (entry-alike events x m s) ∙ k)
+            ∙ ap (λ b. b || is_among same (frozens xs) m) (frozen-own events m f k).1
+        go false false i s h r = among-cons (frozen_of x) (frozens xs) m (r h)
+
+    -- what is frozen was requested
+    requested-entry : (es : List (QueueEvent M)) (m : M) → is_in (filter_map requested_message es) m ≡ false → entry same debounce es m ≡ None
+    requested-entry [] m h = refl
+    requested-entry (Requested q ∷ es) m h =
+        ap (λ b. fold (entry_after same debounce m) (if b then entry_requested debounce q None else None) es) (or-left (same q.message m) (is_in (filter_map requested_message es) m) h)
+        ∙ requested-entry es m (or-right (same q.message m) (is_in (filter_map requested_message es) m) h)
+    requested-entry (Settled now number ∷ es) m h = requested-entry es m h
+    requested-entry (Took taken ∷ es) m h = go (same taken m) (requested-entry es m h)
+      where
+        go : (b : Bool) → entry same debounce es m ≡ None → fold (entry_after same debounce m) (if b then None else None) es ≡ None
+        go true r = r
+        go false r = r
+
+    abbrev all : List M
+    all = filter_map requested_message events
+
+    frozen-among : (m : M) → is_frozen (entry same debounce events m) ≡ true → is_among same (frozens all) m ≡ true
+    frozen-among m h = go (entry same debounce events m) refl (is_in all m) refl h
+      where
+        settled : (e : Entry M) (s : Option ℕ) → e.settle ≡ s → is_some s ≡ true → entry same debounce events m ≡ Some e → is_in all m ≡ true → is_among same (frozens all) m ≡ true
+        settled e None k h i j = absurd (false≢true h)
+        settled e (Some n) k h i j =
+            some-frozen all m (as_frozen e n) (ap frozen i ∙ ap (option_map (as_frozen e)) k) j
+
+        go : (o : Option (Entry M)) → entry same debounce events m ≡ o → (b : Bool) → is_in all m ≡ b → is_frozen o ≡ true → is_among same (frozens all) m ≡ true
+        go None k b j h = absurd (false≢true h)
+        go (Some e) k true j h = settled e e.settle refl h k j
+        go (Some e) k false j h = absurd (let n : entry same debounce events m ≡ None = requested-entry events m j in cc)
+
+    among-frozen : (m : M) (fs : List (Frozen M)) → AllByRecursion (IsEntry same debounce events) fs → is_among same fs m ≡ true → is_frozen (entry same debounce events m) ≡ true
+    among-frozen m [] owns h = absurd (false≢true h)
+    among-frozen m (f ∷ fs) owns h = go (same f.entry.message m) refl h (among-frozen m fs owns.1)
+      where
+        go : (b : Bool) → same f.entry.message m ≡ b → b || is_among same fs m ≡ true → (is_among same fs m ≡ true → is_frozen (entry same debounce events m) ≡ true)
+            → is_frozen (entry same debounce events m) ≡ true
+        go true s h rest = ap is_frozen (sym (entry-alike events f.entry.message m s) ∙ owns.0.0) ∙ ap is_some owns.0.1
+        go false s h rest = rest h
+
+  -- sorting keeps that each stands once
   once-insert : (f : Frozen M) (fs : List (Frozen M)) → is_among same fs f.entry.message ≡ false → HasEachOnce same fs → HasEachOnce same (insert_by goes_before f fs)
   once-insert f [] h once = (h, once)
   once-insert f (g ∷ fs) h once =
@@ -185,108 +244,8 @@ module _ {M : Type 0} (same : M → M → Bool) (equiv : IsEquivalence same) (de
   once-sorted [] h = tt
   once-sorted (f ∷ fs) h = once-insert f (sorted_by goes_before fs) (any-sorted goes_before (λ e. same e.entry.message f.entry.message) fs ∙ h.0) (once-sorted fs h.1)
 
-  pub waiting-once : (events : List (QueueEvent M)) → AreNumbered 0 events → HasEachOnce same (waiting same debounce events)
-  waiting-once events h = once-sorted (frozen_in events events) (frozen-once events events 0 h)
-
-  -- Exactly the frozen wait.
-
-  -- whether this is the request of that number for that message
-  abbrev sets : ℕ → M → QueueEvent M → Bool
-  sets number m (Requested q) = (q.number == number) && same q.message m
-  sets number m (Settled now n) = false
-  sets number m (Took taken) = false
-
-  among-frozen : (events : List (QueueEvent M)) (m : M) (fs : List (Frozen M)) → AllByRecursion (IsOwn events) fs → is_among same fs m ≡ true
-      → is_frozen (entry same debounce events m) ≡ true
-  among-frozen events m [] owns h = absurd (false≢true h)
-  among-frozen events m (f ∷ fs) owns h = go (same f.entry.message m) refl h (among-frozen events m fs owns.1)
-    where
-      go : (b : Bool) → same f.entry.message m ≡ b → b || is_among same fs m ≡ true → (is_among same fs m ≡ true → is_frozen (entry same debounce events m) ≡ true)
-          → is_frozen (entry same debounce events m) ≡ true
-      go true s h rest =
-          ap is_frozen (sym (entry-alike events f.entry.message m s) ∙ owns.0.0) ∙ ap is_some owns.0.1
-      go false s h rest = rest h
-
-  -- an entry was set by a request of its number
-  abbrev IsFrom : M → List (QueueEvent M) → Option (Entry M) → Type 0
-  IsFrom m es None = Unit {0}
-  IsFrom m es (Some e) = list_any (sets e.number m) es ≡ true
-
-  from-earlier : (m : M) (es fs : List (QueueEvent M)) (o : Option (Entry M)) → IsFrom m es o → IsFrom m (es ++ fs) o
-  from-earlier m es fs None h = tt
-  from-earlier m es fs (Some e) h = list_any-append (sets e.number m) es fs ∙ ap (λ b. b || list_any (sets e.number m) fs) h
-
-  from-if : (m : M) (es : List (QueueEvent M)) (b : Bool) (e f : Option (Entry M)) → IsFrom m es e → IsFrom m es f → IsFrom m es (if b then e else f)
-  from-if m es true e f h k = h
-  from-if m es false e f h k = k
-
-  from-request : (m : M) (es : List (QueueEvent M)) (q : Request M) → same q.message m ≡ true → IsFrom m (es ++ Requested q ∷ []) (Some (entry_of debounce q))
-  from-request m es q s =
-      list_any-append (sets q.number m) es (Requested q ∷ [])
-      ∙ ap (λ b. list_any (sets q.number m) es || ((b && same q.message m) || false)) (eq-eqb q.number q.number refl)
-      ∙ ap (λ b. list_any (sets q.number m) es || (b || false)) s
-      ∙ or-true (list_any (sets q.number m) es)
-
-  from-requested : (m : M) (es : List (QueueEvent M)) (q : Request M) (o : Option (Entry M)) → same q.message m ≡ true → IsFrom m es o
-      → IsFrom m (es ++ Requested q ∷ []) (entry_requested debounce q o)
-  from-requested m es q None s h = from-request m es q s
-  from-requested m es q (Some e) s h =
-      from-if m (es ++ Requested q ∷ []) (not (is_some e.settle) && nat_le q.run_at e.time) (Some (entry_of debounce q)) (Some e)
-      (from-request m es q s) (from-earlier m es (Requested q ∷ []) (Some e) h)
-
-  from-settled : (m : M) (es : List (QueueEvent M)) (now number : ℕ) (o : Option (Entry M)) → IsFrom m es o → IsFrom m es (entry_settled now number o)
-  from-settled m es now number None h = tt
-  from-settled m es now number (Some e) h = from-if m es (not (is_some e.settle) && nat_le e.time now) (Some (record e { settle = Some number })) (Some e) h h
-
-  from-after : (m : M) (es : List (QueueEvent M)) (o : Option (Entry M)) (ev : QueueEvent M) → IsFrom m es o → IsFrom m (es ++ ev ∷ []) (entry_after same debounce m o ev)
-  from-after m es o (Requested q) h = go (same q.message m) refl
-    where
-      go : (b : Bool) → same q.message m ≡ b → IsFrom m (es ++ Requested q ∷ []) (if b then entry_requested debounce q o else o)
-      go true s = from-requested m es q o s h
-      go false s = from-earlier m es (Requested q ∷ []) o h
-  from-after m es o (Settled now number) h = from-settled m (es ++ Settled now number ∷ []) now number o (from-earlier m es (Settled now number ∷ []) o h)
-  from-after m es o (Took taken) h = from-if m (es ++ Took taken ∷ []) (same taken m) None o tt (from-earlier m es (Took taken ∷ []) o h)
-
-  from-all : (m : M) (es fs : List (QueueEvent M)) (o : Option (Entry M)) → IsFrom m es o → IsFrom m (es ++ fs) (fold (entry_after same debounce m) o fs)
-  from-all m es [] o h = subst (λ gs. IsFrom m gs o) (sym (append-nil es)) h
-  from-all m es (ev ∷ fs) o h =
-      subst (λ gs. IsFrom m gs (fold (entry_after same debounce m) (entry_after same debounce m o ev) fs)) (append_assoc es (ev ∷ []) fs)
-      (from-all m (es ++ ev ∷ []) fs (entry_after same debounce m o ev) (from-after m es o ev h))
-
-  among-cons : (o : Option (Frozen M)) (fs : List (Frozen M)) (m : M) → is_among same fs m ≡ true → is_among same (cons_option o fs) m ≡ true
-  among-cons None fs m h = h
-  among-cons (Some f) fs m h = ap (λ b. same f.entry.message m || b) h ∙ or-true (same f.entry.message m)
-
-  -- the request that set a frozen entry is among those that wait
-  set-among : (events es : List (QueueEvent M)) (m : M) (e : Entry M) (settle : ℕ) → entry same debounce events m ≡ Some e → e.settle ≡ Some settle
-      → list_any (sets e.number m) es ≡ true → is_among same (frozen_in events es) m ≡ true
-  set-among events [] m e settle k f h = absurd (false≢true h)
-  set-among events (Requested q ∷ es) m e settle k f h =
-      go (q.number == e.number) (same q.message m) refl refl h (set-among events es m e settle k f)
-    where
-      hit : (q.number == e.number) ≡ true → same q.message m ≡ true → frozen_by q.number (entry same debounce events q.message) ≡ Some (record { settle = settle; entry = e })
-      hit n s =
-          ap (frozen_by q.number) (entry-alike events q.message m s ∙ k)
-          ∙ ap (frozen_entry q.number e) f
-          ∙ ap (λ b. if b then Some (record { settle = settle; entry = e }) else None) (eq-eqb e.number q.number (sym (eqb-true q.number e.number n)))
-
-      go : (b c : Bool) → (q.number == e.number) ≡ b → same q.message m ≡ c → (b && c) || list_any (sets e.number m) es ≡ true
-          → (list_any (sets e.number m) es ≡ true → is_among same (frozen_in events es) m ≡ true) → is_among same (frozen_in events (Requested q ∷ es)) m ≡ true
-      go true true n s h rest =
-          ap (λ o. is_among same (cons_option o (frozen_in events es)) m) (hit n s)
-          ∙ ap (λ b. b || is_among same (frozen_in events es) m) (entry-of events m e k)
-      go true false n s h rest = among-cons (frozen_by q.number (entry same debounce events q.message)) (frozen_in events es) m (rest h)
-      go false c n s h rest = among-cons (frozen_by q.number (entry same debounce events q.message)) (frozen_in events es) m (rest h)
-  set-among events (Settled now number ∷ es) m e settle k f h = set-among events es m e settle k f h
-  set-among events (Took taken ∷ es) m e settle k f h = set-among events es m e settle k f h
-
-  frozen-among : (events : List (QueueEvent M)) (m : M) (o : Option (Entry M)) → entry same debounce events m ≡ o → is_frozen o ≡ true → is_among same (frozen_in events events) m ≡ true
-  frozen-among events m None k h = absurd (false≢true h)
-  frozen-among events m (Some e) k h = go e.settle refl h
-    where
-      go : (s : Option ℕ) → e.settle ≡ s → is_some s ≡ true → is_among same (frozen_in events events) m ≡ true
-      go None f h = absurd (false≢true h)
-      go (Some settle) f h = set-among events events m e settle k f (subst (IsFrom m events) k (from-all m [] events None tt))
+  pub waiting-once : (events : List (QueueEvent M)) → HasEachOnce same (waiting same debounce events)
+  waiting-once events = once-sorted (frozens events (all events)) (once-frozen events (all events))
 
   both : (b c : Bool) → (b ≡ true → c ≡ true) → (c ≡ true → b ≡ true) → b ≡ c
   both true true f g = refl
@@ -294,9 +253,112 @@ module _ {M : Type 0} (same : M → M → Bool) (equiv : IsEquivalence same) (de
   both false true f g = g refl
   both false false f g = refl
 
+  -- Exactly the frozen wait.
+
+  among-is : (events : List (QueueEvent M)) (fs : List (Frozen M)) (m : M) → AllByRecursion (IsEntry same debounce events) fs
+      → (is_frozen (entry same debounce events m) ≡ true → is_among same fs m ≡ true) → is_among same fs m ≡ is_frozen (entry same debounce events m)
+  among-is events fs m owns h = both (is_among same fs m) (is_frozen (entry same debounce events m)) (among-frozen events m fs owns) h
+
+  frozens-among : (events : List (QueueEvent M)) (m : M) → is_among same (frozens events (all events)) m ≡ is_frozen (entry same debounce events m)
+  frozens-among events m = among-is events (frozens events (all events)) m (each-own events (distinct same (all events))) (frozen-among events m)
+
   pub waiting-frozen : (events : List (QueueEvent M)) (m : M) → is_among same (waiting same debounce events) m ≡ is_frozen (entry same debounce events m)
-  waiting-frozen events m =
-      any-sorted goes_before (λ f. same f.entry.message m) (frozen_in events events)
-      ∙ both (is_among same (frozen_in events events) m) (is_frozen (entry same debounce events m))
-      (among-frozen events m (frozen_in events events) (each-own events events))
-      (frozen-among events m (entry same debounce events m) refl)
+  waiting-frozen events m = any-sorted goes_before (λ f. same f.entry.message m) (frozens events (all events)) ∙ frozens-among events m
+
+  -- The frozen entries that stand in their order are those that wait.
+  module _ (events : List (QueueEvent M)) where
+    abbrev rest : M → List (Frozen M) → List (Frozen M)
+    rest m zs = filter (λ z. not (same m z.entry.message)) zs
+
+    among-rest : (m n : M) (zs : List (Frozen M)) → is_among same (rest m zs) n ≡ not (same m n) && is_among same zs n
+    among-rest m n [] = none (same m n)
+      where
+        none : (b : Bool) → false ≡ not b && false
+        none true = refl
+        none false = refl
+    among-rest m n (z ∷ zs) = go (same m z.entry.message) (same m n) (same z.entry.message n) refl refl refl (among-rest m n zs)
+      where
+        go : (a b c : Bool) → same m z.entry.message ≡ a → same m n ≡ b → same z.entry.message n ≡ c → is_among same (rest m zs) n ≡ not (same m n) && is_among same zs n
+            → is_among same (cond (not a) (z ∷ rest m zs) (rest m zs)) n ≡ not (same m n) && (same z.entry.message n || is_among same zs n)
+        go true true c h k i r = r ∙ (ap (λ b. not b && is_among same zs n) k ∙ sym (ap (λ b. not b && (same z.entry.message n || is_among same zs n)) k))
+        go true false true h k i r = absurd (let e = sym (equiv.congr m z.entry.message n h) in false≢true (sym k ∙ (sym e ∙ i)))
+        go true false false h k i r = r ∙ sym (ap (λ b. not (same m n) && (b || is_among same zs n)) i)
+        go false true true h k i r = absurd (false≢true (sym h ∙ (alike z.entry.message n m i ∙ k)))
+        go false true false h k i r = ap (λ b. b || is_among same (rest m zs) n) i ∙ (r ∙ sym (ap (λ b. not (same m n) && (b || is_among same zs n)) i))
+        go false false c h k i r =
+            ap (λ b. same z.entry.message n || b) (r ∙ ap (λ b. not b && is_among same zs n) k)
+            ∙ sym (ap (λ b. not b && (same z.entry.message n || is_among same zs n)) k)
+
+    all-rest : (P : Frozen M → Type 0) (m : M) (zs : List (Frozen M)) → AllByRecursion P zs → AllByRecursion P (rest m zs)
+    all-rest P m [] h = tt
+    all-rest P m (z ∷ zs) h = go (not (same m z.entry.message)) (all-rest P m zs h.1)
+      where
+        go : (b : Bool) → AllByRecursion P (rest m zs) → AllByRecursion P (cond b (z ∷ rest m zs) (rest m zs))
+        go true r = (h.0, r)
+        go false r = r
+
+    order-rest : (m : M) (zs : List (Frozen M)) → AreInOrder zs → AreInOrder (rest m zs)
+    order-rest m [] h = tt
+    order-rest m (z ∷ zs) h = go (not (same m z.entry.message)) (order-rest m zs h.1)
+      where
+        go : (b : Bool) → AreInOrder (rest m zs) → AreInOrder (cond b (z ∷ rest m zs) (rest m zs))
+        go true r = (all-rest (λ y. goes_before z y ≡ true) m zs h.0, r)
+        go false r = r
+
+    -- none behind an own entry is of its message
+    rest-none : (z : Frozen M) (zs : List (Frozen M)) → IsEntry same debounce events z → AllByRecursion (λ y. goes_before z y ≡ true) zs → AllByRecursion (IsEntry same debounce events) zs → rest z.entry.message zs ≡ zs
+    rest-none z [] own order owns = refl
+    rest-none z (y ∷ ys) own order owns = go (same z.entry.message y.entry.message) refl (rest-none z ys own order.1 owns.1)
+      where
+        go : (b : Bool) → same z.entry.message y.entry.message ≡ b → rest z.entry.message ys ≡ ys → cond (not b) (y ∷ rest z.entry.message ys) (rest z.entry.message ys) ≡ y ∷ ys
+        go true s r =
+            let self : goes_before z z ≡ true = subst (λ u. goes_before z u ≡ true) (sym (own-one events z y own owns.0 s)) order.0 in
+            absurd (false≢true (sym (one-way z z self) ∙ self))
+        go false s r = ap (λ us. y ∷ us) r
+
+    before-own : (z x : Frozen M) (zs : List (Frozen M)) → IsEntry same debounce events x → AllByRecursion (λ y. goes_before z y ≡ true) zs → AllByRecursion (IsEntry same debounce events) zs
+        → is_among same zs x.entry.message ≡ true → goes_before z x ≡ true
+    before-own z x [] own order owns h = absurd (false≢true h)
+    before-own z x (y ∷ ys) own order owns h = go (same y.entry.message x.entry.message) refl h (before-own z x ys own order.1 owns.1)
+      where
+        go : (b : Bool) → same y.entry.message x.entry.message ≡ b → b || is_among same ys x.entry.message ≡ true → (is_among same ys x.entry.message ≡ true → goes_before z x ≡ true)
+            → goes_before z x ≡ true
+        go true s h r = subst (λ u. goes_before z u ≡ true) (own-one events y x owns.0 own s) order.0
+        go false s h r = r h
+
+    -- one goes back to its place
+    insert-back : (x : Frozen M) (zs : List (Frozen M)) → IsEntry same debounce events x → AreInOrder zs → AllByRecursion (IsEntry same debounce events) zs → is_among same zs x.entry.message ≡ true
+        → insert_by goes_before x (rest x.entry.message zs) ≡ zs
+    insert-back x [] own order owns h = absurd (false≢true h)
+    insert-back x (z ∷ zs) own order owns h = go (same x.entry.message z.entry.message) refl (insert-back x zs own order.1 owns.1)
+      where
+        go : (b : Bool) → same x.entry.message z.entry.message ≡ b → (is_among same zs x.entry.message ≡ true → insert_by goes_before x (rest x.entry.message zs) ≡ zs)
+            → insert_by goes_before x (cond (not b) (z ∷ rest x.entry.message zs) (rest x.entry.message zs)) ≡ z ∷ zs
+        go true s r =
+            let one : z ≡ x = sym (own-one events x z own owns.0 s) in
+            subst (λ u. insert_by goes_before u (rest u.entry.message zs) ≡ z ∷ zs) one
+            (ap (insert_by goes_before z) (rest-none z zs owns.0 order.0 owns.1) ∙ insert-first z zs order.0)
+        go false s r =
+            let later : is_among same zs x.entry.message ≡ true = sym (ap (λ b. b || is_among same zs x.entry.message) (equiv.symm z.entry.message x.entry.message ∙ s)) ∙ h in
+            ap (λ b. if b then z ∷ insert_by goes_before x (rest x.entry.message zs) else x ∷ z ∷ rest x.entry.message zs) (before-own z x zs own order.0 owns.1 later)
+            ∙ ap (λ us. z ∷ us) (r later)
+
+    sorted-is : (xs zs : List (Frozen M)) → HasEachOnce same xs → AllByRecursion (IsEntry same debounce events) xs → AreInOrder zs → AllByRecursion (IsEntry same debounce events) zs
+        → ((m : M) → is_among same xs m ≡ is_among same zs m) → sorted_by goes_before xs ≡ zs
+    sorted-is [] [] once owns order own h = refl
+    sorted-is [] (z ∷ zs) once owns order own h =
+        absurd (false≢true (h z.entry.message ∙ ap (λ b. b || is_among same zs z.entry.message) (equiv.refl z.entry.message)))
+    sorted-is (x ∷ xs) zs once owns order own h =
+        let m : M = x.entry.message in
+        ap (insert_by goes_before x) (sorted-is xs (rest m zs) once.1 owns.1 (order-rest m zs order) (all-rest (IsEntry same debounce events) m zs own) (λ n. others n (same m n) refl ∙ sym (among-rest m n zs)))
+        ∙ insert-back x zs owns.0 order own (sym (h m) ∙ ap (λ b. b || is_among same xs m) (equiv.refl m))
+      where
+        others : (n : M) (b : Bool) → same x.entry.message n ≡ b → is_among same xs n ≡ not (same x.entry.message n) && is_among same zs n
+        others n true s = sym (among-alike xs x.entry.message n s) ∙ (once.0 ∙ sym (ap (λ b. not b && is_among same zs n) s))
+        others n false s = sym (ap (λ b. b || is_among same xs n) s) ∙ (h n ∙ sym (ap (λ b. not b && is_among same zs n) s))
+
+    pub waiting-is : (zs : List (Frozen M)) → AreInOrder zs → AllByRecursion (IsEntry same debounce events) zs → ((m : M) → is_frozen (entry same debounce events m) ≡ true → is_among same zs m ≡ true)
+        → waiting same debounce events ≡ zs
+    waiting-is zs order owns whole =
+        sorted-is (frozens events (all events)) zs (once-frozen events (all events)) (each-own events (distinct same (all events))) order owns
+        (λ m. frozens-among events m ∙ sym (among-is events zs m owns (whole m)))

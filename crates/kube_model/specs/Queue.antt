@@ -1,6 +1,7 @@
 -- What the requests for one message have made of it, and which messages wait. M is the type of messages. (Crate: `scheduler`, told without its heap.)
 use Rattle.std.specs.Prelude.{ℕ, ◌+◌, ◌-◌, ◌^◌, min, Bool, true, false, not, ◌&&◌, ◌||◌, ◌==◌, nat_le, nat_lt, List, [], ◌∷◌, Option, Some, None, if◌then◌else◌, is_some}
-use Rattle.std.specs.List.{fold, filter_map}
+use Rattle.std.specs.List.{fold, filter_map, list_any}
+use Rattle.std.specs.Option.{option_map}
 
 -- a request for a message: the moment from which it counts, the moment at which it came, and its place among all requests
 pub record Request (M : Type 0) : Type 0 where
@@ -74,14 +75,19 @@ abbrev pub sorted_by : {A : Type 0} → (A → A → Bool) → List A → List A
 sorted_by before [] = []
 sorted_by before (x ∷ xs) = insert_by before x (sorted_by before xs)
 
--- the entry as it is frozen by a settle, if it is and the request of this number set it
-abbrev pub frozen_entry : {M : Type 0} → ℕ → Entry M → Option ℕ → Option (Frozen M)
-frozen_entry number e None = None
-frozen_entry number e (Some settle) = if e.number == number then Some (record { settle = settle; entry = e }) else None
+-- an entry as it is frozen by its settle, if it is
+abbrev pub frozen : {M : Type 0} → Option (Entry M) → Option (Frozen M)
+frozen None = None
+frozen (Some e) = option_map (λ settle. record { settle = settle; entry = e }) e.settle
 
-abbrev pub frozen_by : {M : Type 0} → ℕ → Option (Entry M) → Option (Frozen M)
-frozen_by number None = None
-frozen_by number (Some e) = frozen_entry number e e.settle
+abbrev pub requested_message : {M : Type 0} → QueueEvent M → Option M
+requested_message (Requested q) = Some q.message
+requested_message _ = None
+
+-- each once: of those that are the same the last
+abbrev pub distinct : {A : Type 0} → (A → A → Bool) → List A → List A
+distinct same [] = []
+distinct same (x ∷ xs) = if list_any (λ y. same y x) xs then distinct same xs else x ∷ distinct same xs
 
 -- same says whether two messages are the same
 module _ {M : Type 0} (same : M → M → Bool) (debounce : ℕ) where
@@ -95,12 +101,6 @@ module _ {M : Type 0} (same : M → M → Bool) (debounce : ℕ) where
   abbrev pub entry : List (QueueEvent M) → M → Option (Entry M)
   entry events m = fold (entry_after m) None events
 
-  -- the frozen entry that this event set, if it is a request that set one
-  abbrev pub frozen_at : List (QueueEvent M) → QueueEvent M → Option (Frozen M)
-  frozen_at events (Requested q) = frozen_by q.number (entry events q.message)
-  frozen_at events (Settled now number) = None
-  frozen_at events (Took taken) = None
-
-  -- the frozen entries in their order, each at the request that set it
+  -- the frozen entries of the messages that were requested, in their order
   abbrev pub waiting : List (QueueEvent M) → List (Frozen M)
-  waiting events = sorted_by goes_before (filter_map (frozen_at events) events)
+  waiting events = sorted_by goes_before (filter_map (λ m. frozen (entry events m)) (distinct same (filter_map requested_message events)))

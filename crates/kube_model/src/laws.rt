@@ -3,7 +3,7 @@
 //! `O` is any type of objects, `B` any type of a backoff's states and `M` any type of messages.
 
 ghost use Rattle.std.specs.Prelude.{◌≡◌, ℕ, ◌+◌, ◌≤◌, Bool, List, Option, Some, ◌++◌, ◌∷◌, [], if◌then◌else◌, is_some, length, map, take, true, false};
-ghost use Rattle.std.specs.List.{count_by, fold, list_any};
+ghost use Rattle.std.specs.List.{count_by, fold, list_any, AllByRecursion};
 ghost use Rattle.std.specs.Cmp.{IsEquivalence};
 ghost use Rattle.kube_model.specs.World.{World, Settings, Watched, feed_of};
 ghost use Rattle.kube_model.specs.History.{Message, same_message, Exchange, Dated, Turn, Finished, Taken, Step, exchanges, exchanges_of};
@@ -14,8 +14,8 @@ ghost use Rattle.kube_model.specs.SecondForms.{initial_after, running_after};
 ghost use Rattle.kube_model.specs.Takes.{running, candidates, found_with, has_room, within_room};
 ghost use Rattle.kube_model.specs.Stored.{may_take, stored_in};
 ghost use Rattle.kube_model.specs.Turns.{running_in};
-ghost use Rattle.kube_model.specs.Queue.{QueueEvent, entry, waiting};
-ghost use Rattle.kube_model.specs.WaitingOnce.{HasEachOnce, is_among, is_frozen};
+ghost use Rattle.kube_model.specs.Queue.{QueueEvent, Frozen, entry, waiting};
+ghost use Rattle.kube_model.specs.WaitingOnce.{HasEachOnce, is_among, is_frozen, AreInOrder, IsEntry};
 ghost use Rattle.kube_model.specs.Reads.{Reads};
 ghost use Rattle.kube_model.specs.Requests.{waiting_in};
 ghost use Rattle.kube_model.specs.Shutdowns.{is_shut};
@@ -39,6 +39,13 @@ pub fn running_is_a_table<O>()
 pub fn frozen_messages_wait<M>()
     ensures { (same : M → M → Bool) → IsEquivalence same → (debounce : ℕ) (events : List (QueueEvent M)) (m : M)
         → is_among same (waiting same debounce events) m ≡ is_frozen (entry same debounce events m) }
+{}
+
+/// What goes in order, each its message's frozen entry and none of those absent, is what waits: so there is one such list.
+pub fn frozen_entries_wait_in_their_order<M>()
+    ensures { (same : M → M → Bool) → IsEquivalence same → (debounce : ℕ) (events : List (QueueEvent M)) (fs : List (Frozen M))
+        → AreInOrder fs → AllByRecursion (IsEntry same debounce events) fs
+        → ((m : M) → is_frozen (entry same debounce events m) ≡ true → is_among same fs m ≡ true) → waiting same debounce events ≡ fs }
 {}
 
 /// In each turn after any history each message waits once.

@@ -8,8 +8,9 @@ use Rattle.std.proofs.lemmas.Bool.Decides.{nat_tests}
 use Rattle.std.proofs.Math.Bool.{or-true}
 use Rattle.std.proofs.lemmas.List.Elements.{filter-append, filter_map-append}
 use Rattle.kube_meta.specs.declared.moment.Moment.{Moment}
-use Rattle.kube_model.specs.Queue.{Request, QueueEvent, Requested, Settled, Took, is_request, is_settle, Entry, Frozen, entry, entry_of, frozen_entry, frozen_by, frozen_at, goes_before, insert_by, sorted_by, waiting, plus, longest_wait}
-use Rattle.kube_model.specs.WaitingOnce.{is_frozen}
+use Rattle.kube_model.specs.Queue.{Request, QueueEvent, Requested, Settled, Took, is_request, is_settle, Entry, Frozen, entry, entry_of, goes_before, insert_by, sorted_by, waiting, plus, longest_wait}
+use Rattle.kube_model.specs.WaitingOnce.{is_frozen, AreInOrder, IsEntry}
+use Rattle.kube_model.proofs.Waits.{waiting-is}
 use Rattle.kube_sched.specs.declared.held.Held.{Held}
 use Rattle.kube_sched.specs.declared.request.ScheduleRequest.{ScheduleRequest}
 use Rattle.kube_sched.specs.Held.{is_of, is_due, is_earlier, comes_before, set_in, messages, IsFirstAt}
@@ -79,32 +80,6 @@ due_by run_at None = true
 due_by run_at (Some e) = nat_le run_at e.time
 
 module _ {M : Type 0} (same : M → M → Bool) (equiv : IsEquivalence same) (debounce : ℕ) where
-  -- those that wait are the frozen ones
-  frozens-are : (es fs : List (QueueEvent M)) → filter_map (frozen_at same debounce es) fs ≡ frozens (filter_map (entry_at same debounce es) fs)
-  frozens-are es [] = refl
-  frozens-are es (Requested q ∷ fs) = one (entry same debounce es q.message) (frozens-are es fs)
-    where
-      at : (e : Entry M) (s : Option ℕ) → e.settle ≡ s → (b : Bool) → (e.number == q.number) ≡ b → (xs : List (Frozen M)) (ys : List (Entry M)) → xs ≡ frozens ys
-          → cons_option (frozen_entry q.number e s) xs ≡ frozens (cons_option (if b then Some e else None) ys)
-      at e None k true c xs ys r = r ∙ sym (ap (λ o. cons_option (frozen_as e o) (frozens ys)) k)
-      at e None k false c xs ys r = r
-      at e (Some n) k true c xs ys r =
-          let f : Frozen M = record { settle = n; entry = e } in
-          ap (λ b. cons_option (if b then Some f else None) xs) c ∙ ap (λ zs. f ∷ zs) r ∙ sym (ap (λ o. cons_option (frozen_as e o) (frozens ys)) k)
-      at e (Some n) k false c xs ys r =
-          let f : Frozen M = record { settle = n; entry = e } in
-          ap (λ b. cons_option (if b then Some f else None) xs) c ∙ r
-
-      one : (o : Option (Entry M)) → filter_map (frozen_at same debounce es) fs ≡ frozens (filter_map (entry_at same debounce es) fs)
-          → cons_option (frozen_by q.number o) (filter_map (frozen_at same debounce es) fs) ≡ frozens (cons_option (set_by q.number o) (filter_map (entry_at same debounce es) fs))
-      one None r = r
-      one (Some e) r = at e e.settle refl (e.number == q.number) refl (filter_map (frozen_at same debounce es) fs) (filter_map (entry_at same debounce es) fs) r
-  frozens-are es (Settled now k ∷ fs) = frozens-are es fs
-  frozens-are es (Took m ∷ fs) = frozens-are es fs
-
-  waits-are : (es : List (QueueEvent M)) → map held_of_frozen (waiting same debounce es) ≡ waits_of (entries same debounce es)
-  waits-are es = ap (λ xs. map held_of_frozen (sorted_by goes_before xs)) (frozens-are es es)
-
   -- Where none is of a message.
 
   without-none : (es : List (Entry M)) (m n : M) → same m n ≡ true → list_any (of same n) es ≡ false → without same m es ≡ es
@@ -525,6 +500,80 @@ module _ {M : Type 0} (now k : ℕ) where
           ∙ ap (λ b. cond (not b) (e ∷ filter (λ x. not (due_at now x)) (filter is_open es)) (filter (λ x. not (due_at now x)) (filter is_open es))) d
           )
 
+-- What waits.
+
+-- before what is behind another
+before-behind : {M : Type 0} (a b c : Frozen M) → goes_before a b ≡ true → goes_before b c ≡ true → goes_before a c ≡ true
+before-behind a b c h k = grind (arith, nat_tests)
+
+-- of two with different numbers one is before
+before-other : {M : Type 0} (a b : Frozen M) → goes_before b a ≡ false → a.entry.number < b.entry.number → goes_before a b ≡ true
+before-other a b h l = grind (arith, nat_tests)
+
+-- the numbers rise
+abbrev RisingFrozen : {M : Type 0} → List (Frozen M) → Type 0
+RisingFrozen [] = Unit {0}
+RisingFrozen (f ∷ fs) = AllByRecursion (λ g. f.entry.number < g.entry.number) fs × RisingFrozen fs
+
+all-of_frozens : {M : Type 0} (P : Frozen M → Type 0) (Q : Entry M → Type 0) → ((e : Entry M) (s : ℕ) → e.settle ≡ Some s → Q e → P (record { settle = s; entry = e }))
+    → (es : List (Entry M)) → AllByRecursion Q es → AllByRecursion P (frozens es)
+all-of_frozens P Q f [] h = tt
+all-of_frozens P Q f (e ∷ es) h = go e.settle refl (all-of_frozens P Q f es h.1)
+  where
+    go : (s : Option ℕ) → e.settle ≡ s → AllByRecursion P (frozens es) → AllByRecursion P (cons_option (frozen_as e s) (frozens es))
+    go None k r = r
+    go (Some n) k r = (f e n k h.0, r)
+
+rising-frozens : {M : Type 0} (es : List (Entry M)) → Rising es → RisingFrozen (frozens es)
+rising-frozens [] h = tt
+rising-frozens (e ∷ es) h = go e.settle (rising-frozens es h.1)
+  where
+    go : (s : Option ℕ) → RisingFrozen (frozens es) → RisingFrozen (cons_option (frozen_as e s) (frozens es))
+    go None r = r
+    go (Some n) r = (all-of_frozens (λ g. e.number < g.entry.number) (λ g. e.number < g.number) (λ g s k l. l) es h.0, r)
+
+order-insert : {M : Type 0} (x : Frozen M) (ys : List (Frozen M)) → AllByRecursion (λ y. x.entry.number < y.entry.number) ys → AreInOrder ys → AreInOrder (insert_by goes_before x ys)
+order-insert x [] h o = (tt, tt)
+order-insert x (y ∷ ys) h o = go (goes_before y x) refl (order-insert x ys h.1 o.1)
+  where
+    go : (b : Bool) → goes_before y x ≡ b → AreInOrder (insert_by goes_before x ys) → AreInOrder (if b then y ∷ insert_by goes_before x ys else x ∷ y ∷ ys)
+    go true e r = (all-insert goes_before (λ u. goes_before y u ≡ true) x ys e o.0, r)
+    go false e r =
+        let first : goes_before x y ≡ true = before-other x y e h.0 in
+        ((first, all-to (λ u. goes_before y u ≡ true) (λ u. goes_before x u ≡ true) (λ u k. before-behind x y u first k) ys o.0), o)
+
+order-sorted : {M : Type 0} (fs : List (Frozen M)) → RisingFrozen fs → AreInOrder (sorted_by goes_before fs)
+order-sorted [] h = tt
+order-sorted (f ∷ fs) h =
+    order-insert f (sorted_by goes_before fs) (all-sorted goes_before (λ g. f.entry.number < g.entry.number) fs h.0) (order-sorted fs h.1)
+
+module _ {M : Type 0} (same : M → M → Bool) (equiv : IsEquivalence same) (debounce : ℕ) where
+  -- each is found by its message
+  each-found : (es : List (Entry M)) → Distinct same es → AllByRecursion (λ f. find (of same f.message) es ≡ Some f) es
+  each-found [] d = tt
+  each-found (e ∷ es) d = (
+    ap (λ b. cond b (Some e) (find (of same e.message) es)) (equiv.refl e.message),
+    behind es d.0 (each-found es d.1),
+  )
+    where
+      behind : (fs : List (Entry M)) → list_any (of same e.message) fs ≡ false → AllByRecursion (λ f. find (of same f.message) es ≡ Some f) fs
+          → AllByRecursion (λ f. find (of same f.message) (e ∷ es) ≡ Some f) fs
+      behind [] n h = tt
+      behind (f ∷ fs) n h =
+          let none = or-none (same f.message e.message) (list_any (of same e.message) fs) n in
+          (ap (λ b. cond b (Some e) (find (of same f.message) es)) (equiv.symm e.message f.message ∙ none.0) ∙ h.0, behind fs none.1 h.1)
+
+  -- those that wait are the frozen ones
+  waits-are : (es : List (QueueEvent M)) (r s : ℕ) → Good same equiv debounce es r s → map held_of_frozen (waiting same debounce es) ≡ waits_of (entries same debounce es)
+  waits-are es r s g =
+      let all = entries same debounce es in
+      let owns : AllByRecursion (IsEntry same debounce es) (frozens all) =
+      all-of_frozens (IsEntry same debounce es) (λ f. find (of same f.message) all ≡ Some f) (λ e s k h. (sym (g.found e.message) ∙ h, k)) all (each-found all g.distinct) in
+      ap (map held_of_frozen)
+      (waiting-is same equiv debounce es (sorted_by goes_before (frozens all)) (order-sorted (frozens all) (rising-frozens all g.rising))
+      (all-sorted goes_before (IsEntry same debounce es) (frozens all) owns)
+      (λ m h. any-sorted goes_before (λ f. same f.entry.message m) (frozens all) ∙ (any-frozens same equiv debounce all m g.distinct ∙ (ap is_frozen (g.found m) ∙ h))))
+
 -- The steps of a scheduler.
 
 module _ {M : Type 0} (same : M → M → Bool) (equiv : IsEquivalence same) where
@@ -542,12 +591,12 @@ module _ {M : Type 0} (same : M → M → Bool) (equiv : IsEquivalence same) whe
       → s'.waiting ≡ waits_of (entries same s.debounce es) → s'.scheduled ≡ scheduled_of (entries same s.debounce es) → Stands same s' es
   stands-by s s' es d n w c = record {
     numbered = n;
-    waits = w ∙ ap (λ k. waits_of (entries same k es)) (sym d) ∙ sym (waits-are same equiv s'.debounce es);
+    waits = w ∙ ap (λ k. waits_of (entries same k es)) (sym d) ∙ sym (waits-are same equiv s'.debounce es (count_by is_request es) (count_by is_settle es) (good same equiv s'.debounce es n));
     comes = c ∙ ap (λ k. scheduled_of (entries same k es)) (sym d);
   }
 
   waits-by : (s : Schedule M) (es : List (QueueEvent M)) → Stands same s es → s.waiting ≡ waits_of (entries same s.debounce es)
-  waits-by s es h = h.waits ∙ waits-are same equiv s.debounce es
+  waits-by s es h = h.waits ∙ waits-are same equiv s.debounce es (count_by is_request es) (count_by is_settle es) (good same equiv s.debounce es h.numbered)
 
   good-by : (s : Schedule M) (es : List (QueueEvent M)) → Stands same s es → Good same equiv s.debounce es (count_by is_request es) (count_by is_settle es)
   good-by s es h = good same equiv s.debounce es h.numbered
