@@ -8,3 +8,10 @@ pub mod Seeing
 pub mod Offering
 pub mod Making
 pub mod Setting
+pub mod Keying
+pub mod Owing
+pub mod Leaving
+pub mod ListExchanges
+pub mod InitialExchanges
+pub mod LaterExchanges
+pub mod Exchanging

@@ -3,6 +3,7 @@ pub mod Views
 pub mod Reads
 pub mod Cached
 pub mod Relists
+pub mod Exchanged
 pub mod Subscribers
 pub mod Writers
 pub mod Published

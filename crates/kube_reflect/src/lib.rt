@@ -9,6 +9,7 @@ mod held;
 mod history;
 mod keeper;
 pub mod laws;
+pub mod laws_of_exchanges;
 mod made;
 mod readable;
 pub mod reader;
