@@ -9,14 +9,14 @@ use Rattle.std.proofs.Math.Bool.{or-true}
 use Rattle.std.proofs.lemmas.List.Elements.{filter-append, filter_map-append}
 use Rattle.kube_meta.specs.declared.moment.Moment.{Moment}
 use Rattle.kube_model.specs.Queue.{Request, QueueEvent, Requested, Settled, Took, is_request, is_settle, Entry, Frozen, entry, entry_of, goes_before, insert_by, sorted_by, waiting, plus, longest_wait}
-use Rattle.kube_model.specs.WaitingOnce.{is_frozen, AreInOrder, IsEntry}
-use Rattle.kube_model.proofs.Waits.{waiting-is}
+use Rattle.kube_model.specs.WaitingOnce.{HasEachOnce, is_frozen, AreInOrder, IsEntry}
+use Rattle.kube_model.proofs.Waits.{waiting-once, waiting-is}
 use Rattle.kube_sched.specs.declared.held.Held.{Held}
 use Rattle.kube_sched.specs.declared.request.ScheduleRequest.{ScheduleRequest}
 use Rattle.kube_sched.specs.Held.{is_of, is_due, is_earlier, comes_before, set_in, messages, IsFirstAt}
 use Rattle.kube_sched.specs.Entries.{IsNumbered, set_by, entry_at, entries, scheduled}
 use Rattle.kube_sched.specs.Schedule.{Schedule, Stands, held_of, held_of_frozen, with_request, with_settle, with_take, IsFirst}
-use Rattle.kube_sched.proofs.Orders.{before-orders, filter-sorted, any-insert, any-sorted}
+use Rattle.kube_sched.proofs.Orders.{before-orders, filter-sorted, any-sorted}
 use Rattle.kube_sched.proofs.Queues.{without, of, Distinct, Rising, IsBelow, freeze, sets, or-none, alike, Good, good, numbered-append, entries-settled, entries-took, entries-set, entries-kept, all-to, all-filter}
 
 -- an entry as it waits, if it is frozen
@@ -243,47 +243,13 @@ module _ {M : Type 0} (same : M → M → Bool) (equiv : IsEquivalence same) (de
 
   -- Each message waits once.
 
-  abbrev OnceFrozen : List (Frozen M) → Type 0
-  OnceFrozen [] = Unit {0}
-  OnceFrozen (f ∷ fs) = (list_any (λ g. same g.entry.message f.entry.message) fs ≡ false) × OnceFrozen fs
-
   abbrev OnceHeld : List (Held M) → Type 0
   OnceHeld [] = Unit {0}
   OnceHeld (h ∷ hs) = (list_any (is_of same h.message) hs ≡ false) × OnceHeld hs
 
-  once-frozens : (es : List (Entry M)) → Distinct same es → OnceFrozen (frozens es)
-  once-frozens [] d = tt
-  once-frozens (e ∷ es) d = go e.settle (once-frozens es d.1)
-    where
-      go : (s : Option ℕ) → OnceFrozen (frozens es) → OnceFrozen (cons_option (frozen_as e s) (frozens es))
-      go None r = r
-      go (Some j) r = (any-frozens_none es e.message d.0, r)
-
-  once-insert : (f : Frozen M) (fs : List (Frozen M)) → list_any (λ g. same g.entry.message f.entry.message) fs ≡ false → OnceFrozen fs → OnceFrozen (insert_by goes_before f fs)
-  once-insert f [] h o = (refl, tt)
-  once-insert f (g ∷ fs) h o =
-      let none = or-none (same g.entry.message f.entry.message) (list_any (λ k. same k.entry.message f.entry.message) fs) h in
-      go (goes_before g f) none.0 (once-insert f fs none.1 o.1)
-    where
-      go : (b : Bool) → same g.entry.message f.entry.message ≡ false → OnceFrozen (insert_by goes_before f fs) → OnceFrozen (if b then g ∷ insert_by goes_before f fs else f ∷ g ∷ fs)
-      go true n r = (
-        any-insert goes_before (λ k. same k.entry.message g.entry.message) f fs
-            ∙ ap (λ b. b || list_any (λ k. same k.entry.message g.entry.message) fs) (equiv.symm f.entry.message g.entry.message ∙ n)
-            ∙ o.0,
-        r,
-      )
-      go false n r = (h, o)
-
-  once-sorted : (fs : List (Frozen M)) → OnceFrozen fs → OnceFrozen (sorted_by goes_before fs)
-  once-sorted [] o = tt
-  once-sorted (f ∷ fs) o = once-insert f (sorted_by goes_before fs) (any-sorted goes_before (λ g. same g.entry.message f.entry.message) fs ∙ o.0) (once-sorted fs o.1)
-
-  once-held : (fs : List (Frozen M)) → OnceFrozen fs → OnceHeld (map held_of_frozen fs)
+  once-held : (fs : List (Frozen M)) → HasEachOnce same fs → OnceHeld (map held_of_frozen fs)
   once-held [] o = tt
   once-held (f ∷ fs) o = (any-map held_of_frozen (is_of same f.entry.message) fs ∙ o.0, once-held fs o.1)
-
-  once-waits : (es : List (Entry M)) → Distinct same es → OnceHeld (waits_of es)
-  once-waits es d = once-held (sorted_by goes_before (frozens es)) (once-sorted (frozens es) (once-frozens es d))
 
   filter-none : (hs : List (Held M)) (m : M) → list_any (is_of same m) hs ≡ false → filter (λ h. not (same m h.message)) hs ≡ hs
   filter-none [] m k = refl
@@ -775,7 +741,7 @@ module _ {M : Type 0} (same : M → M → Bool) (equiv : IsEquivalence same) whe
       let m = x.message in
       let all = entries same s.debounce es in
       let after = entries-took same equiv s.debounce es (count_by is_request es) (count_by is_settle es) g m in
-      let once = subst (OnceHeld same equiv s.debounce) (sym (waits-by s es h)) (once-waits same equiv s.debounce all g.distinct) in
+      let once = subst (OnceHeld same equiv s.debounce) (sym h.waits) (once-held same equiv s.debounce (waiting same s.debounce es) (waiting-once same equiv s.debounce es)) in
       let here : is_of same x.message (get_or s.waiting i x) ≡ true = ap (λ y. same y.message x.message) (sym at) ∙ equiv.refl x.message in
       let found : is_frozen (find (of same x.message) (entries same s.debounce es)) ≡ true =
       sym (any-waits same equiv s.debounce all m g.distinct) ∙ ap (list_any (is_of same m)) (sym (waits-by s es h)) ∙ any-at same equiv s.debounce (is_of same m) s.waiting i x l here in
