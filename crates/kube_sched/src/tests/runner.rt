@@ -47,25 +47,31 @@ fn run(message: &Message, left: u32) -> Untold<Countdown> {
     }
 }
 
-/// An error of a readiness as a number.
+/// An error of a readiness as a number, where there is one.
 trait Shown: Drop {
-    fn shown(&self) -> u64;
+    fn shown(error: Option<&Self>) -> u64;
 }
 
 impl Shown for u32 {
-    fn shown(&self) -> u64 {
-        CANCELED + 1 + u64::from(*self)
+    fn shown(error: Option<&u32>) -> u64 {
+        match error {
+            Some(error) => CANCELED + 1 + u64::from(*error),
+            None => 0,
+        }
     }
 }
 
 impl Shown for oneshot::Canceled {
-    fn shown(&self) -> u64 {
-        CANCELED
+    fn shown(error: Option<&oneshot::Canceled>) -> u64 {
+        match error {
+            Some(_) => CANCELED,
+            None => 0,
+        }
     }
 }
 
 impl Shown for Infallible {
-    fn shown(&self) -> u64 {
+    fn shown(_error: Option<&Infallible>) -> u64 {
         0
     }
 }
@@ -82,7 +88,7 @@ const CANCELED: u64 = 1003;
 fn number_of<E: Shown>(answer: &Next<Result<u64, Error<E>>>) -> u64 {
     match answer {
         Next::Item(Ok(value)) => *value,
-        Next::Item(Err(Error::Readiness(error))) => error.shown(),
+        Next::Item(Err(Error::Readiness(error))) => E::shown(Some(error)),
         Next::NotReady => NOT_READY,
         Next::Spent => SPENT,
         Next::End => END,
