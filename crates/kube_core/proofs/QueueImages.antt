@@ -1,0 +1,110 @@
+-- The queue of messages in one form is the queue of them in another.
+use Rattle.std.proofs.Common.{◌≡◌, ℕ, Bool, true, false, not, ◌&&◌, ◌||◌, nat_le, List, [], ◌∷◌, map, Option, Some, None, option_map, is_some, cond, refl, sym, ap, ◌∙◌}
+use Rattle.std.specs.List.{fold, filter_map, cons_option, list_any}
+use Rattle.kube_model.specs.Queue.{Request, QueueEvent, Requested, Settled, Took, Entry, Frozen, entry, entry_after, entry_of, entry_requested, entry_settled, frozen, requested_message, distinct, goes_before, insert_by, sorted_by, waiting}
+use Rattle.kube_core.specs.Images.{event_image, events_image, entry_image, frozen_image}
+
+module _ {A B : Type 0} (f : A → B) where
+  abbrev pub request_image : Request A → Request B
+  request_image q = record { message = f q.message; run_at = q.run_at; now = q.now; number = q.number }
+
+  requested-image : (d : ℕ) (q : Request A) (o : Option (Entry A))
+      → entry_requested d (request_image q) (option_map (entry_image f) o) ≡ option_map (entry_image f) (entry_requested d q o)
+  requested-image d q None = refl
+  requested-image d q (Some e) = go (not (is_some e.settle) && nat_le q.run_at e.time)
+    where
+      go : (b : Bool) → cond b (Some (entry_of d (request_image q))) (Some (entry_image f e)) ≡ option_map (entry_image f) (cond b (Some (entry_of d q)) (Some e))
+      go true = refl
+      go false = refl
+
+  settled-image : (now n : ℕ) (o : Option (Entry A))
+      → entry_settled now n (option_map (entry_image f) o) ≡ option_map (entry_image f) (entry_settled now n o)
+  settled-image now n None = refl
+  settled-image now n (Some e) = go (not (is_some e.settle) && nat_le e.time now)
+    where
+      go : (b : Bool) → cond b (Some (record (entry_image f e) { settle = Some n })) (Some (entry_image f e)) ≡ option_map (entry_image f) (cond b (Some (record e { settle = Some n })) (Some e))
+      go true = refl
+      go false = refl
+
+  frozen-image : (o : Option (Entry A)) → frozen (option_map (entry_image f) o) ≡ option_map (frozen_image f) (frozen o)
+  frozen-image None = refl
+  frozen-image (Some e) = go e.settle
+    where
+      go : (s : Option ℕ) → option_map (λ n. record { settle = n; entry = entry_image f e }) s ≡ option_map (frozen_image f) (option_map (λ n. record { settle = n; entry = e }) s)
+      go None = refl
+      go (Some n) = refl
+
+  messages-image : (es : List (QueueEvent A)) → filter_map requested_message (events_image f es) ≡ map f (filter_map requested_message es)
+  messages-image [] = refl
+  messages-image (Requested q ∷ es) = ap (λ ms. f q.message ∷ ms) (messages-image es)
+  messages-image (Settled now n ∷ es) = messages-image es
+  messages-image (Took m ∷ es) = messages-image es
+
+  insert-image : (z : Frozen A) (zs : List (Frozen A)) → insert_by goes_before (frozen_image f z) (map (frozen_image f) zs) ≡ map (frozen_image f) (insert_by goes_before z zs)
+  insert-image z [] = refl
+  insert-image z (y ∷ ys) = go (goes_before y z) (insert-image z ys)
+    where
+      go : (b : Bool) → insert_by goes_before (frozen_image f z) (map (frozen_image f) ys) ≡ map (frozen_image f) (insert_by goes_before z ys)
+          → cond b (frozen_image f y ∷ insert_by goes_before (frozen_image f z) (map (frozen_image f) ys)) (frozen_image f z ∷ frozen_image f y ∷ map (frozen_image f) ys)
+          ≡ map (frozen_image f) (cond b (y ∷ insert_by goes_before z ys) (z ∷ y ∷ ys))
+      go true r = ap (λ q. frozen_image f y ∷ q) r
+      go false r = refl
+
+  sorted-image : (zs : List (Frozen A)) → sorted_by goes_before (map (frozen_image f) zs) ≡ map (frozen_image f) (sorted_by goes_before zs)
+  sorted-image [] = refl
+  sorted-image (z ∷ zs) = ap (insert_by goes_before (frozen_image f z)) (sorted-image zs) ∙ insert-image z (sorted_by goes_before zs)
+
+  module _ (own : A → A → Bool) (same : B → B → Bool) (keeps : (a b : A) → same (f a) (f b) ≡ own a b) (d : ℕ) where
+    after-image : (m : A) (o : Option (Entry A)) (x : QueueEvent A)
+        → entry_after same d (f m) (option_map (entry_image f) o) (event_image f x) ≡ option_map (entry_image f) (entry_after own d m o x)
+    after-image m o (Requested q) =
+        ap (λ b. cond b (entry_requested d (request_image q) (option_map (entry_image f) o)) (option_map (entry_image f) o)) (keeps q.message m) ∙ go (own q.message m)
+      where
+        go : (b : Bool) → cond b (entry_requested d (request_image q) (option_map (entry_image f) o)) (option_map (entry_image f) o) ≡ option_map (entry_image f) (cond b (entry_requested d q o) o)
+        go true = requested-image d q o
+        go false = refl
+    after-image m o (Settled now n) = settled-image now n o
+    after-image m o (Took t) = ap (λ b. cond b None (option_map (entry_image f) o)) (keeps t m) ∙ go (own t m)
+      where
+        go : (b : Bool) → cond b None (option_map (entry_image f) o) ≡ option_map (entry_image f) (cond b None o)
+        go true = refl
+        go false = refl
+
+    fold-image : (m : A) (o : Option (Entry A)) (es : List (QueueEvent A))
+        → fold (entry_after same d (f m)) (option_map (entry_image f) o) (events_image f es) ≡ option_map (entry_image f) (fold (entry_after own d m) o es)
+    fold-image m o [] = refl
+    fold-image m o (x ∷ es) = ap (λ p. fold (entry_after same d (f m)) p (events_image f es)) (after-image m o x) ∙ fold-image m (entry_after own d m o x) es
+
+    pub entry-image : (es : List (QueueEvent A)) (m : A) → entry same d (events_image f es) (f m) ≡ option_map (entry_image f) (entry own d es m)
+    entry-image es m = fold-image m None es
+
+    any-image : (x : A) (xs : List A) → list_any (λ y. same y (f x)) (map f xs) ≡ list_any (λ y. own y x) xs
+    any-image x [] = refl
+    any-image x (y ∷ ys) = ap (λ b. b || list_any (λ z. same z (f x)) (map f ys)) (keeps y x) ∙ ap (λ b. own y x || b) (any-image x ys)
+
+    distinct-image : (xs : List A) → distinct same (map f xs) ≡ map f (distinct own xs)
+    distinct-image [] = refl
+    distinct-image (x ∷ xs) =
+        ap (λ b. cond b (distinct same (map f xs)) (f x ∷ distinct same (map f xs))) (any-image x xs)
+        ∙ (ap (λ ys. cond (list_any (λ y. own y x) xs) ys (f x ∷ ys)) (distinct-image xs) ∙ go (list_any (λ y. own y x) xs))
+      where
+        go : (b : Bool) → cond b (map f (distinct own xs)) (f x ∷ map f (distinct own xs)) ≡ map f (cond b (distinct own xs) (x ∷ distinct own xs))
+        go true = refl
+        go false = refl
+
+    frozens-image : (es : List (QueueEvent A)) (ms : List A) → filter_map (λ m. frozen (entry same d (events_image f es) m)) (map f ms) ≡ map (frozen_image f) (filter_map (λ m. frozen (entry own d es m)) ms)
+    frozens-image es [] = refl
+    frozens-image es (m ∷ ms) =
+        ap (λ o. cons_option o (filter_map (λ k. frozen (entry same d (events_image f es) k)) (map f ms))) (ap frozen (entry-image es m) ∙ frozen-image (entry own d es m))
+        ∙ (ap (λ r. cons_option (option_map (frozen_image f) (frozen (entry own d es m))) r) (frozens-image es ms) ∙ go (frozen (entry own d es m)))
+      where
+        go : (o : Option (Frozen A)) → cons_option (option_map (frozen_image f) o) (map (frozen_image f) (filter_map (λ k. frozen (entry own d es k)) ms)) ≡ map (frozen_image f) (cons_option o (filter_map (λ k. frozen (entry own d es k)) ms))
+        go None = refl
+        go (Some z) = refl
+
+    pub waiting-image : (es : List (QueueEvent A)) → waiting same d (events_image f es) ≡ map (frozen_image f) (waiting own d es)
+    waiting-image es =
+        ap (λ ms. sorted_by goes_before (filter_map (λ m. frozen (entry same d (events_image f es) m)) (distinct same ms))) (messages-image es)
+        ∙ (ap (λ ms. sorted_by goes_before (filter_map (λ m. frozen (entry same d (events_image f es) m)) ms)) (distinct-image (filter_map requested_message es))
+        ∙ (ap (sorted_by goes_before) (frozens-image es (distinct own (filter_map requested_message es)))
+        ∙ sorted-image (filter_map (λ m. frozen (entry own d es m)) (distinct own (filter_map requested_message es)))))

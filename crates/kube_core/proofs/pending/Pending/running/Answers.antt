@@ -1,0 +1,14 @@
+use Rattle.std.proofs.Common.{refl, sym, subst, ap, ◌∙◌, ◌≡◌, length, true, false, is_some, Some, None, option_copied, option_map}
+use Rattle.kube_meta.specs.Keys.{reference_of}
+use Rattle.kube_model.specs.Takes.{has_room, runs}
+use Rattle.kube_core.specs.Pendings.{Parts, Stands, handed_over}
+use Rattle.std.specs.Arc.{arc_value}
+use Rattle.kube_core.proofs.PendingSteps.{handed}
+use Rattle.kube_core.proofs.pending.Pending.running.Goals as goal
+
+pub returns : goal.returns
+returns g c core qs rs s =
+    let type_of = g.K.Resource.type_of in
+    let r = reference_of type_of c.args.reference.now in
+    let z = subst (λ p. Stands type_of core p qs rs) (sym c.self.view_is) s in
+    ap (option_map arc_value) c.get.ensures.value ∙ (handed type_of c.self.inside.running.entries r ∙ ap (λ us. handed_over us r) (sym z.running))

@@ -1,0 +1,11 @@
+use Rattle.std.proofs.Common.{refl, sym, subst, ap, ◌∙◌, ◌≡◌, length, true, false, is_some, Some, None, option_copied, option_map}
+use Rattle.kube_meta.specs.Keys.{reference_of}
+use Rattle.kube_model.specs.Takes.{has_room, runs}
+use Rattle.kube_core.specs.Pendings.{Parts, Stands, handed_over}
+use Rattle.kube_core.proofs.PendingSteps.{waits-in}
+use Rattle.kube_core.proofs.pending.Pending.waiting_len.Goals as goal
+
+pub returns : goal.returns
+returns g c core qs rs s =
+    let type_of = g.K.Resource.type_of in
+    waits-in type_of core _ qs rs _ c.waiting_len.ensures (subst (λ p. Stands type_of core p qs rs) (sym c.self.view_is) s)

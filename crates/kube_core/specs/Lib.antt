@@ -1,0 +1,3 @@
+-- the definitions that the contracts cite
+pub mod Images
+pub mod Pendings

@@ -1,0 +1,45 @@
+-- The values of a turn, as plain data. K is the type of objects, D that of their dynamic types.
+use Rattle.std.specs.Prelude.{Bool, map, Option, Some, None}
+use Rattle.std.specs.Arc.{arc_value}
+use Rattle.std.specs.declared.sync.Arc.{Arc}
+use Rattle.std.specs.declared.alloc.Global.{Global}
+use Rattle.kube_meta.specs.Reference.{ObjectType, same_reference}
+use Rattle.kube_meta.specs.Keys.{reference_of}
+use Rattle.kube_meta.specs.declared.object_ref.ObjectRef.{ObjectRef}
+use Rattle.kube_model.specs.History.{Exchange, Message, Taken as Take}
+use Rattle.kube_model.specs.ReasonView.{reason_of}
+use Rattle.kube_model.specs.Takes.{Running}
+use Rattle.kube_turn.specs.declared.exchange.SourceExchange.{SourceExchange}
+use Rattle.kube_turn.specs.declared.request.ReconcileRequest.{ReconcileRequest}
+use Rattle.kube_turn.specs.declared.taken.Taken.{Taken}
+use Rattle.kube_turn.specs.declared.taken.Taken.TheVariants.{Started, NotFound, Nothing}
+
+module _ {K D : Type 0} (type_of : D → ObjectType) where
+  abbrev pub message_of : ReconcileRequest K D → Message
+  message_of q = record { reference = reference_of type_of q.obj_ref; reason = reason_of q.reason }
+
+  -- whether the references are equal
+  abbrev pub same_request : ReconcileRequest K D → ReconcileRequest K D → Bool
+  same_request a b = same_reference (reference_of type_of a.obj_ref) (reference_of type_of b.obj_ref)
+
+  abbrev pub exchange_of : SourceExchange K D → Exchange K
+  exchange_of x = record {
+    source = x.source;
+    call = x.call;
+    answer = x.answer;
+    items = map arc_value x.items;
+    requests = map message_of x.requests;
+    error = x.error;
+  }
+
+  -- what was taken; nothing is no take
+  abbrev pub taken_of : Taken K D → Option (Take K)
+  taken_of (Started reference reason object) =
+      Some (record { message = record { reference = reference_of type_of reference; reason = reason_of reason }; object = Some (arc_value object) })
+  taken_of (NotFound reference reason) =
+      Some (record { message = record { reference = reference_of type_of reference; reason = reason_of reason }; object = None })
+  taken_of Nothing = None
+
+  -- a reference that runs, with the object that was handed over
+  abbrev pub running_of : ObjectRef K D × Arc K Global → Running K
+  running_of p = record { reference = reference_of type_of p.0; object = arc_value p.1 }
