@@ -1,0 +1,60 @@
+-- What one source may exchange, told by its own exchanges alone. O is the type of the root's objects. (Crate: the streams that `trigger_with` merges.)
+use Rattle.std.specs.Prelude.{◌≡◌, ℕ, Bool, true, false, not, List, [], ◌∷◌, map, Option, Some, None, unwrap_or, slice_get, IsTrue}
+use Rattle.kube_meta.specs.Reference.{ObjectType}
+use Rattle.kube_meta.specs.declared.metadata.ObjectMeta.{ObjectMeta}
+use Rattle.kube_meta.specs.Keys.{key_of, is_named}
+use Rattle.kube_model.specs.declared.call.Call.{Call}
+use Rattle.kube_model.specs.declared.call.Call.TheVariants.{Stream}
+use Rattle.kube_model.specs.World.{World, is_watched, Feed, Settings, Watched, Streamed, window_of}
+use Rattle.kube_model.specs.History.{Dated, Exchange}
+use Rattle.kube_model.specs.Owed.{owed, is_next}
+use Rattle.kube_model.specs.Fits.{idle_fits, is_window_over, silent_since, IsAnswered, IsOfRelated, IsOfRoot}
+use Rattle.kube_watch.specs.Stands.{exchanges_in}
+
+abbrev pub is_stream : Call → Bool
+is_stream Stream = true
+is_stream _ = false
+
+-- the exchange is one that a source so fed may have after these of its own, but for its objects and requests
+pub record IsOwed {O : Type 0} (feed : Feed) (own : List (Dated O)) (at : ℕ) (x : Exchange O) : Type 0 where
+  pub owes : x.call ≡ owed feed (exchanges_in own)
+  pub stream : is_stream x.call ≡ not (is_watched feed)
+  pub idle : IsTrue (is_next x.call) → IsTrue (idle_fits (is_window_over (window_of feed) (silent_since own) at) x.answer)
+  pub answer : IsAnswered (exchanges_in own) x
+
+-- so may a related source: it keeps no objects
+pub record IsRelatedNext {O : Type 0} (feed : Feed) (own : List (Dated O)) (at : ℕ) (x : Exchange O) : Type 0 where
+  pub owed : IsOwed feed own at x
+  pub content : IsOfRelated (exchanges_in own) x
+
+-- the objects of a root, as a world has them; nothing else of this world is looked at
+abbrev pub root_world : {O : Type 0} → ObjectType → (O → ObjectMeta) → Feed → World O (Unit {0})
+root_world t meta feed = record {
+  key = λ o. key_of t (meta o);
+  is_named = λ o. is_named (meta o);
+  version = λ o. (meta o).resource_version;
+  feeds = feed ∷ [];
+  limit = 0;
+  debounce = 0;
+  backoff = tt;
+  next = λ b at. (None, b);
+  reset = λ b. b;
+}
+
+-- a root of this type may make this exchange after these of its own
+pub record IsRootNext {O : Type 0} (t : ObjectType) (meta : O → ObjectMeta) (feed : Feed) (own : List (Dated O)) (at : ℕ) (x : Exchange O) : Type 0 where
+  pub owed : IsOwed feed own at x
+  pub content : IsOfRoot (root_world t meta feed) feed (exchanges_in own) x
+
+-- the same exchange, of whatever source
+abbrev pub IsSame : {O : Type 0} → Exchange O → Exchange O → Type 0
+IsSame x y = y ≡ record x { source = y.source }
+
+-- how a source is fed that lists and watches so, or is a stream
+abbrev pub fed : Option Settings → Feed
+fed None = Streamed
+fed (Some settings) = Watched settings
+
+-- how the source at a place is fed; one that isn't there counts as a stream
+abbrev pub feed_at : List (Option Settings) → ℕ → Feed
+feed_at feeds place = unwrap_or (slice_get (map fed feeds) place) Streamed

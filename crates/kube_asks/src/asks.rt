@@ -1,0 +1,521 @@
+//! Who is asked next.
+
+ghost use Rattle.std.specs.Prelude.{◌≡◌, ◌≢◌, ◌≤◌, ◌<◌, ◌^◌, ◌+◌, ◌-◌, ◌++◌, ◌∷◌, ◌||◌, [], List, length, map, option_map, OnOk, OnErr, IfOk, IfErr, IsErrOf, IfSome, IsErr, Ok, Err, ℕ, min, true, false, not, slice_index, if◌then◌else◌, nat_lt, Some, None, is_some};
+ghost use Rattle.std.specs.List.{find, range_with_len};
+ghost use Rattle.std.specs.Option.{option_or};
+ghost use Rattle.kube_model.specs.World.{World, is_queue, is_watched, feed_of};
+ghost use Rattle.kube_model.specs.History.{Dated, Exchange};
+ghost use Rattle.kube_model.specs.Fits.{IsFitting};
+ghost use Rattle.kube_model.specs.Pause.{gave_up, pause_asked};
+ghost use Rattle.kube_model.specs.Asks.{next_asked, stops_of};
+ghost use Rattle.kube_watch.specs.Polls.{dated_now};
+ghost use Rattle.kube_turn.specs.Views.{exchange_of};
+ghost use Rattle.kube_asks.specs.Sources.{is_stream};
+ghost use Rattle.kube_asks.specs.Kept.{is_in, may_ask_by, is_quiet_by, has_budget_by, stop_by, noted, spent_at, pause_noted, added_where, is_stream_end as ended, is_root_queue, total, asked_where, reset_where};
+ghost use Rattle.kube_asks.specs.Asking.{AskStands, IsNextAsked, IsWorldOf, Asking, asking_at_first, asking_begun, with_asked, SourcesStand, of_source, with_pause, IsPolledAt, IsBrokenAt, IfUnnamed};
+
+use crate::backoff::Backoff;
+use crate::root::RootSource;
+use crate::set::RelatedSet;
+use kube_meta::{List, Moment, NoMemory, Resource};
+use kube_model::call::{Answer, Call};
+use kube_model::turn::Stop;
+use kube_turn::SourceExchange;
+use kube_watch::StreamFault;
+use std::alloc::Global;
+use std::marker::Model;
+
+/// Why no more is asked. After a fault every ask answers `Spent`.
+#[derive(Clone, Copy, Debug, PartialEq, Eq)]
+pub enum AskFault {
+    /// Memory could not be had.
+    NoMemory,
+    /// An item of this source must become a reference and has no name.
+    Unnamed { source: u32 },
+    /// There was a fault before.
+    Spent,
+}
+
+impl From<NoMemory> for AskFault {
+    ghost use Rattle.std.specs.Prelude.{◌≡◌};
+    ghost use Rattle.kube_asks.specs.declared.asks.AskFault.{AskFault};
+
+    ghost from_gives = { λ e f. f ≡ AskFault.NoMemory };
+
+    fn from(_error: NoMemory) -> AskFault {
+        AskFault::NoMemory
+    }
+}
+
+/// A root with related sources, which are asked in turn, and the pause that errors make (the merged streams of
+/// kube-runtime's `Controller` with its `trigger_backoff`).
+///
+/// The root's number is 0, and the source at a place of the set has the number after it. It knows no turn but by its
+/// budget, and no shutdown. Contracts tell what it stands for by the exchanges before the turn and those of it.
+#[derive(Drop)]
+pub struct Asks<R, S, B> {
+    root: R,
+    related: S,
+    backoff: B,
+    /// Nothing is asked before this moment.
+    over_at: Moment,
+    given_up: bool,
+    /// The number after that of the source asked last.
+    after: u32,
+    /// What is left of each source's budget.
+    left: Vec<u32>,
+    /// The sources that told not ready in this turn.
+    quiet: Vec<u32>,
+    /// The streams that have ended.
+    dry: Vec<u32>,
+    spent: bool,
+}
+
+impl<R, S, B> Model for Asks<R, S, B> {
+    ghost use Rattle.kube_asks.specs.Asking.{Asking};
+
+    ghost Value = { Asking R S B };
+
+    ghost view = { λ a. record {
+      root = a.root;
+      related = a.related;
+      kept = record {
+        pause = record { backoff = a.backoff; over_at = a.over_at.0; given_up = a.given_up };
+        after = a.after;
+        left = a.left.items;
+        quiet = a.quiet.items;
+        dry = a.dry.items;
+      };
+      is_spent = a.spent;
+    } };
+}
+
+/// Whether a number is among these.
+fn contains(sources: &[u32], source: u32) -> bool
+    ensures { result ≡ is_in sources.now source }
+{
+    sources.iter().any(|other| *other == source)
+}
+
+/// Uses up one of a source's budget.
+fn spend(left: &mut Vec<u32>, source: u32)
+    ensures { left.new.items ≡ spent_at left.old.items source }
+{
+    let place = source as usize;
+    if place < left.len() {
+        left[place] = left[place].saturating_sub(1);
+    }
+}
+
+/// Adds a source, where this holds.
+fn add_where(holds: bool, sources: &mut Vec<u32>, source: u32) -> Result<(), NoMemory>
+    ensures { OnOk result (sources.new.items ≡ added_where holds sources.old.items source) }
+{
+    if holds {
+        sources.push(source)?;
+    }
+    Ok(())
+}
+
+/// Whether a stream has ended.
+fn is_stream_end<K: Resource>(exchange: &SourceExchange<K>) -> bool
+    ensures { result ≡ ended (exchange_of K.type_of exchange.now) }
+{
+    matches!(
+        (&exchange.call, &exchange.answer),
+        (Call::Stream, Answer::End)
+    )
+}
+
+/// What is asked of these, before the first turn.
+fn make<R, S, B>(alloc: Global, root: R, related: S, backoff: B) -> Asks<R, S, B>
+    ensures { result ≡ asking_at_first root related backoff }
+{
+    Asks {
+        root,
+        related,
+        backoff,
+        over_at: Moment(0),
+        given_up: false,
+        after: 0,
+        left: Vec::new(alloc),
+        quiet: Vec::new(alloc),
+        dry: Vec::new(alloc),
+        spent: false,
+    }
+}
+
+impl<R: RootSource, S: RelatedSet<R::Object>, B: Backoff> Asks<R, S, B> {
+    /// Whether a source told not ready in this turn or has ended.
+    fn is_quiet(&self, source: u32) -> bool
+        ensures { result ≡ is_quiet_by self.now.kept source }
+    {
+        contains(&self.quiet, source) || contains(&self.dry, source)
+    }
+
+    /// Whether a source has budget left.
+    fn has_budget(&self, source: u32) -> bool
+        ensures { result ≡ has_budget_by self.now.kept source }
+    {
+        match self.left.get(source as usize) {
+            Some(left) => *left > 0,
+            None => false,
+        }
+    }
+
+    /// Whether a source has budget left, and neither told not ready in this turn nor has ended.
+    fn may_ask(&self, source: u32) -> bool
+        ensures { result ≡ may_ask_by self.now.kept source }
+    {
+        self.has_budget(source) && !self.is_quiet(source)
+    }
+
+    /// Why a source is asked no more.
+    fn stop_of(&self, source: u32, shut: bool) -> Stop
+        ensures { result ≡ stop_by self.now.kept shut source }
+    {
+        if self.is_quiet(source) {
+            Stop::NotReady
+        } else if shut || self.given_up {
+            Stop::Shutdown
+        } else if self.has_budget(source) {
+            Stop::Paused
+        } else {
+            Stop::Budget
+        }
+    }
+
+    /// How many sources there are.
+    fn count(&self) -> u32
+        requires { length (S.feeds self.now.related) + 1 < 2 ^ 32 }
+        ensures { result ≡ length (S.feeds self.now.related) + 1 }
+    {
+        self.related.count() + 1
+    }
+
+    /// Whether asking was given up.
+    fn has_given_up(&self) -> bool
+        ensures { result ≡ self.now.kept.pause.given_up }
+    {
+        self.given_up
+    }
+
+    /// Keeps a new budget in place of what was told of the turn before.
+    fn begin_turn(&mut self, budget: Vec<u32>)
+        ensures { self.new ≡ asking_begun self.old budget.items }
+    {
+        self.left = budget;
+        self.quiet.clear();
+    }
+
+    /// Why each of so many sources is asked no more.
+    fn all_stops(&self, alloc: Global, count: u32, shut: bool) -> Result<List<Stop>, NoMemory>
+        ensures { IfOk result (λ stops. stops ≡ map (stop_by self.now.kept shut) (range_with_len 0 count)) }
+    {
+        let mut stops = List::new(alloc);
+        for source in 0..count {
+            stops.push(self.stop_of(source, shut))?;
+        }
+        Ok(stops)
+    }
+
+    /// The first from one source on, and before another, that may be asked.
+    fn first_between(&self, from: u32, to: u32) -> Option<u32>
+        ensures found { result ≡ find (may_ask_by self.now.kept) (range_with_len from (to - from)) }
+        ensures within { IfSome result (λ source. source < to) }
+        ensures may { IfSome result (λ source. may_ask_by self.now.kept source ≡ true) }
+    {
+        for source in from..to {
+            if self.may_ask(source) {
+                return Some(source);
+            }
+        }
+        None
+    }
+
+    /// Whether this is a root whose end gives up and which nothing pauses.
+    fn is_root_queue(&self, source: u32) -> bool
+        ensures { result ≡ is_root_queue (R.feed self.now.root) source }
+    {
+        source == 0 && self.root.is_queue()
+    }
+
+    /// Whether nothing is asked now.
+    fn is_held(&self, now: Moment) -> bool
+        ensures { result ≡ (self.now.kept.pause.given_up || nat_lt now.0 self.now.kept.pause.over_at) }
+    {
+        self.given_up || now < self.over_at
+    }
+
+    /// Asks the backoff, after an error.
+    fn ask_backoff(&mut self, now: Moment)
+        ensures { self.new ≡ with_pause self.old (pause_asked self.old.kept.pause now.0 (B.delay self.old.kept.pause.backoff now.0, B.delayed self.old.kept.pause.backoff now.0)) }
+    {
+        match self.backoff.next(now) {
+            Some(delay) => self.over_at = now.plus(delay),
+            None => self.given_up = true,
+        }
+    }
+
+    /// Asks the backoff where there was an error.
+    fn note_error(&mut self, now: Moment, failed: bool)
+        ensures { self.new ≡ with_pause self.old (asked_where B.delay B.delayed failed self.old.kept.pause now.0) }
+    {
+        if failed {
+            self.ask_backoff(now);
+        }
+    }
+
+    /// Begins the backoff anew where there were requests.
+    fn note_requests(&mut self, any: bool)
+        ensures { self.new ≡ with_pause self.old (reset_where B.restarted any self.old.kept.pause) }
+    {
+        if any {
+            self.backoff.reset();
+        }
+    }
+
+    /// Gives up at the end of a queue.
+    fn note_end(&mut self, end: bool)
+        ensures { self.new ≡ with_pause self.old (if end then record self.old.kept.pause { given_up = true } else self.old.kept.pause) }
+    {
+        if end {
+            self.given_up = true;
+        }
+    }
+
+    /// Keeps the pause that an exchange makes.
+    fn note_pause(&mut self, now: Moment, queue: bool, exchange: &SourceExchange<R::Object>)
+        ensures { self.new ≡ with_pause self.old (pause_noted B.delay B.delayed B.restarted queue self.old.kept.pause now.0 (exchange_of R.Object.type_of exchange.now)) }
+    {
+        if queue {
+            self.note_end(matches!(&exchange.answer, Answer::End));
+        } else {
+            self.note_error(now, exchange.error.is_some());
+            self.note_requests(!exchange.requests.is_empty());
+        }
+    }
+
+    /// Keeps what an exchange leaves.
+    fn note(
+        &mut self,
+        now: Moment,
+        source: u32,
+        exchange: &SourceExchange<R::Object>,
+    ) -> Result<(), NoMemory>
+        requires { source + 1 < 2 ^ 32 }
+        ensures kept { OnOk result (self.new.kept ≡ noted B.delay B.delayed B.restarted (is_root_queue (R.feed self.old.root) source) self.old.kept now.0 source (exchange_of R.Object.type_of exchange.now)) }
+        ensures root { self.new.root ≡ self.old.root }
+        ensures related { self.new.related ≡ self.old.related }
+        ensures spent { self.new.is_spent ≡ self.old.is_spent }
+    {
+        let queue = self.is_root_queue(source);
+        self.note_pause(now, queue, exchange);
+        self.after = source + 1;
+        spend(&mut self.left, source);
+        let unready = matches!(&exchange.answer, Answer::NotReady);
+        add_where(unready, &mut self.quiet, source)?;
+        add_where(is_stream_end(exchange), &mut self.dry, source)
+    }
+
+    /// The first source in turn that may be asked.
+    fn next_source(&self) -> Option<u32>
+        requires { length (S.feeds self.now.related) + 1 < 2 ^ 32 }
+        ensures found { result ≡ option_or (find (may_ask_by self.now.kept) (range_with_len self.now.kept.after ((length (S.feeds self.now.related) + 1) - self.now.kept.after)))
+            (find (may_ask_by self.now.kept) (range_with_len 0 (min self.now.kept.after (length (S.feeds self.now.related) + 1)))) }
+        ensures within { IfSome result (λ source. source < length (S.feeds self.now.related) + 1) }
+        ensures may { IfSome result (λ source. may_ask_by self.now.kept source ≡ true) }
+    {
+        let count = self.related.count() + 1;
+        match self.first_between(self.after, count) {
+            Some(source) => Some(source),
+            None => self.first_between(0, self.after.min(count)),
+        }
+    }
+
+    /// Polls a source. The exchange has whatever number the source gives it.
+    fn poll_source(
+        &mut self,
+        alloc: Global,
+        source: u32,
+        now: Moment,
+    ) -> Result<SourceExchange<R::Object>, StreamFault>
+        requires few { length (S.feeds self.old.related) + 1 < 2 ^ 32 }
+        requires there { source < length (S.feeds self.old.related) + 1 }
+        requires root { R.can_poll self.old.root }
+        requires related { S.can_poll self.old.related }
+        ensures root { R.can_poll self.new.root }
+        ensures related { S.can_poll self.new.related }
+        ensures made { IfOk result (λ x. (w : World R.Object B) (ds : List (Dated R.Object))
+            → IsWorldOf w (R.kind self.old.root) R.Object.meta_of (R.feed self.old.root) (S.feeds self.old.related) B.delay B.delayed B.restarted
+            → SourcesStand (R.stands self.old.root) (S.stands self.old.related) (length (S.feeds self.old.related)) ds
+            → IsFitting w ds now.0 (of_source source (exchange_of R.Object.type_of x)) × (is_stream x.call ≡ not (is_watched (feed_of w source)))
+            × SourcesStand (R.stands self.new.root) (S.stands self.new.related) (length (S.feeds self.old.related)) (ds ++ dated_now now.0 (of_source source (exchange_of R.Object.type_of x)) ∷ [])) }
+        ensures polled { IfOk result (λ x. (ds : List (Dated R.Object)) → SourcesStand (R.stands self.old.root) (S.stands self.old.related) (length (S.feeds self.old.related)) ds
+            → IsPolledAt R.polls S.polls ds now.0 (of_source source (exchange_of R.Object.type_of x)) self.old.root self.old.related self.new.root self.new.related source) }
+        ensures unnamed { IsErrOf result StreamFault.Unnamed → IsBrokenAt R.breaks S.breaks now.0 self.old.root self.old.related self.new.root self.new.related source }
+        ensures kept { self.new.kept ≡ self.old.kept }
+        ensures spent { self.new.is_spent ≡ self.old.is_spent }
+        ensures feed { R.feed self.new.root ≡ R.feed self.old.root }
+        ensures kind { R.kind self.new.root ≡ R.kind self.old.root }
+        ensures feeds { S.feeds self.new.related ≡ S.feeds self.old.related }
+    {
+        if source == 0 {
+            self.root.poll_root(alloc, now)
+        } else {
+            self.related.poll_at(alloc, source - 1, now)
+        }
+    }
+
+    /// Polls a source. The exchange has its number.
+    fn poll(
+        &mut self,
+        alloc: Global,
+        source: u32,
+        now: Moment,
+    ) -> Result<SourceExchange<R::Object>, AskFault>
+        requires few { length (S.feeds self.old.related) + 1 < 2 ^ 32 }
+        requires there { source < length (S.feeds self.old.related) + 1 }
+        requires root { R.can_poll self.old.root }
+        requires related { S.can_poll self.old.related }
+        ensures root { R.can_poll self.new.root }
+        ensures related { S.can_poll self.new.related }
+        ensures made { IfOk result (λ x. (w : World R.Object B) (ds : List (Dated R.Object))
+            → IsWorldOf w (R.kind self.old.root) R.Object.meta_of (R.feed self.old.root) (S.feeds self.old.related) B.delay B.delayed B.restarted
+            → SourcesStand (R.stands self.old.root) (S.stands self.old.related) (length (S.feeds self.old.related)) ds
+            → IsFitting w ds now.0 (exchange_of R.Object.type_of x) × (is_stream x.call ≡ not (is_watched (feed_of w source)))
+            × SourcesStand (R.stands self.new.root) (S.stands self.new.related) (length (S.feeds self.old.related)) (ds ++ dated_now now.0 (exchange_of R.Object.type_of x) ∷ [])) }
+        ensures source { IfOk result (λ x. x.source ≡ source) }
+        ensures polled { IfOk result (λ x. (ds : List (Dated R.Object)) → SourcesStand (R.stands self.old.root) (S.stands self.old.related) (length (S.feeds self.old.related)) ds
+            → IsPolledAt R.polls S.polls ds now.0 (exchange_of R.Object.type_of x) self.old.root self.old.related self.new.root self.new.related source) }
+        ensures unnamed { IfErr result (λ f. IfUnnamed f (λ s. (s ≡ source) × IsBrokenAt R.breaks S.breaks now.0 self.old.root self.old.related self.new.root self.new.related source)) }
+        ensures fault { IfErr result (λ f. f ≢ AskFault.Spent) }
+        ensures kept { self.new.kept ≡ self.old.kept }
+        ensures spent { self.new.is_spent ≡ self.old.is_spent }
+        ensures feed { R.feed self.new.root ≡ R.feed self.old.root }
+        ensures kind { R.kind self.new.root ≡ R.kind self.old.root }
+        ensures feeds { S.feeds self.new.related ≡ S.feeds self.old.related }
+    {
+        match self.poll_source(alloc, source, now) {
+            Ok(exchange) => Ok(SourceExchange { source, ..exchange }),
+            Err(StreamFault::NoMemory) => Err(AskFault::NoMemory),
+            Err(StreamFault::Unnamed) => Err(AskFault::Unnamed { source }),
+        }
+    }
+
+    /// A root, its related sources and a backoff, before the first turn.
+    pub fn new(alloc: Global, root: R, related: S, backoff: B) -> Asks<R, S, B>
+        ensures stands { (w : World R.Object B)
+            → IsWorldOf w (R.kind root) R.Object.meta_of (R.feed root) (S.feeds related) B.delay B.delayed B.restarted → w.backoff ≡ backoff
+            → SourcesStand (R.stands root) (S.stands related) (length (S.feeds related)) []
+            → AskStands w (R.stands result.root) (S.stands result.related) (length (S.feeds result.related)) [] [] [] result.kept }
+        ensures root { result.root ≡ root }
+        ensures related { result.related ≡ related }
+        ensures unspent { result.is_spent ≡ false }
+    {
+        make(alloc, root, related, backoff)
+    }
+
+    /// Makes the next exchange of the turn, or none where asking ends: where the backoff gave up, at a pause, and where no
+    /// source may be asked any more.
+    ///
+    /// The exchange is that of the next source in turn, after the one of the latest exchange, that has budget left, has not
+    /// told not ready in this turn and is no stream that has ended. A call takes no memory but for the exchange.
+    ///
+    /// # Errors
+    ///
+    /// `Unnamed` exactly where an item of that exchange must become a reference and has no name; `NoMemory`. After any
+    /// fault only `Spent`.
+    pub fn next(
+        &mut self,
+        alloc: Global,
+        now: Moment,
+    ) -> Result<Option<SourceExchange<R::Object>>, AskFault>
+        requires few { length (S.feeds self.old.related) + 1 < 2 ^ 32 }
+        requires root { R.can_poll self.old.root }
+        requires related { S.can_poll self.old.related }
+        ensures root { R.can_poll self.new.root }
+        ensures related { S.can_poll self.new.related }
+        ensures next { IfOk result (λ o. (w : World R.Object B) (budget : List ℕ) (before mine : List (Dated R.Object))
+            → IsWorldOf w (R.kind self.old.root) R.Object.meta_of (R.feed self.old.root) (S.feeds self.old.related) B.delay B.delayed B.restarted
+            → AskStands w (R.stands self.old.root) (S.stands self.old.related) (length (S.feeds self.old.related)) budget before mine self.old.kept
+            → IsNextAsked w budget before mine now.0 (option_map (exchange_of R.Object.type_of) o)
+            × AskStands w (R.stands self.new.root) (S.stands self.new.related) (length (S.feeds self.old.related)) budget before
+            (with_asked mine now.0 (option_map (exchange_of R.Object.type_of) o)) self.new.kept) }
+        ensures polled { IfOk result (λ o. IfSome o (λ x. (ds : List (Dated R.Object)) → SourcesStand (R.stands self.old.root) (S.stands self.old.related) (length (S.feeds self.old.related)) ds
+            → IsPolledAt R.polls S.polls ds now.0 (exchange_of R.Object.type_of x) self.old.root self.old.related self.new.root self.new.related x.source)) }
+        ensures none { IfOk result (λ o. o ≡ None → self.new ≡ self.old) }
+        ensures unnamed { IfErr result (λ f. IfUnnamed f (λ source. IsBrokenAt R.breaks S.breaks now.0 self.old.root self.old.related self.new.root self.new.related source
+            × ((w : World R.Object B) (budget : List ℕ) (before mine : List (Dated R.Object))
+            → IsWorldOf w (R.kind self.old.root) R.Object.meta_of (R.feed self.old.root) (S.feeds self.old.related) B.delay B.delayed B.restarted
+            → AskStands w (R.stands self.old.root) (S.stands self.old.related) (length (S.feeds self.old.related)) budget before mine self.old.kept
+            → next_asked w budget before mine now.0 ≡ Some source))) }
+        // each exchange uses up one of a budget, so asking ends
+        ensures uses_up { IfOk result (λ o. IfSome o (λ x. total self.new.kept.left < total self.old.kept.left)) }
+        ensures feeds { S.feeds self.new.related ≡ S.feeds self.old.related }
+        ensures feed { R.feed self.new.root ≡ R.feed self.old.root }
+        ensures kind { R.kind self.new.root ≡ R.kind self.old.root }
+        ensures spent { self.old.is_spent ≡ true → (result ≡ Err AskFault.Spent) × (self.new ≡ self.old) }
+        ensures unspent { OnOk result (self.new.is_spent ≡ false) }
+        ensures only { IfErr result (λ f. f ≡ AskFault.Spent → self.old.is_spent ≡ true) }
+        ensures err { OnErr result (self.new.is_spent ≡ true) }
+    {
+        if self.spent {
+            return Err(AskFault::Spent);
+        }
+        if self.is_held(now) {
+            return Ok(None);
+        }
+        let Some(source) = self.next_source() else {
+            return Ok(None);
+        };
+        self.spent = true;
+        let exchange = self.poll(alloc, source, now)?;
+        self.note(now, source, &exchange)?;
+        self.spent = false;
+        Ok(Some(exchange))
+    }
+
+    /// Begins a turn with a budget: at most so many exchanges of each source, the root first; a missing one is 0.
+    ///
+    /// The exchanges so far are then those before the turn.
+    pub fn begin(&mut self, budget: Vec<u32>)
+        ensures stands { (w : World R.Object B) (last : List ℕ) (before mine : List (Dated R.Object))
+            → AskStands w (R.stands self.old.root) (S.stands self.old.related) (length (S.feeds self.old.related)) last before mine self.old.kept
+            → AskStands w (R.stands self.new.root) (S.stands self.new.related) (length (S.feeds self.old.related)) budget.items (before ++ mine) [] self.new.kept }
+        ensures begun { self.new ≡ asking_begun self.old budget.items }
+    {
+        self.begin_turn(budget);
+    }
+
+    /// Whether the backoff has given up, or the end of a queue counts as that: then nothing is asked any more.
+    pub fn given_up(&self) -> bool
+        ensures { (w : World R.Object B) (budget : List ℕ) (before mine : List (Dated R.Object))
+            → AskStands w (R.stands self.now.root) (S.stands self.now.related) (length (S.feeds self.now.related)) budget before mine self.now.kept
+            → result ≡ gave_up w (before ++ mine) }
+    {
+        self.has_given_up()
+    }
+
+    /// Whether an ask answered a fault: then every further one answers `Spent`.
+    pub fn is_spent(&self) -> bool
+        ensures { result ≡ self.now.is_spent }
+    {
+        self.spent
+    }
+
+    /// Why each source is asked no more in this turn, the root first, where shutdown was asked or wasn't.
+    ///
+    /// # Errors
+    ///
+    /// `NoMemory` where there is none for the list.
+    pub fn stops(&self, alloc: Global, shut: bool) -> Result<List<Stop>, NoMemory>
+        requires few { length (S.feeds self.now.related) + 1 < 2 ^ 32 }
+        ensures stops { IfOk result (λ stops. (w : World R.Object B) (budget : List ℕ) (before mine : List (Dated R.Object))
+            → IsWorldOf w (R.kind self.now.root) R.Object.meta_of (R.feed self.now.root) (S.feeds self.now.related) B.delay B.delayed B.restarted
+            → AskStands w (R.stands self.now.root) (S.stands self.now.related) (length (S.feeds self.now.related)) budget before mine self.now.kept
+            → stops ≡ stops_of w budget before mine shut) }
+    {
+        self.all_stops(alloc, self.count(), shut)
+    }
+}
