@@ -311,7 +311,15 @@ fn tells_each_write_that_fails(rt: HostRuntime) -> Result<(), Fail> {
 /// The write of the line after this many fails.
 fn ends_before_line<R: Abort + AllocGlobal>(rt: &R, before: usize) -> Result<(), Fail> {
     let wanted = lines(rt.alloc(), &TURNS_TRACE[..before.min(TURNS_TRACE.len())])?;
-    ends_in_pieces(rt, TURNS, 10000, 0, before as u64 + 1, 6, &wanted)
+    ends_in_pieces(
+        rt,
+        TURNS,
+        10000,
+        0,
+        (before as u64).saturating_add(1),
+        6,
+        &wanted,
+    )
 }
 
 #[test]
