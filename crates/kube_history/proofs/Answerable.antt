@@ -9,12 +9,12 @@ use Rattle.kube_model.specs.World.{World, Settings, Feed, Watched, Streamed, Que
 use Rattle.kube_model.specs.History.{Exchange, Dated, exchanges_of}
 use Rattle.kube_model.specs.Owed.{owed}
 use Rattle.kube_model.specs.Fits.{IsFitting, IsOneOf, WatchItemsFit, IsOfWatch, IsOfRoot, IsOfSource}
-use Rattle.kube_model.specs.Named.{AreNamed}
+use Rattle.kube_model.specs.Named.{AreNamed, RootIsNamed}
 use Rattle.kube_model.proofs.Alls.{all-append}
 use Rattle.kube_model.proofs.Histories.{exchanges_of-own, exchanges_of-other}
 use Rattle.kube_history.specs.CoreWorld.{core_world, world_of}
 use Rattle.kube_history.specs.Legal.{is_stream, are_streams, MayOwe, RelatedMayOwe, SourceMayOwe, MayBeAnswered}
-use Rattle.kube_history.specs.Agrees.{EachFits, RootIsNamed}
+use Rattle.kube_history.specs.Agrees.{EachFits}
 use Rattle.kube_history.proofs.Starts.{same-form, owed-asks}
 
 module _ {O B : Type 0} (w : World O B) where

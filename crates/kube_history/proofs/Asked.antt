@@ -1,16 +1,15 @@
 -- What the asks of a turn do to the queue, all in one way.
-use Rattle.std.proofs.Common.{◌≡◌, ℕ, ◌+◌, Bool, true, false, cond, ◌||◌, List, [], ◌∷◌, ◌++◌, map, length, Option, Some, None, if◌then◌else◌, refl, sym, ap, ◌∙◌, append_assoc, append-nil, arith}
-use Rattle.std.specs.List.{flat_map, count_by, fold, AllByRecursion}
+use Rattle.std.proofs.Common.{◌≡◌, ℕ, Bool, true, false, cond, ◌||◌, List, [], ◌∷◌, ◌++◌, map, Option, Some, None, if◌then◌else◌, refl, sym, ap, ◌∙◌, append_assoc, append-nil}
+use Rattle.std.specs.List.{flat_map, AllByRecursion}
 use Rattle.std.proofs.lemmas.List.{map-append}
 use Rattle.std.proofs.lemmas.Grind.{flat_map-append}
 use Rattle.kube_meta.specs.Reference.{Reference, reference_before}
 use Rattle.kube_model.specs.Reason.{Reason, Unknown, BulkReconcile}
 use Rattle.kube_model.specs.World.{World}
-use Rattle.kube_model.specs.History.{Message, Exchange, Outcome, Succeeded, Failed, Turn, Finished}
-use Rattle.kube_model.specs.Queue.{QueueEvent, is_request, is_settle, sorted_by, plus}
-use Rattle.kube_model.specs.Requests.{Timed, requested_at, retry_reason, numbered, requests_of_action, requests_of_finish, requests_of_exchanges, named_requests, reload_requests, requests_of_turn}
+use Rattle.kube_model.specs.History.{Exchange, Outcome, Succeeded, Failed, Turn, Finished}
+use Rattle.kube_model.specs.Queue.{sorted_by, plus}
+use Rattle.kube_model.specs.Requests.{Timed, requested_at, retry_reason, asked_at, requests_of_action, requests_of_finish, requests_of_exchanges, named_requests, reload_requests, requests_of_turn}
 use Rattle.kube_history.specs.CoreEvents.{CoreEvent, Answered, Requested, Reloaded, Finished as Ended, Settled, Took, Shut, was_shut, queue_after, queue_by, requests_by, retry_of, action_requests, cache_of}
-use Rattle.kube_history.proofs.Numbering.{count-from, numbered-append, split-count}
 use Rattle.kube_history.specs.CoreWorld.{CoreWorld, core_world}
 use Rattle.kube_history.specs.TurnEvents.{is_success, finish_event, reload_events, asks}
 use Rattle.kube_history.proofs.Segments.{shut-append}
@@ -74,19 +73,6 @@ module _ {O : Type 0} where
       (asks-append t.at (f ++ r) n (asks-append t.at f r (ask-finishes O t.at fs) (ask-reload O t.at t.reload)) (ask-named O t.at t.on))
       (ask-answers t.at xs)
 
--- settles among requests: none
-settles-from : (n c : ℕ) (now : ℕ) (qs : List Timed) → fold (λ a x. a + cond (is_settle x) 1 0) c (numbered n now qs) ≡ c
-settles-from n c now [] = refl
-settles-from n c now (q ∷ qs) = settles-from (n + 1) (c + 0) now qs ∙ omega arith
-
-settles-split : (xs : List (QueueEvent Message)) (c : ℕ) (ys : List (QueueEvent Message))
-    → fold (λ a x. a + cond (is_settle x) 1 0) c (xs ++ ys) ≡ fold (λ a x. a + cond (is_settle x) 1 0) (fold (λ a x. a + cond (is_settle x) 1 0) c xs) ys
-settles-split [] c ys = refl
-settles-split (x ∷ xs) c ys = settles-split xs (c + cond (is_settle x) 1 0) ys
-
-pub settles-same : (qs : List (QueueEvent Message)) (n now : ℕ) (rs : List Timed) → count_by is_settle (qs ++ numbered n now rs) ≡ count_by is_settle qs
-settles-same qs n now rs = settles-split qs 0 (numbered n now rs) ∙ settles-from n (count_by is_settle qs) now rs
-
 module _ {O : Type 0} (core : CoreWorld O) where
   -- what these request, one after another
   abbrev pub asked_by : List (CoreEvent O) → List (CoreEvent O) → List Timed
@@ -99,36 +85,27 @@ module _ {O : Type 0} (core : CoreWorld O) where
       ap (λ rs. requests_by core before e ++ rs) (asked-append (before ++ e ∷ []) es fs ∙ ap (λ b. asked_by (before ++ e ∷ []) es ++ asked_by b fs) (append_assoc before (e ∷ []) es))
       ∙ sym (append_assoc (requests_by core before e) (asked_by (before ++ e ∷ []) es) (asked_by (before ++ e ∷ es) fs))
 
-  only : (before : List (CoreEvent O)) (k at now : ℕ) (rs : List Timed) → was_shut before ≡ false → at ≡ now
-      → cond (was_shut before) [] (numbered k at rs ++ []) ≡ numbered k now rs
-  only before k at now rs h e = ap (λ b. cond b [] (numbered k at rs ++ [])) h ∙ (append-nil (numbered k at rs) ∙ ap (λ n. numbered k n rs) e)
+  only : (before : List (CoreEvent O)) (at now : ℕ) (rs : List Timed) → was_shut before ≡ false → at ≡ now
+      → cond (was_shut before) [] (map (asked_at at) rs ++ []) ≡ map (asked_at now) rs
+  only before at now rs h e = ap (λ b. cond b [] (map (asked_at at) rs ++ [])) h ∙ (append-nil (map (asked_at at) rs) ∙ ap (λ n. map (asked_at n) rs) e)
 
-  ask-one : (before : List (CoreEvent O)) (qs : List (QueueEvent Message)) (now : ℕ) (e : CoreEvent O) → IsAsk now e → was_shut before ≡ false
-      → queue_by core before qs e ≡ numbered (count_by is_request qs) now (requests_by core before e)
-  ask-one before qs now (Answered at x) a h = only before (count_by is_request qs) at now (requests_by core before (Answered at x)) h a
-  ask-one before qs now (Requested at reference) a h = only before (count_by is_request qs) at now (requests_by core before (Requested at reference)) h a
-  ask-one before qs now (Reloaded at) a h = only before (count_by is_request qs) at now (requests_by core before (Reloaded at)) h a
-  ask-one before qs now (Ended at reference ok action ran) a h = only before (count_by is_request qs) at now (requests_by core before (Ended at reference ok action ran)) h a
-  ask-one before qs now (Settled at) a h = absurd a
-  ask-one before qs now (Took at taken) a h = absurd a
-  ask-one before qs now (Shut at) a h = absurd a
+  ask-one : (before : List (CoreEvent O)) (now : ℕ) (e : CoreEvent O) → IsAsk now e → was_shut before ≡ false → queue_by core before e ≡ map (asked_at now) (requests_by core before e)
+  ask-one before now (Answered at x) a h = only before at now (requests_by core before (Answered at x)) h a
+  ask-one before now (Requested at reference) a h = only before at now (requests_by core before (Requested at reference)) h a
+  ask-one before now (Reloaded at) a h = only before at now (requests_by core before (Reloaded at)) h a
+  ask-one before now (Ended at reference ok action ran) a h = only before at now (requests_by core before (Ended at reference ok action ran)) h a
+  ask-one before now (Settled at) a h = absurd a
+  ask-one before now (Took at taken) a h = absurd a
+  ask-one before now (Shut at) a h = absurd a
 
   -- asks one after another are requests together
-  pub asks-queue : (before : List (CoreEvent O)) (qs : List (QueueEvent Message)) (now : ℕ) (es : List (CoreEvent O)) → AllByRecursion (IsAsk now) es → was_shut before ≡ false
-      → queue_after core before qs es ≡ qs ++ numbered (count_by is_request qs) now (asked_by before es)
-  asks-queue before qs now [] a h = sym (append-nil qs)
-  asks-queue before qs now (e ∷ es) a h =
-      let one = requests_by core before e in
-      let more = asked_by (before ++ e ∷ []) es in
-      let k = count_by is_request qs in
-      let mid = qs ++ queue_by core before qs e in
-      let is : mid ≡ qs ++ numbered k now one = ap (λ fs. qs ++ fs) (ask-one before qs now e a.0 h) in
-      let count : count_by is_request (qs ++ numbered k now one) ≡ k + length one = split-count qs 0 (numbered k now one) ∙ count-from k k now one in
-      asks-queue (before ++ e ∷ []) mid now es a.1 (push-open now before e a.0 h)
-      ∙ (ap (λ fs. fs ++ numbered (count_by is_request fs) now more) is
-      ∙ (ap (λ n. (qs ++ numbered k now one) ++ numbered n now more) count
-      ∙ (append_assoc qs (numbered k now one) (numbered (k + length one) now more)
-      ∙ ap (λ fs. qs ++ fs) (sym (numbered-append k now one more)))))
+  pub asks-queue : (before : List (CoreEvent O)) (now : ℕ) (es : List (CoreEvent O)) → AllByRecursion (IsAsk now) es → was_shut before ≡ false
+      → queue_after core before es ≡ map (asked_at now) (asked_by before es)
+  asks-queue before now [] a h = refl
+  asks-queue before now (e ∷ es) a h =
+      ap (λ qs. qs ++ queue_after core (before ++ e ∷ []) es) (ask-one before now e a.0 h)
+      ∙ (ap (λ qs. map (asked_at now) (requests_by core before e) ++ qs) (asks-queue (before ++ e ∷ []) now es a.1 (push-open now before e a.0 h))
+      ∙ sym (map-append (asked_at now) (requests_by core before e) (asked_by (before ++ e ∷ []) es)))
 
   -- What the parts of a turn request.
 

@@ -1,24 +1,24 @@
 -- An open turn up to its settle: its first exchanges, after events that agree with the history before.
 use Rattle.std.proofs.Common.{◌≡◌, ◌≤◌, false, ◌||◌, List, [], ◌++◌, map, sym, ap, subst, ◌∙◌, append-nil, arith}
-use Rattle.std.specs.List.{fold, count_by, AllByRecursion}
+use Rattle.std.specs.List.{fold, AllByRecursion}
 use Rattle.std.proofs.lemmas.List.Sums.{fold-append}
 use Rattle.kube_model.specs.World.{World, Settings, Watched, feed_of}
 use Rattle.kube_model.specs.History.{Message, Exchange, Turn, Finished, Step, dated, exchanges, exchanges_with, exchanges_of}
 use Rattle.kube_model.specs.Store.{store_of}
-use Rattle.kube_model.specs.Queue.{QueueEvent, is_request}
+use Rattle.kube_model.specs.Queue.{QueueEvent}
 use Rattle.kube_model.specs.Pause.{gave_up}
-use Rattle.kube_model.specs.Requests.{Timed, numbered, requests_of_turn}
+use Rattle.kube_model.specs.Requests.{Timed, asked_at, requests_of_turn}
 use Rattle.kube_model.specs.Stored.{store_after}
 use Rattle.kube_model.specs.Shutdowns.{asks_shutdown, is_shut, is_closed}
 use Rattle.kube_model.specs.Takes.{Running, running, runs, unfinished}
 use Rattle.kube_model.specs.Turns.{running_in}
 use Rattle.kube_model.specs.Traces.{IsValid, EachIsNext}
-use Rattle.kube_model.specs.Named.{EachIsNamed}
+use Rattle.kube_model.specs.Named.{EachIsNamed, RootIsNamed}
 use Rattle.kube_model.proofs.Alls.{or-left, or-right, all-append}
 use Rattle.kube_history.specs.CoreWorld.{core_world}
 use Rattle.kube_history.specs.CoreEvents.{CoreEvent, Answered, Requested, answers_in, was_shut, clock_of, running_with, running_of, queue_of, cache_of}
 use Rattle.kube_history.specs.TurnEvents.{finish_event, reload_events, asks}
-use Rattle.kube_history.specs.Agrees.{Agrees, AgreesSoFar, EachFits, RootIsNamed}
+use Rattle.kube_history.specs.Agrees.{Agrees, AgreesSoFar, EachFits}
 use Rattle.kube_history.proofs.Segments as seg
 use Rattle.kube_history.proofs.Segments.{queue-append, running-append, answers-append, clock-append, AreReplies, replies-append, legal-append, legal-at}
 use Rattle.kube_history.proofs.Asked.{are-asks, asks-open, asks-queue, asked-turn}
@@ -109,11 +109,11 @@ module _ {O B : Type 0} (w : World O B) (settings : Settings) (watched : feed_of
   store-f : cache_of (core_world w) (es ++ map (finish_event t.at) fs) ≡ store_after w h
   store-f = ap (λ ds. store_of w.key (exchanges_of 0 ds)) (answers-f ∙ a.answers)
 
-  pub queue-so : queue_of (core_world w) so ≡ q0 ++ numbered (count_by is_request q0) t.at reqs
+  pub queue-so : queue_of (core_world w) so ≡ q0 ++ map (asked_at t.at) reqs
   queue-so =
-      queue-append (core_world w) [] [] es aa
-      ∙ (asks-queue (core_world w) es q0 t.at aa (are-asks t fs xs) open-es
-      ∙ ap (λ us. q0 ++ numbered (count_by is_request q0) t.at us) (asked-turn w es t fs xs (store_after w h) store-f))
+      queue-append (core_world w) [] es aa
+      ∙ ap (λ us. q0 ++ us)
+      (asks-queue (core_world w) es t.at aa (are-asks t fs xs) open-es ∙ ap (map (asked_at t.at)) (asked-turn w es t fs xs (store_after w h) store-f))
 
   -- Replies and moments.
 
@@ -147,7 +147,7 @@ module _ {O B : Type 0} (w : World O B) (settings : Settings) (watched : feed_of
   -- all of it
   pub agrees-so : AgreesSoFar w h t fs xs so
   agrees-so = record {
-    queue = queue-so ∙ ap (λ us. us ++ numbered (count_by is_request us) t.at reqs) a.queue;
+    queue = queue-so ∙ ap (λ us. us ++ map (asked_at t.at) reqs) a.queue;
     running = running-so;
     shut = open-so;
     answers = answers-so;

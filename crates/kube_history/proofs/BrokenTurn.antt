@@ -6,10 +6,10 @@ use Rattle.kube_model.specs.Shutdowns.{is_closed}
 use Rattle.kube_model.specs.Takes.{running}
 use Rattle.kube_model.specs.Turns.{next_source}
 use Rattle.kube_model.specs.Traces.{IsValid, AreFinishesOf, EachIsNext}
-use Rattle.kube_model.specs.Named.{EachIsNamed}
+use Rattle.kube_model.specs.Named.{EachIsNamed, RootIsNamed}
 use Rattle.kube_history.specs.CoreEvents.{CoreEvent}
 use Rattle.kube_history.specs.TurnEvents.{asks}
-use Rattle.kube_history.specs.Agrees.{Agrees, AgreesSoFar, RootIsNamed}
+use Rattle.kube_history.specs.Agrees.{Agrees, AgreesSoFar}
 use Rattle.kube_history.proofs.Finishes.{finishes-are}
 use Rattle.kube_history.proofs.TurnParts.{none-made, none-next}
 use Rattle.kube_history.proofs.AskedTurn.{agrees-so}

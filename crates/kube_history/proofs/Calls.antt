@@ -9,13 +9,13 @@ use Rattle.kube_model.specs.Reads.{nothing_read}
 use Rattle.kube_model.specs.Takes.{running}
 use Rattle.kube_model.specs.Turns.{next_source, record_with, is_idle_after, ReadsFit}
 use Rattle.kube_model.specs.Traces.{IsValid, AreFinishesOf, EachIsNext, IsRecord, Made, unread, step, last_moment}
-use Rattle.kube_model.specs.Named.{EachIsNamed}
+use Rattle.kube_model.specs.Named.{EachIsNamed, RootIsNamed}
 use Rattle.kube_model.proofs.Histories.{exchanges_with-push, running-push}
 use Rattle.kube_history.specs.CoreWorld.{CoreWorld, core_world}
 use Rattle.kube_history.specs.CoreEvents.{CoreEvent, Answered, Requested, Settled, Took, answers_in, running_of, next_taken}
 use Rattle.kube_history.specs.TurnEvents.{finish_event, reload_events, asks, closing, shut_if, before_takes, takes, core_events}
 use Rattle.kube_history.specs.Legal.{AreLegal}
-use Rattle.kube_history.specs.Agrees.{Agrees, RootIsNamed}
+use Rattle.kube_history.specs.Agrees.{Agrees}
 use Rattle.kube_history.proofs.Segments.{answers-append, answers-finishes, answers-reload, answers-named}
 use Rattle.kube_history.proofs.TurnParts.{none-next}
 use Rattle.kube_history.proofs.ClosedTurn.{none-over}

@@ -93,19 +93,21 @@ module _ {O B : Type 0} (w : World O B) (settings : Settings) (watched : feed_of
 
     -- with any shutdowns
     closed-by : (ss : List (CoreEvent O)) → was_shut (es ++ ss) ≡ true → answers_in ss ≡ [] → running_of (es ++ ss) ≡ running_of es
-        → queue_after (core_world w) es (queue_of (core_world w) es) ss ≡ queue_of (core_world w) es
+        → queue_after (core_world w) es ss ≡ []
         → AreLegal (core_world w) es ss → clock_of (es ++ ss) ≤ t.at → Agrees w (h ++ step t m ∷ []) ((es ++ ss) ++ f)
     closed-by ss shut-now none-answered same-running same-queue legal-ss l = record {
       queue =
-          queue-append (core_world w) [] [] (es ++ ss) f
-          ∙ (shut-queue (core_world w) (es ++ ss) (queue_of (core_world w) (es ++ ss)) f shut-now
-          ∙ (queue-append (core_world w) [] [] es ss
-          ∙ (same-queue
+          queue-append (core_world w) [] (es ++ ss) f
+          ∙ (ap (λ us. queue_of (core_world w) (es ++ ss) ++ us) (shut-queue (core_world w) (es ++ ss) f shut-now)
+          ∙ (append-nil (queue_of (core_world w) (es ++ ss))
+          ∙ (queue-append (core_world w) [] es ss
+          ∙ (ap (λ us. queue_of (core_world w) es ++ us) same-queue
+          ∙ (append-nil (queue_of (core_world w) es)
           ∙ (a.queue
           ∙ sym (
           events-push w h (step t m)
-          ∙ (ap (λ b. events_of w h ++ cond b [] (requested_and_settled (events_of w h) t.at (requests_of_turn w (stored_in w h t m.1 m.0.exchanges).reloaded t m.0.finished m.0.exchanges)) ++ took m.0.taken) c
-          ∙ (ap (λ us. events_of w h ++ [] ++ took us) (none-over over) ∙ (append-nil (events_of w h ++ []) ∙ append-nil (events_of w h)))))))));
+          ∙ (ap (λ b. events_of w h ++ cond b [] (requested_and_settled t.at (requests_of_turn w (stored_in w h t m.1 m.0.exchanges).reloaded t m.0.finished m.0.exchanges)) ++ took m.0.taken) c
+          ∙ (ap (λ us. events_of w h ++ [] ++ took us) (none-over over) ∙ (append-nil (events_of w h ++ []) ∙ append-nil (events_of w h)))))))))));
       running =
           running-append (es ++ ss) f
           ∙ (running-finishes t.at m.0.finished (running_of (es ++ ss))
@@ -137,7 +139,7 @@ module _ {O B : Type 0} (w : World O B) (settings : Settings) (watched : feed_of
 
     shut-at : (at : ℕ) → clock_of es ≤ at → at ≤ t.at → Agrees w (h ++ step t m ∷ []) ((es ++ Shut at ∷ []) ++ f)
     shut-at at low high =
-        closed-by (Shut at ∷ []) (shut-append es (Shut at ∷ []) ∙ or-true (was_shut es)) refl (running-append es (Shut at ∷ [])) (no-more (was_shut es) (queue_of (core_world w) es))
+        closed-by (Shut at ∷ []) (shut-append es (Shut at ∷ []) ∙ or-true (was_shut es)) refl (running-append es (Shut at ∷ [])) (no-more (was_shut es))
         (record { moment = low; reply = tt }, tt) (let e = clock-append es (Shut at ∷ []) in omega (arith, e, high))
 
     pub closed-agrees : Agrees w (h ++ step t m ∷ []) (es ++ closing w h t m.0.finished)

@@ -1,6 +1,5 @@
 -- lemmas on the events of a core
 pub mod Orders
-pub mod Numbering
 pub mod Segments
 pub mod Asked
 pub mod Finishes

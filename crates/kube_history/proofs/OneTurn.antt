@@ -4,10 +4,10 @@ use Rattle.kube_model.specs.World.{World, Settings, Watched, feed_of}
 use Rattle.kube_model.specs.History.{Turn, Step}
 use Rattle.kube_model.specs.Shutdowns.{is_closed}
 use Rattle.kube_model.specs.Traces.{Made, step, IsRecord, IsTrace, steps}
-use Rattle.kube_model.specs.Named.{EachIsNamed}
+use Rattle.kube_model.specs.Named.{EachIsNamed, AreNamedTurns, RootIsNamed}
 use Rattle.kube_history.specs.CoreEvents.{CoreEvent}
 use Rattle.kube_history.specs.TurnEvents.{takes, before_takes, closing, core_events, core_after, core_of}
-use Rattle.kube_history.specs.Agrees.{Agrees, AreNamedTurns, RootIsNamed}
+use Rattle.kube_history.specs.Agrees.{Agrees}
 use Rattle.kube_history.proofs.ClosedTurn.{closed-agrees}
 use Rattle.kube_history.proofs.OpenTurn.{open-agrees}
 
@@ -21,7 +21,7 @@ module _ {O B : Type 0} (w : World O B) (settings : Settings) (watched : feed_of
       go true c = closed-agrees w settings watched policies h t m k es a c
       go false c = open-agrees w settings watched policies h t m es k n a c
 
-  from-here : (policies : ℕ → ℕ → O → Option ℕ) (h : List (Step O)) (ts : List Turn) (ms : List (Made O)) (es : List (CoreEvent O)) → IsTrace w policies h ts ms → AreNamedTurns w h (steps ts ms)
+  from-here : (policies : ℕ → ℕ → O → Option ℕ) (h : List (Step O)) (ts : List Turn) (ms : List (Made O)) (es : List (CoreEvent O)) → IsTrace w policies h ts ms → AreNamedTurns w (RootIsNamed w) h (steps ts ms)
       → Agrees w h es → Agrees w (h ++ steps ts ms) (es ++ core_after w h (steps ts ms))
   from-here policies h [] ms es k n a = subst (λ g. Agrees w g (es ++ [])) (sym (append-nil h)) (subst (Agrees w h) (sym (append-nil es)) a)
   from-here policies h (t ∷ ts) [] es k n a = subst (λ g. Agrees w g (es ++ [])) (sym (append-nil h)) (subst (Agrees w h) (sym (append-nil es)) a)
@@ -33,5 +33,5 @@ module _ {O B : Type 0} (w : World O B) (settings : Settings) (watched : feed_of
   pub at-first : Agrees w [] []
   at-first = record { queue = refl; running = refl; shut = refl; answers = refl; store = refl; fits = tt; legal = tt; behind = omega arith; clock = λ e. refl }
 
-  pub whole-trace : (policies : ℕ → ℕ → O → Option ℕ) (ts : List Turn) (ms : List (Made O)) → IsTrace w policies [] ts ms → AreNamedTurns w [] (steps ts ms) → Agrees w (steps ts ms) (core_of w (steps ts ms))
+  pub whole-trace : (policies : ℕ → ℕ → O → Option ℕ) (ts : List Turn) (ms : List (Made O)) → IsTrace w policies [] ts ms → AreNamedTurns w (RootIsNamed w) [] (steps ts ms) → Agrees w (steps ts ms) (core_of w (steps ts ms))
   whole-trace policies ts ms k n = from-here policies [] ts ms [] k n at-first

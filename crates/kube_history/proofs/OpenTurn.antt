@@ -1,20 +1,20 @@
 -- An open turn agrees with its events: what requests, the settle, the shutdown where the backoff gave up, and the takes.
 use Rattle.std.proofs.Common.{◌≡◌, ℕ, Bool, true, false, not, cond, ◌&&◌, ◌||◌, List, [], ◌∷◌, ◌++◌, map, Option, Some, None, if◌then◌else◌, refl, sym, ap, subst, ◌∙◌, append_assoc, append-nil, arith}
-use Rattle.std.specs.List.{filter_map, count_by, AllByRecursion}
+use Rattle.std.specs.List.{filter_map, AllByRecursion}
 use Rattle.std.proofs.Math.Bool.{or-false}
 use Rattle.kube_meta.specs.ReferenceLaws.{seen_equiv}
 use Rattle.kube_model.specs.World.{World, Settings, Watched, feed_of}
 use Rattle.kube_model.specs.History.{Message, same_message, Turn, Finished, Taken, Step, exchanges, exchanges_with, exchanges_of}
 use Rattle.kube_model.specs.Store.{is_ready, store_of}
-use Rattle.kube_model.specs.Queue.{Settled as QueueSettled, is_request, is_settle, waiting}
+use Rattle.kube_model.specs.Queue.{Settled as QueueSettled, waiting}
 use Rattle.kube_model.specs.Pause.{gave_up}
-use Rattle.kube_model.specs.Requests.{Timed, numbered, requested_and_settled, requests_of_turn, turn_events, took, events_of, waiting_in}
+use Rattle.kube_model.specs.Requests.{Timed, asked_at, requested_and_settled, requests_of_turn, turn_events, took, events_of, waiting_in}
 use Rattle.kube_model.specs.Stored.{Stored, stored_in, store_after}
 use Rattle.kube_model.specs.Shutdowns.{asks_shutdown, is_over, is_closed}
 use Rattle.kube_model.specs.Takes.{found_in, running, started, taken_of}
 use Rattle.kube_model.specs.Turns.{running_in}
 use Rattle.kube_model.specs.Traces.{Made, last_moment, step, IsRecord}
-use Rattle.kube_model.specs.Named.{EachIsNamed}
+use Rattle.kube_model.specs.Named.{EachIsNamed, RootIsNamed}
 use Rattle.kube_model.specs.WaitingOnce.{HasEachOnce}
 use Rattle.kube_model.proofs.Alls.{all-append}
 use Rattle.kube_model.proofs.Histories.{exchanges-push, running-push, events-push}
@@ -23,10 +23,9 @@ use Rattle.kube_history.specs.CoreWorld.{core_world}
 use Rattle.kube_history.specs.CoreEvents.{CoreEvent, Settled, Took, answers_in, was_shut, clock_of, running_of, queue_after, queue_of, next_taken}
 use Rattle.kube_history.specs.TurnEvents.{asks, shut_if, takes, was_over, before_takes}
 use Rattle.kube_history.specs.Legal.{AreLegal}
-use Rattle.kube_history.specs.Agrees.{Agrees, EachFits, RootIsNamed}
+use Rattle.kube_history.specs.Agrees.{Agrees, EachFits}
 use Rattle.kube_history.proofs.Segments as seg
 use Rattle.kube_history.proofs.Segments.{queue-append, shut-append, running-append, clock-append, answers-append, AreReplies, replies-append, legal-append, legal-at}
-use Rattle.kube_history.proofs.Asked.{settles-same}
 use Rattle.kube_history.proofs.Finishes.{finishes-are}
 use Rattle.kube_history.proofs.TakesBack.{store-taken, takes-queue, none-shut, none-unready, replies-takes}
 use Rattle.kube_history.proofs.TurnParts.{shut-queue, shut-if-queue, replies-shut}
@@ -123,31 +122,31 @@ module _ {O B : Type 0} (w : World O B) (settings : Settings) (watched : feed_of
   abbrev reqs : List Timed
   reqs = requests_of_turn w (store_after w h) t m.0.finished m.0.exchanges
 
-  queue-settled : queue_of (core_world w) settled ≡ events_of w h ++ turn_events w h (events_of w h) t m.1 m.0.finished m.0.exchanges
+  queue-settled : queue_of (core_world w) settled ≡ events_of w h ++ turn_events w h t m.1 m.0.finished m.0.exchanges
   queue-settled =
       let q0 = queue_of (core_world w) es in
-      queue-append (core_world w) [] [] so (Settled t.at ∷ [])
-      ∙ (ap (λ b. queue_of (core_world w) so ++ cond b [] (QueueSettled t.at (count_by is_settle (queue_of (core_world w) so)) ∷ [])) open-so
-      ∙ (ap (λ us. us ++ QueueSettled t.at (count_by is_settle us) ∷ []) (asked.queue-so w settings watched h t m.0.finished m.0.exchanges es k.valid fins k.asked n a c)
-      ∙ (ap (λ i. (q0 ++ numbered (count_by is_request q0) t.at reqs) ++ QueueSettled t.at i ∷ []) (settles-same q0 (count_by is_request q0) t.at reqs)
-      ∙ (append_assoc q0 (numbered (count_by is_request q0) t.at reqs) (QueueSettled t.at (count_by is_settle q0) ∷ [])
-      ∙ (ap (λ us. us ++ requested_and_settled us t.at reqs) a.queue
-      ∙ (ap (λ (x : Stored O). events_of w h ++ requested_and_settled (events_of w h) t.at (requests_of_turn w x.reloaded t m.0.finished m.0.exchanges)) (sym (reads-are w settings watched policies h t m k))
-      ∙ sym (ap (λ b. events_of w h ++ cond b [] (requested_and_settled (events_of w h) t.at (requests_of_turn w (stored_in w h t m.1 m.0.exchanges).reloaded t m.0.finished m.0.exchanges))) c)))))))
+      queue-append (core_world w) [] so (Settled t.at ∷ [])
+      ∙ (ap (λ b. queue_of (core_world w) so ++ (cond b [] (QueueSettled t.at ∷ []) ++ [])) open-so
+      ∙ (ap (λ us. us ++ QueueSettled t.at ∷ []) (asked.queue-so w settings watched h t m.0.finished m.0.exchanges es k.valid fins k.asked n a c)
+      ∙ (append_assoc q0 (map (asked_at t.at) reqs) (QueueSettled t.at ∷ [])
+      ∙ (ap (λ us. us ++ requested_and_settled t.at reqs) a.queue
+      ∙ (ap (λ (x : Stored O). events_of w h ++ requested_and_settled t.at (requests_of_turn w x.reloaded t m.0.finished m.0.exchanges)) (sym (reads-are w settings watched policies h t m k))
+      ∙ sym (ap (λ b. events_of w h ++ cond b [] (requested_and_settled t.at (requests_of_turn w (stored_in w h t m.1 m.0.exchanges).reloaded t m.0.finished m.0.exchanges))) c))))))
 
-  queue-ended : queue_of (core_world w) ended ≡ events_of w h ++ turn_events w h (events_of w h) t m.1 m.0.finished m.0.exchanges
-  queue-ended = queue-append (core_world w) [] [] settled gg ∙ (shut-if-queue (core_world w) (gave_up w (exchanges_with h t m.0.exchanges)) settled (queue_of (core_world w) settled) t.at ∙ queue-settled)
+  queue-ended : queue_of (core_world w) ended ≡ events_of w h ++ turn_events w h t m.1 m.0.finished m.0.exchanges
+  queue-ended =
+      queue-append (core_world w) [] settled gg
+      ∙ (ap (λ us. queue_of (core_world w) settled ++ us) (shut-if-queue (core_world w) (gave_up w (exchanges_with h t m.0.exchanges)) settled t.at)
+      ∙ (append-nil (queue_of (core_world w) settled) ∙ queue-settled))
 
-  takes-ended : (b : Bool) → gave_up w (exchanges_with h t m.0.exchanges) ≡ b → queue_after (core_world w) ended (queue_of (core_world w) ended) taking ≡ queue_of (core_world w) ended ++ took m.0.taken
-  takes-ended true e =
-      shut-queue (core_world w) ended (queue_of (core_world w) ended) taking (shut-ended ∙ e)
-      ∙ sym (ap (λ us. queue_of (core_world w) ended ++ took us) (none-over w settings watched policies h t m k (over-is ∙ e)) ∙ append-nil (queue_of (core_world w) ended))
-  takes-ended false e = takes-queue (core_world w) ended (queue_of (core_world w) ended) t.at m.0.taken (shut-ended ∙ e)
+  takes-ended : (b : Bool) → gave_up w (exchanges_with h t m.0.exchanges) ≡ b → queue_after (core_world w) ended taking ≡ took m.0.taken
+  takes-ended true e = shut-queue (core_world w) ended taking (shut-ended ∙ e) ∙ sym (ap took (none-over w settings watched policies h t m k (over-is ∙ e)))
+  takes-ended false e = takes-queue (core_world w) ended t.at m.0.taken (shut-ended ∙ e)
 
   queue-whole : queue_of (core_world w) (ended ++ taking) ≡ events_of w (h ++ step t m ∷ [])
   queue-whole =
-      queue-append (core_world w) [] [] ended taking
-      ∙ (takes-ended (gave_up w (exchanges_with h t m.0.exchanges)) refl
+      queue-append (core_world w) [] ended taking
+      ∙ (ap (λ us. queue_of (core_world w) ended ++ us) (takes-ended (gave_up w (exchanges_with h t m.0.exchanges)) refl)
       ∙ (ap (λ us. us ++ took m.0.taken) queue-ended ∙ sym (events-push w h (step t m))))
 
   -- Replies.
@@ -157,7 +156,7 @@ module _ {O B : Type 0} (w : World O B) (settings : Settings) (watched : feed_of
 
   once : HasEachOnce same_message (waiting_in w h t m.1 m.0.finished m.0.exchanges)
   once =
-      waiting-once same_message (seen_equiv (λ (m : Message). m.reference)) w.debounce (events_of w h ++ turn_events w h (events_of w h) t m.1 m.0.finished m.0.exchanges)
+      waiting-once same_message (seen_equiv (λ (m : Message). m.reference)) w.debounce (events_of w h ++ turn_events w h t m.1 m.0.finished m.0.exchanges)
 
   replies-taking : (g y : Bool) → gave_up w (exchanges_with h t m.0.exchanges) ≡ g → is_ready (exchanges_of 0 (exchanges_with h t m.0.exchanges)) ≡ y → AreReplies (core_world w) ended taking
   replies-taking true y e f = none-replies (none-shut (core_world w) ended (shut-ended ∙ e)) (none-over w settings watched policies h t m k (over-is ∙ e))

@@ -5,8 +5,7 @@ use Rattle.std.proofs.lemmas.List.Elements.{filter_map-append}
 use Rattle.std.proofs.lemmas.List.Folds.{list_any-append}
 use Rattle.std.proofs.lemmas.List.Sums.{fold-append}
 use Rattle.kube_meta.specs.Reference.{Reference}
-use Rattle.kube_model.specs.History.{Message, Exchange, Finished, Taken, dated}
-use Rattle.kube_model.specs.Queue.{QueueEvent}
+use Rattle.kube_model.specs.History.{Exchange, Finished, Taken, dated}
 use Rattle.kube_model.specs.Takes.{Running, started}
 use Rattle.kube_history.specs.CoreEvents.{CoreEvent, Answered, Requested, moment_of, is_shutdown, answer_in, answers_in, was_shut, clock_of, running_with, running_of, queue_after, queue_by}
 use Rattle.kube_history.specs.TurnEvents.{finish_event, reload_events, shut_if, takes}
@@ -14,12 +13,12 @@ use Rattle.kube_history.specs.CoreWorld.{CoreWorld}
 use Rattle.kube_history.specs.Legal.{IsReply, AreLegal}
 
 module _ {O : Type 0} where
-  pub queue-append : (core : CoreWorld O) (before : List (CoreEvent O)) (qs : List (QueueEvent Message)) (es fs : List (CoreEvent O))
-      → queue_after core before qs (es ++ fs) ≡ queue_after core (before ++ es) (queue_after core before qs es) fs
-  queue-append core before qs [] fs = ap (λ b. queue_after core b qs fs) (sym (append-nil before))
-  queue-append core before qs (e ∷ es) fs =
-      queue-append core (before ++ e ∷ []) (qs ++ queue_by core before qs e) es fs
-      ∙ ap (λ b. queue_after core b (queue_after core before qs (e ∷ es)) fs) (append_assoc before (e ∷ []) es)
+  pub queue-append : (core : CoreWorld O) (before es fs : List (CoreEvent O)) → queue_after core before (es ++ fs) ≡ queue_after core before es ++ queue_after core (before ++ es) fs
+  queue-append core before [] fs = ap (λ b. queue_after core b fs) (sym (append-nil before))
+  queue-append core before (e ∷ es) fs =
+      ap (λ qs. queue_by core before e ++ qs)
+      (queue-append core (before ++ e ∷ []) es fs ∙ ap (λ b. queue_after core (before ++ e ∷ []) es ++ queue_after core b fs) (append_assoc before (e ∷ []) es))
+      ∙ sym (append_assoc (queue_by core before e) (queue_after core (before ++ e ∷ []) es) (queue_after core (before ++ e ∷ es) fs))
 
   pub shut-append : (es fs : List (CoreEvent O)) → was_shut (es ++ fs) ≡ (was_shut es || was_shut fs)
   shut-append es fs = list_any-append is_shutdown es fs

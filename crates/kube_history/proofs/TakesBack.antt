@@ -1,18 +1,18 @@
 -- The takes of a turn, one after another.
-use Rattle.std.proofs.Common.{◌≡◌, ℕ, ◌+◌, Bool, true, false, not, cond, ◌&&◌, ◌||◌, List, [], ◌∷◌, ◌++◌, length, Option, Some, None, if◌then◌else◌, refl, sym, ap, subst, ◌∙◌, append_assoc, append-nil}
+use Rattle.std.proofs.Common.{◌≡◌, ℕ, ◌+◌, Bool, true, false, not, cond, ◌&&◌, ◌||◌, List, [], ◌∷◌, ◌++◌, length, Option, Some, None, if◌then◌else◌, refl, sym, ap, subst, ◌∙◌, append-nil}
 use Rattle.std.specs.List.{filter, filter_map, cons_option}
 use Rattle.std.specs.Option.{option_map}
 use Rattle.std.specs.Cmp.{IsEquivalence}
 use Rattle.std.proofs.lemmas.List.Elements.{filter_map-append}
-use Rattle.std.proofs.lemmas.List.Sums.{fold-append}
 use Rattle.kube_meta.specs.Reference.{Reference}
 use Rattle.kube_meta.specs.ReferenceLaws.{seen_equiv}
 use Rattle.kube_model.specs.History.{Message, same_message, Taken, exchanges_of}
 use Rattle.kube_model.specs.Store.{is_ready, found, store_of}
-use Rattle.kube_model.specs.Queue.{QueueEvent, Took as QueueTook, Frozen, entry, entry_after, frozen, requested_message, distinct, waiting, sorted_by, goes_before}
+use Rattle.kube_model.specs.Queue.{QueueEvent, Took as QueueTook, Frozen, entry, frozen, requested_message, distinct, waiting, sorted_by, goes_before}
 use Rattle.kube_model.specs.Requests.{took}
 use Rattle.kube_model.specs.Takes.{Running, started, candidates, has_room, within_room, taken_of, found_in}
 use Rattle.kube_model.specs.WaitingOnce.{HasEachOnce}
+use Rattle.kube_model.proofs.Entries.{entry-append}
 use Rattle.kube_model.proofs.Waits.{frozen-own}
 use Rattle.kube_history.proofs.Orders.{before-orders, filter-sorted}
 use Rattle.kube_history.specs.CoreWorld.{CoreWorld}
@@ -34,7 +34,7 @@ module _ (d : ℕ) (es : List (QueueEvent Message)) (m : Message) where
   after = es ++ QueueTook m ∷ []
 
   entry-after : (n : Message) → entry same_message d after n ≡ (if (same_message m n) then None else entry same_message d es n)
-  entry-after n = fold-append (entry_after same_message d n) None es (QueueTook m ∷ [])
+  entry-after n = entry-append same_message d es (QueueTook m ∷ []) n
 
   drops : (o : Option (Frozen Message)) (fs : List (Frozen Message)) → ((f : Frozen Message) → o ≡ Some f → same_message m f.entry.message ≡ true)
       → filter stays (cons_option o fs) ≡ filter stays fs
@@ -114,19 +114,17 @@ module _ {O : Type 0} (key : O → Reference) (l : ℕ) (store : List O) where
 
 module _ {O : Type 0} (core : CoreWorld O) where
   -- one take in the queue, where shutdown wasn't asked
-  took-one : (before : List (CoreEvent O)) (qs : List (QueueEvent Message)) (at : ℕ) (t : Taken O) → was_shut before ≡ false
-      → qs ++ queue_by core before qs (Took at (Some t)) ≡ qs ++ QueueTook t.message ∷ []
-  took-one before qs at t h = ap (λ b. qs ++ cond b [] (QueueTook t.message ∷ [])) h
+  took-one : (before : List (CoreEvent O)) (at : ℕ) (t : Taken O) → was_shut before ≡ false → queue_by core before (Took at (Some t)) ≡ QueueTook t.message ∷ []
+  took-one before at t h = ap (λ b. cond b [] (QueueTook t.message ∷ [])) h
 
   push-open : (before : List (CoreEvent O)) (at : ℕ) (o : Option (Taken O)) → was_shut before ≡ false → was_shut (before ++ Took at o ∷ []) ≡ false
   push-open before at o h = shut-append before (Took at o ∷ []) ∙ ap (λ b. b || false) h
 
-  pub takes-queue : (before : List (CoreEvent O)) (qs : List (QueueEvent Message)) (at : ℕ) (ts : List (Taken O)) → was_shut before ≡ false
-      → queue_after core before qs (takes at ts) ≡ qs ++ took ts
-  takes-queue before qs at [] h = ap (λ b. qs ++ cond b [] []) h
-  takes-queue before qs at (t ∷ ts) h =
-      takes-queue (before ++ Took at (Some t) ∷ []) (qs ++ queue_by core before qs (Took at (Some t))) at ts (push-open before at (Some t) h)
-      ∙ (ap (λ es. es ++ took ts) (took-one before qs at t h) ∙ append_assoc qs (QueueTook t.message ∷ []) (took ts))
+  pub takes-queue : (before : List (CoreEvent O)) (at : ℕ) (ts : List (Taken O)) → was_shut before ≡ false → queue_after core before (takes at ts) ≡ took ts
+  takes-queue before at [] h = ap (λ b. cond b [] [] ++ []) h
+  takes-queue before at (t ∷ ts) h =
+      ap (λ qs. qs ++ queue_after core (before ++ Took at (Some t) ∷ []) (takes at ts)) (took-one before at t h)
+      ∙ ap (λ qs. QueueTook t.message ∷ qs) (takes-queue (before ++ Took at (Some t) ∷ []) at ts (push-open before at (Some t) h))
 
   queue : List (CoreEvent O) → List (QueueEvent Message)
   queue es = queue_of core es
@@ -191,6 +189,6 @@ module _ {O : Type 0} (core : CoreWorld O) where
 
       waits : waiting same_message core.debounce (queue_of core (before ++ Took at (Some t) ∷ [])) ≡ without z.entry.message ws
       waits =
-          ap (waiting same_message core.debounce) (queue-append core [] [] before (Took at (Some t) ∷ []) ∙ took-one before (queue_of core before) at t unshut)
+          ap (waiting same_message core.debounce) (queue-append core [] before (Took at (Some t) ∷ []) ∙ ap (λ us. queue_of core before ++ (us ++ [])) (took-one before at t unshut))
           ∙ (waiting-took core.debounce (queue_of core before) t.message
           ∙ (ap (λ us. without t.message us) q ∙ ap (λ (u : Taken O). without u.message ws) is))

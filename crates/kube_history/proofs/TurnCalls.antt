@@ -1,13 +1,13 @@
 -- A turn is its calls, and back, however its root is fed.
 use Rattle.std.proofs.Common.{◌≡◌, ℕ, ◌+◌, Bool, true, false, List, [], ◌∷◌, ◌++◌, map, length, Option, None, is_some, if◌then◌else◌, refl, sym, ap, subst, ◌∙◌, append_assoc}
-use Rattle.std.specs.List.{count_by}
+use Rattle.std.proofs.lemmas.List.{map-append}
 use Rattle.kube_meta.specs.ReferenceLaws.{seen_equiv}
 use Rattle.kube_model.specs.World.{World, Feed, Watched, Streamed, Queued, feed_of}
 use Rattle.kube_model.specs.Reads.{Reads}
 use Rattle.kube_model.specs.History.{Message, same_message, Exchange, Turn, Finished, Taken, TurnRecord, Step}
-use Rattle.kube_model.specs.Queue.{QueueEvent, Settled, Frozen, is_request, is_settle}
+use Rattle.kube_model.specs.Queue.{QueueEvent, Settled, Frozen}
 use Rattle.kube_model.specs.Stored.{stored_by, store_in, may_take, AreLookedUp}
-use Rattle.kube_model.specs.Requests.{Timed, numbered, requested_and_settled, events_of, turn_events, waiting_in}
+use Rattle.kube_model.specs.Requests.{Timed, asked_at, requested_and_settled, events_of, turn_events, waiting_in}
 use Rattle.kube_model.specs.Takes.{Running, candidates, within_room, taken_of, found_so}
 use Rattle.kube_model.specs.Turns.{running_in, record_with, next_source, AreReads, ReadsFit}
 use Rattle.kube_model.specs.Traces.{IsValid, AreFinishesOf, EachIsNext, IsRecord}
@@ -16,8 +16,6 @@ use Rattle.kube_model.specs.WaitingOnce.{HasEachOnce}
 use Rattle.kube_model.proofs.Waits.{waiting-once}
 use Rattle.kube_history.specs.InTurn.{AreTaken}
 use Rattle.kube_history.specs.TurnCalls.{with_requests, look_by, TakesBy, ReaderAnswers, ReadsBy, ReadsAndTakes}
-use Rattle.kube_history.proofs.Numbering.{count-from, numbered-append, split-count}
-use Rattle.kube_history.proofs.Asked.{settles-same}
 use Rattle.kube_history.proofs.TakesInTurn.{taken-turn, looked, looked-in, messages}
 use Rattle.kube_history.proofs.TakesBack.{turn-taken}
 use Rattle.kube_history.proofs.ReaderTakes.{looked-so, looked-up}
@@ -25,16 +23,10 @@ use Rattle.kube_history.proofs.ReaderTakes.{looked-so, looked-up}
 -- requests, one part after another
 pub requests-join : (events : List (QueueEvent Message)) (at : ℕ) (ps qs : List Timed) → with_requests (with_requests events at ps) at qs ≡ with_requests events at (ps ++ qs)
 requests-join events at ps qs =
-    let k = count_by is_request events in
-    let count : count_by is_request (events ++ numbered k at ps) ≡ k + length ps = split-count events 0 (numbered k at ps) ∙ count-from k k at ps in
-    ap (λ n. (events ++ numbered k at ps) ++ numbered n at qs) count
-    ∙ (append_assoc events (numbered k at ps) (numbered (k + length ps) at qs) ∙ ap (λ es. events ++ es) (sym (numbered-append k at ps qs)))
+    append_assoc events (map (asked_at at) ps) (map (asked_at at) qs) ∙ ap (λ es. events ++ es) (sym (map-append (asked_at at) ps qs))
 
-pub settle-join : (events : List (QueueEvent Message)) (at : ℕ) (qs : List Timed)
-    → with_requests events at qs ++ Settled at (count_by is_settle (with_requests events at qs)) ∷ [] ≡ events ++ requested_and_settled events at qs
-settle-join events at qs =
-    let k = count_by is_request events in
-    ap (λ n. (events ++ numbered k at qs) ++ Settled at n ∷ []) (settles-same events k at qs) ∙ append_assoc events (numbered k at qs) (Settled at (count_by is_settle events) ∷ [])
+pub settle-join : (events : List (QueueEvent Message)) (at : ℕ) (qs : List Timed) → with_requests events at qs ++ Settled at ∷ [] ≡ events ++ requested_and_settled at qs
+settle-join events at qs = append_assoc events (map (asked_at at) qs) (Settled at ∷ [])
 
 -- what is looked up within the room is taken
 objects-are : {O : Type 0} (l r n : ℕ) (ms : List Message) (os : List (Option O)) → AreLookedUp l r n ms os → map (λ (t : Taken O). t.object) (within_room l r n (found_so os ms)) ≡ os
@@ -60,7 +52,7 @@ module _ {O B : Type 0} (w : World O B) (h : List (Step O)) (t : Turn) (r : Read
 
   once : HasEachOnce same_message (waiting_in w h t r fs xs)
   once =
-      waiting-once same_message (seen_equiv (λ (n : Message). n.reference)) w.debounce (events_of w h ++ turn_events w h (events_of w h) t r fs xs)
+      waiting-once same_message (seen_equiv (λ (n : Message). n.reference)) w.debounce (events_of w h ++ turn_events w h t r fs xs)
 
   -- what is found of the candidates is what the look-ups answer
   looks : (feed : Feed) → ReadsFit w feed h t r fs xs → may_take w h t r xs ≡ true

@@ -1,43 +1,42 @@
 -- Parts of a turn: what stays of the queue after a shutdown, replies, and what a valid turn is.
 use Rattle.std.proofs.Common.{◌≡◌, ℕ, ◌^◌, ◌≤◌, nat_le, nat_lt, Bool, true, false, cond, ◌||◌, List, [], ◌∷◌, ◌++◌, map, Some, None, if◌then◌else◌, refl, sym, ap, subst, ◌∙◌, append_assoc, append-nil, arith}
-use Rattle.std.specs.List.{count_by, find}
+use Rattle.std.specs.List.{find}
 use Rattle.std.proofs.lemmas.Bool.{ltb-false}
 use Rattle.kube_meta.specs.Reference.{Reference}
 use Rattle.kube_model.specs.World.{World, Settings, Watched, feed_of}
-use Rattle.kube_model.specs.History.{Message, Exchange, Turn, Step, exchanges, exchanges_with, exchanges_of}
+use Rattle.kube_model.specs.History.{Exchange, Turn, Step, exchanges, exchanges_with, exchanges_of}
 use Rattle.kube_model.specs.Fits.{IsFitting}
-use Rattle.kube_model.specs.Queue.{QueueEvent, is_request}
 use Rattle.kube_model.specs.Pause.{gave_up, is_paused}
-use Rattle.kube_model.specs.Requests.{numbered}
+use Rattle.kube_model.specs.Requests.{asked_at}
 use Rattle.kube_model.specs.Shutdowns.{is_closed}
 use Rattle.kube_model.specs.Takes.{running}
 use Rattle.kube_model.specs.Turns.{next_source, was_asked}
 use Rattle.kube_model.specs.Asks.{next_asked, may_be_asked, in_turn}
 use Rattle.kube_model.specs.Traces.{Moment, refusal, refused_finish, last_moment, EachIsNext}
-use Rattle.kube_model.specs.Named.{EachIsNamed}
+use Rattle.kube_model.specs.Named.{EachIsNamed, RootIsNamed}
 use Rattle.kube_model.proofs.Histories.{exchanges_with-push}
 use Rattle.kube_history.specs.CoreWorld.{CoreWorld, core_world}
-use Rattle.kube_history.specs.CoreEvents.{CoreEvent, Answered, Requested, moment_of, answers_in, was_shut, queue_after, queue_by, queue_with, requests_by}
+use Rattle.kube_history.specs.CoreEvents.{CoreEvent, Answered, Requested, moment_of, answers_in, was_shut, queue_after, queue_with, requests_by}
 use Rattle.kube_history.specs.TurnEvents.{reload_events, shut_if}
-use Rattle.kube_history.specs.Agrees.{EachFits, RootIsNamed}
+use Rattle.kube_history.specs.Agrees.{EachFits}
 use Rattle.kube_history.proofs.Segments.{shut-append, answers-append, AreReplies}
 use Rattle.kube_history.proofs.Answerable.{AreShaped, shaped-push, answerable, each-push}
 
-pub no-more : {A : Type 0} (b : Bool) (xs : List A) → xs ++ cond b [] [] ≡ xs
-no-more true xs = append-nil xs
-no-more false xs = append-nil xs
+pub no-more : {A : Type 0} (b : Bool) → (λ (xs : List A). xs ++ [] ≡ []) (cond b [] [])
+no-more true = refl
+no-more false = refl
 
 module _ {O : Type 0} (core : CoreWorld O) where
   -- after a shutdown nothing comes to the queue
-  pub shut-queue : (before : List (CoreEvent O)) (qs : List (QueueEvent Message)) (es : List (CoreEvent O)) → was_shut before ≡ true → queue_after core before qs es ≡ qs
-  shut-queue before qs [] h = refl
-  shut-queue before qs (e ∷ es) h =
-      shut-queue (before ++ e ∷ []) (qs ++ queue_by core before qs e) es (shut-append before (e ∷ []) ∙ ap (λ b. b || was_shut (e ∷ [])) h)
-      ∙ (ap (λ b. qs ++ cond b [] (numbered (count_by is_request qs) (moment_of e) (requests_by core before e) ++ queue_with core qs e)) h ∙ append-nil qs)
+  pub shut-queue : (before es : List (CoreEvent O)) → was_shut before ≡ true → queue_after core before es ≡ []
+  shut-queue before [] h = refl
+  shut-queue before (e ∷ es) h =
+      ap (λ b. cond b [] (map (asked_at (moment_of e)) (requests_by core before e) ++ queue_with core e) ++ queue_after core (before ++ e ∷ []) es) h
+      ∙ shut-queue (before ++ e ∷ []) es (shut-append before (e ∷ []) ∙ ap (λ b. b || was_shut (e ∷ [])) h)
 
-  pub shut-if-queue : (b : Bool) (before : List (CoreEvent O)) (qs : List (QueueEvent Message)) (at : ℕ) → queue_after core before qs (shut_if b at) ≡ qs
-  shut-if-queue true before qs at = no-more (was_shut before) qs
-  shut-if-queue false before qs at = refl
+  pub shut-if-queue : (b : Bool) (before : List (CoreEvent O)) (at : ℕ) → queue_after core before (shut_if b at) ≡ []
+  shut-if-queue true before at = no-more (was_shut before)
+  shut-if-queue false before at = refl
 
   pub replies-reload : (before : List (CoreEvent O)) (at : ℕ) (b : Bool) → AreReplies core before (reload_events at b)
   replies-reload before at true = (tt, tt)

@@ -1,6 +1,6 @@
 -- What happens to a core: answers, requests, reloads, finishes, settles, takes and the shutdown, each with its moment, its arguments and its reply; and what a list of these has stored, requested and started. O is the type of objects. (Crate: `Controller`, `applier`, told without its streams.)
 use Rattle.std.specs.Prelude.{ℕ, Bool, true, false, not, ◌&&◌, List, [], ◌∷◌, ◌++◌, map, length, Option, Some, None, if◌then◌else◌}
-use Rattle.std.specs.List.{fold, filter, filter_map, list_any, count_by, cons_option}
+use Rattle.std.specs.List.{fold, filter, filter_map, list_any, cons_option}
 use Rattle.std.specs.Option.{option_map}
 use Rattle.kube_meta.specs.Reference.{Reference, same_reference, reference_before}
 use Rattle.kube_model.specs.Reason.{Reason, Unknown, BulkReconcile, ReconcilerRequestedRetry, ErrorPolicyRequestedRetry}
@@ -8,8 +8,8 @@ use Rattle.kube_model.specs.World.{Settings, Watched, default_settings}
 use Rattle.kube_model.specs.History.{Message, same_message, Exchange, Dated, Taken, exchanges_of}
 use Rattle.kube_model.specs.Owed.{owed}
 use Rattle.kube_model.specs.Store.{is_ready, store_of, under_way, found}
-use Rattle.kube_model.specs.Queue.{QueueEvent, Settled as QueueSettled, Took as QueueTook, is_request, is_settle, plus, sorted_by, waiting}
-use Rattle.kube_model.specs.Requests.{Timed, requested_at, requests_of_exchanges, numbered}
+use Rattle.kube_model.specs.Queue.{QueueEvent, Settled as QueueSettled, Took as QueueTook, plus, sorted_by, waiting}
+use Rattle.kube_model.specs.Requests.{Timed, requested_at, requests_of_exchanges, asked_at}
 use Rattle.kube_model.specs.Takes.{Running, started, candidates, has_room}
 use Rattle.kube_history.specs.CoreWorld.{CoreWorld}
 
@@ -99,24 +99,22 @@ module _ {O : Type 0} (core : CoreWorld O) where
   requests_by before _ = []
 
   -- what else it does to the queue
-  abbrev pub queue_with : List (QueueEvent Message) → CoreEvent O → List (QueueEvent Message)
-  queue_with qs (Settled at) = QueueSettled at (count_by is_settle qs) ∷ []
-  queue_with qs (Took at (Some t)) = QueueTook t.message ∷ []
-  queue_with qs _ = []
+  abbrev pub queue_with : CoreEvent O → List (QueueEvent Message)
+  queue_with (Settled at) = QueueSettled at ∷ []
+  queue_with (Took at (Some t)) = QueueTook t.message ∷ []
+  queue_with _ = []
 
   -- what an event does to the queue; after a shutdown nothing does anything to it
-  abbrev pub queue_by : List (CoreEvent O) → List (QueueEvent Message) → CoreEvent O → List (QueueEvent Message)
-  queue_by before qs e =
-      if was_shut before then []
-      else numbered (count_by is_request qs) (moment_of e) (requests_by before e) ++ queue_with qs e
+  abbrev pub queue_by : List (CoreEvent O) → CoreEvent O → List (QueueEvent Message)
+  queue_by before e = if was_shut before then [] else map (asked_at (moment_of e)) (requests_by before e) ++ queue_with e
 
-  abbrev pub queue_after : List (CoreEvent O) → List (QueueEvent Message) → List (CoreEvent O) → List (QueueEvent Message)
-  queue_after before qs [] = qs
-  queue_after before qs (e ∷ es) = queue_after (before ++ e ∷ []) (qs ++ queue_by before qs e) es
+  abbrev pub queue_after : List (CoreEvent O) → List (CoreEvent O) → List (QueueEvent Message)
+  queue_after before [] = []
+  queue_after before (e ∷ es) = queue_by before e ++ queue_after (before ++ e ∷ []) es
 
   -- all that happened to the queue
   abbrev pub queue_of : List (CoreEvent O) → List (QueueEvent Message)
-  queue_of es = queue_after [] [] es
+  queue_of es = queue_after [] es
 
   -- the first candidate, where there is room for one more
   abbrev pub next_candidate : List (QueueEvent Message) → List (Running O) → Option Message

@@ -1,19 +1,18 @@
 -- A turn as the calls that make it, however its root is fed: reads, and takes one after another, each with what its look-up answered. O is the type of objects. (Crate: `Controller`, `applier`.)
 use Rattle.std.specs.Prelude.{◌≡◌, ℕ, Bool, true, false, not, ◌&&◌, List, [], ◌++◌, map, Option, is_some}
-use Rattle.std.specs.List.{count_by}
 use Rattle.kube_model.specs.World.{World, Feed, Watched, Streamed, Queued, feed_of}
 use Rattle.kube_model.specs.Reads.{Reads, nothing_read}
 use Rattle.kube_model.specs.History.{Message, Exchange, Turn, Finished, Taken, Step}
-use Rattle.kube_model.specs.Queue.{QueueEvent, is_request}
+use Rattle.kube_model.specs.Queue.{QueueEvent}
 use Rattle.kube_model.specs.Shutdowns.{is_closed, is_over}
 use Rattle.kube_model.specs.Stored.{store_in, may_take, was_ready}
-use Rattle.kube_model.specs.Requests.{Timed, numbered, waiting_in}
+use Rattle.kube_model.specs.Requests.{Timed, asked_at, waiting_in}
 use Rattle.kube_model.specs.Turns.{running_in}
 use Rattle.kube_history.specs.InTurn.{AreTaken, look_in, look_so}
 
 -- the queue after more requests at a moment
 abbrev pub with_requests : List (QueueEvent Message) → ℕ → List Timed → List (QueueEvent Message)
-with_requests events at requests = events ++ numbered (count_by is_request events) at requests
+with_requests events at requests = events ++ map (asked_at at) requests
 
 module _ {O B : Type 0} (w : World O B) (h : List (Step O)) (t : Turn) (r : Reads O) (finished : List Finished) (xs : List (Exchange O)) where
   -- what the n-th look-up answers: a watched root looks into its store, a stream or a queue asks its reader

@@ -11,13 +11,13 @@ ghost use Rattle.kube_model.specs.History.{same_message, Message, Dated, Exchang
 ghost use Rattle.kube_model.specs.Owed.{owed};
 ghost use Rattle.kube_model.specs.Fits.{IsFitting};
 ghost use Rattle.kube_model.specs.Store.{under_way};
-ghost use Rattle.kube_model.specs.Queue.{Frozen, QueueEvent, Settled, Took as QueueTook, is_settle, waiting};
+ghost use Rattle.kube_model.specs.Queue.{Frozen, QueueEvent, Settled, Took as QueueTook, waiting};
 ghost use Rattle.kube_model.specs.Shutdowns.{is_closed, is_shut};
 ghost use Rattle.kube_model.specs.Requests.{Timed, events_of, requested_and_settled, took, turn_events};
 ghost use Rattle.kube_model.specs.Takes.{Running, found_in, running, runs, started, taken_of, unfinished};
 ghost use Rattle.kube_model.specs.Turns.{is_idle_after, next_source, record_with};
 ghost use Rattle.kube_model.specs.Traces.{AreFinishesOf, EachIsNext, IsRecord, IsTrace, IsValid, Made, step, steps, unread};
-ghost use Rattle.kube_model.specs.Named.{EachIsNamed};
+ghost use Rattle.kube_model.specs.Named.{EachIsNamed, AreNamedTurns, RootIsNamed};
 ghost use Rattle.kube_model.specs.WaitingOnce.{HasEachOnce};
 ghost use Rattle.kube_history.specs.CoreWorld.{core_world, CoreWorld};
 ghost use Rattle.kube_history.specs.CoreEvents.{CoreEvent, answers_in, clock_of, is_shutdown, listing_of, moment_of, queue_by, queue_of, root_answers, running_of, running_with, was_shut};
@@ -25,13 +25,13 @@ ghost use Rattle.kube_history.specs.InTurn.{AreTaken, look_in, without};
 ghost use Rattle.kube_history.specs.TurnCalls.{ReadsAndTakes, with_requests};
 ghost use Rattle.kube_history.specs.Legal.{AreLegal, MayBeAnswered};
 ghost use Rattle.kube_history.specs.TurnEvents.{asks, before_takes, core_events, core_of, takes};
-ghost use Rattle.kube_history.specs.Agrees.{Agrees, AgreesSoFar, AreNamedTurns, EachFits, RootIsNamed};
+ghost use Rattle.kube_history.specs.Agrees.{Agrees, AgreesSoFar, EachFits};
 ghost use Rattle.kube_history.specs.PoolHistory.{PoolEntry, entry_events, events_in, has_started, IsOfPass, IsPoolHistory};
 ghost use Rattle.kube_history.specs.Running.{EachShutsDown, MayRun};
 
 /// One more event: what each word says after it, from what it said before.
 pub fn one_more_event<O>()
-    ensures queue { (core : CoreWorld O) (es : List (CoreEvent O)) (e : CoreEvent O) → queue_of core (es ++ e ∷ []) ≡ queue_of core es ++ queue_by core es (queue_of core es) e }
+    ensures queue { (core : CoreWorld O) (es : List (CoreEvent O)) (e : CoreEvent O) → queue_of core (es ++ e ∷ []) ≡ queue_of core es ++ queue_by core es e }
     ensures running { (es : List (CoreEvent O)) (e : CoreEvent O) → running_of (es ++ e ∷ []) ≡ running_with (running_of es) e }
     ensures answers { (es : List (CoreEvent O)) (e : CoreEvent O) → answers_in (es ++ e ∷ []) ≡ answers_in es ++ answers_in (e ∷ []) }
     ensures shut { (es : List (CoreEvent O)) (e : CoreEvent O) → was_shut (es ++ e ∷ []) ≡ was_shut es || is_shutdown e }
@@ -72,7 +72,7 @@ pub fn turn_agrees<O, B>()
 /// The core's events over a trace whose root is named are legal, and agree with its history.
 pub fn trace_agrees<O, B>()
     ensures { (w : World O B) (settings : Settings) → feed_of w 0 ≡ Watched settings → (policies : ℕ → ℕ → O → Option ℕ)
-        → (ts : List Turn) (ms : List (Made O)) → IsTrace w policies [] ts ms → AreNamedTurns w [] (steps ts ms) → Agrees w (steps ts ms) (core_of w (steps ts ms)) }
+        → (ts : List Turn) (ms : List (Made O)) → IsTrace w policies [] ts ms → AreNamedTurns w (RootIsNamed w) [] (steps ts ms) → Agrees w (steps ts ms) (core_of w (steps ts ms)) }
 {}
 
 /// From calls to a record: where the asks of an open turn, and takes up to the first that finds nothing, are legal,
@@ -154,7 +154,7 @@ pub fn turn_is_its_reads_and_takes<O, B>()
 /// A turn adds to the queue its requests, its settle and its takes.
 pub fn turn_grows_the_queue<O, B>()
     ensures { (w : World O B) (h : List (Step O)) (s : Step O)
-        → events_of w (h ++ s ∷ []) ≡ events_of w h ++ turn_events w h (events_of w h) s.turn s.reads s.made.finished s.made.exchanges ++ took s.made.taken }
+        → events_of w (h ++ s ∷ []) ≡ events_of w h ++ turn_events w h s.turn s.reads s.made.finished s.made.exchanges ++ took s.made.taken }
 {}
 
 /// Requests that come one part after another are requests that come together.
@@ -165,7 +165,7 @@ pub fn requests_join()
 /// Requests and then a settle are what a turn does to the queue before its takes.
 pub fn requests_then_settle()
     ensures { (events : List (QueueEvent Message)) (at : ℕ) (qs : List Timed)
-        → with_requests events at qs ++ Settled at (count_by is_settle (with_requests events at qs)) ∷ [] ≡ events ++ requested_and_settled events at qs }
+        → with_requests events at qs ++ Settled at ∷ [] ≡ events ++ requested_and_settled at qs }
 {}
 
 /// A turn takes what it finishes from what runs, and adds what it starts.

@@ -9,8 +9,7 @@ use Rattle.std.proofs.lemmas.Grind.{flat_map-append}
 use Rattle.std.proofs.lemmas.List.{map-append}
 use Rattle.kube_meta.specs.Reference.{same_reference}
 use Rattle.kube_model.specs.World.{World, Feed, Watched, Streamed, Queued, feed_of}
-use Rattle.kube_model.specs.History.{Message, Exchange, Dated, Turn, Step, Finish, dated, exchanges, exchanges_with, dated_of, exchanges_of}
-use Rattle.kube_model.specs.Queue.{QueueEvent}
+use Rattle.kube_model.specs.History.{Exchange, Dated, Turn, Step, Finish, dated, exchanges, exchanges_with, dated_of, exchanges_of}
 use Rattle.kube_model.specs.Pause.{Pause, pause_of, pause_after, pause_by, pause_reset, pause_failed, pause_asked, gave_up, has_requests}
 use Rattle.kube_model.specs.Owed.{is_end}
 use Rattle.kube_model.specs.Shutdowns.{is_shut}
@@ -132,16 +131,19 @@ module _ {O B : Type 0} (w : World O B) where
       fold-given (pause_of w ds) es (ap (λ (p : Pause B). p.given_up) (sym (fold-append (pause_after w) (record { backoff = w.backoff; over_at = 0; given_up = false }) ds es)) ∙ h)
 
   -- what happened to the queue, with one more turn
-  pub events_after-push : (before : List (Step O)) (events : List (QueueEvent Message)) (h : List (Step O)) (s : Step O)
-      → events_after w before events (h ++ s ∷ [])
-      ≡ events_after w before events h ++ turn_events w (before ++ h) (events_after w before events h) s.turn s.reads s.made.finished s.made.exchanges ++ took s.made.taken
-  events_after-push before events [] s =
-      ap (λ g. events ++ turn_events w g events s.turn s.reads s.made.finished s.made.exchanges ++ took s.made.taken) (sym (append-nil before))
-  events_after-push before events (u ∷ h) s =
-      events_after-push (before ++ u ∷ []) (events ++ turn_events w before events u.turn u.reads u.made.finished u.made.exchanges ++ took u.made.taken) h s
-      ∙ ap (λ g. events_after w before events (u ∷ h) ++ turn_events w g (events_after w before events (u ∷ h)) s.turn s.reads s.made.finished s.made.exchanges ++ took s.made.taken)
-      (append_assoc before (u ∷ []) h)
+  pub events_after-push : (before h : List (Step O)) (s : Step O)
+      → events_after w before (h ++ s ∷ []) ≡ events_after w before h ++ (turn_events w (before ++ h) s.turn s.reads s.made.finished s.made.exchanges ++ took s.made.taken)
+  events_after-push before [] s =
+      append-nil (turn_events w before s.turn s.reads s.made.finished s.made.exchanges ++ took s.made.taken)
+      ∙ ap (λ g. turn_events w g s.turn s.reads s.made.finished s.made.exchanges ++ took s.made.taken) (sym (append-nil before))
+  events_after-push before (u ∷ h) s =
+      let one = turn_events w before u.turn u.reads u.made.finished u.made.exchanges ++ took u.made.taken in
+      ap (λ es. one ++ es)
+      (events_after-push (before ++ u ∷ []) h s
+      ∙ ap (λ g. events_after w (before ++ u ∷ []) h ++ (turn_events w g s.turn s.reads s.made.finished s.made.exchanges ++ took s.made.taken)) (append_assoc before (u ∷ []) h))
+      ∙ sym (append_assoc one (events_after w (before ++ u ∷ []) h) (turn_events w (before ++ u ∷ h) s.turn s.reads s.made.finished s.made.exchanges ++ took s.made.taken))
 
   pub events-push : (h : List (Step O)) (s : Step O)
-      → events_of w (h ++ s ∷ []) ≡ events_of w h ++ turn_events w h (events_of w h) s.turn s.reads s.made.finished s.made.exchanges ++ took s.made.taken
-  events-push h s = events_after-push [] [] h s
+      → events_of w (h ++ s ∷ []) ≡ events_of w h ++ turn_events w h s.turn s.reads s.made.finished s.made.exchanges ++ took s.made.taken
+  events-push h s =
+      events_after-push [] h s ∙ sym (append_assoc (events_of w h) (turn_events w h s.turn s.reads s.made.finished s.made.exchanges) (took s.made.taken))

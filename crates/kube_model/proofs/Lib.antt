@@ -7,6 +7,8 @@ pub mod Entries
 pub mod HandedOver
 pub mod Histories
 pub mod SettledSteps
+pub mod Sorted
+pub mod Listed
 pub mod Waits
 pub mod Joins
 pub mod ShapeLemmas

@@ -1,6 +1,6 @@
 -- Nothing stays unreconciled: one more turn, and a whole trace.
-use Rattle.std.proofs.Common.{◌≡◌, ℕ, zero, suc, ◌+◌, Bool, true, false, not, ◌&&◌, ◌||◌, ◌==◌, List, [], ◌∷◌, ◌++◌, map, Option, Some, None, if◌then◌else◌, is_some, refl, sym, ap, subst, ◌∙◌, ◌⊎◌, inl, inr, append_assoc, append-nil, take, drop}
-use Rattle.std.specs.List.{filter_map, flat_map, list_any, last_or, AllByRecursion, count_by}
+use Rattle.std.proofs.Common.{◌≡◌, ℕ, zero, suc, ◌+◌, Bool, true, false, not, ◌&&◌, ◌||◌, ◌==◌, List, [], ◌∷◌, ◌++◌, map, Option, Some, None, if◌then◌else◌, is_some, refl, sym, ap, subst, ◌∙◌, ◌⊎◌, inl, inr, append_assoc, append-nil, take, drop, length}
+use Rattle.std.specs.List.{filter_map, flat_map, list_any, last_or, AllByRecursion}
 use Rattle.std.proofs.lemmas.List.Elements.{filter_map-append}
 use Rattle.std.proofs.lemmas.List.Folds.{list_any-append}
 use Rattle.std.proofs.lemmas.Grind.{flat_map-append}
@@ -14,7 +14,7 @@ use Rattle.kube_model.specs.History.{Message, same_message, Exchange, Turn, Turn
 use Rattle.kube_model.specs.Owed.{mark}
 use Rattle.kube_model.specs.Store.{completes, listed, store_of, changes_of}
 use Rattle.kube_model.specs.Fits.{IsOfRoot, IsOfSource, requests_of_watch, updated, put_of}
-use Rattle.kube_model.specs.Queue.{QueueEvent, is_request, is_settle}
+use Rattle.kube_model.specs.Queue.{QueueEvent}
 use Rattle.kube_model.specs.Shutdowns.{is_over, is_closed, is_shut, asks_shutdown}
 use Rattle.kube_model.specs.Stored.{store_after, stored_in, stored_by}
 use Rattle.kube_model.specs.Requests.{Timed, requested_at, requests_of_exchanges, requests_of_turn, requested_and_settled, turn_events, events_of, took, entry_in, waiting_in, requests_of_finish, reload_requests, named_requests}
@@ -99,26 +99,26 @@ module _ {O B : Type 0} (w : World O B) (settings : Settings) (watched : feed_of
 
     -- the queue before the turn's takes, and the turn's requests
     abbrev queue : List (QueueEvent Message)
-    queue = events_of w h ++ turn_events w h (events_of w h) t made.1 r.finished r.exchanges
+    queue = events_of w h ++ turn_events w h t made.1 r.finished r.exchanges
 
     abbrev turn_requests : List Timed
     turn_requests = requests_of_turn w (stored_in w h t made.1 r.exchanges).reloaded t r.finished r.exchanges
 
-    queue-is : (m : Message) → entry_by w.debounce queue m ≡ on_from w.debounce m (entry_by w.debounce (events_of w h) m) (requested_and_settled (events_of w h) t.at turn_requests)
+    queue-is : (m : Message) → entry_by w.debounce queue m ≡ on_from w.debounce m (length (events_of w h)) (entry_by w.debounce (events_of w h) m) (requested_and_settled t.at turn_requests)
     queue-is m =
-        ap (λ b. entry_by w.debounce (events_of w h ++ (if b then [] else requested_and_settled (events_of w h) t.at turn_requests)) m) open-turn
-        ∙ entry-append w.debounce (events_of w h) (requested_and_settled (events_of w h) t.at turn_requests) m
+        ap (λ b. entry_by w.debounce (events_of w h ++ (if b then [] else requested_and_settled t.at turn_requests)) m) open-turn
+        ∙ entry-append same_message w.debounce (events_of w h) (requested_and_settled t.at turn_requests) m
 
     -- what had an entry has one, and so has what was requested
     still : (m : Message) → is_some (entry_in w h m) ≡ true → is_some (entry_by w.debounce queue m) ≡ true
     still m e =
         ap is_some (queue-is m)
-        ∙ kept-requests w.debounce m (entry_by w.debounce (events_of w h) m) (count_by is_request (events_of w h)) t.at (count_by is_settle (events_of w h)) turn_requests e
+        ∙ kept-requests w.debounce m (length (events_of w h)) (entry_by w.debounce (events_of w h) m) t.at turn_requests e
 
     asked-now : (m : Message) → list_any (λ q. same_message q.message m) turn_requests ≡ true → is_some (entry_by w.debounce queue m) ≡ true
     asked-now m e =
         ap is_some (queue-is m)
-        ∙ made-requests w.debounce m (entry_by w.debounce (events_of w h) m) (count_by is_request (events_of w h)) t.at (count_by is_settle (events_of w h)) turn_requests e
+        ∙ made-requests w.debounce m (length (events_of w h)) (entry_by w.debounce (events_of w h) m) t.at turn_requests e
 
     abbrev Waits : Message → Type 0
     Waits m = is_some (entry_by w.debounce queue m) ≡ true
@@ -173,8 +173,8 @@ module _ {O B : Type 0} (w : World O B) (settings : Settings) (watched : feed_of
         ∙ ap (last_or None) (filter_map-append (λ u. if_keyed w (w.key o) u.object) (flat_map (λ s. s.made.taken) h) r.taken)
         ∙ last_or-append None (filter_map (λ u. if_keyed w (w.key o) u.object) (flat_map (λ s. s.made.taken) h)) (filter_map (λ u. if_keyed w (w.key o) u.object) r.taken)
 
-    entry-now : (m : Message) → entry_in w (h ++ step t made ∷ []) m ≡ on_from w.debounce m (entry_by w.debounce queue m) (took r.taken)
-    entry-now m = ap (λ es. entry_by w.debounce es m) (events-push w h (step t made)) ∙ entry-append w.debounce queue (took r.taken) m
+    entry-now : (m : Message) → entry_in w (h ++ step t made ∷ []) m ≡ on_from w.debounce m (length queue) (entry_by w.debounce queue m) (took r.taken)
+    entry-now m = ap (λ es. entry_by w.debounce es m) (events-push w h (step t made)) ∙ entry-append same_message w.debounce queue (took r.taken) m
 
     settled-one : AllByRecursion (IsLookUp w stored) r.taken → AllByRecursion (IsFoundIn w.key stored) stored → (o : O) → IsDue o → IsFoundIn w.key stored o
         → IsSettledAt w (h ++ step t made ∷ []) o
@@ -184,7 +184,7 @@ module _ {O B : Type 0} (w : World O B) (settings : Settings) (watched : feed_of
         go true e due = inl (last-push o ∙ last-taken w stored all o found (last_handed w h (w.key o)) r.taken looks e)
         go false e (inl k) =
             inl (last-push o ∙ ap (λ z. last_or z (filter_map (λ u. if_keyed w (w.key o) u.object) r.taken)) k ∙ last-stays w stored all o found r.taken looks)
-        go false e (inr k) = inr (ap is_some (entry-now (about (w.key o)) ∙ kept-takes w.debounce (about (w.key o)) (entry_by w.debounce queue (about (w.key o))) r.taken e) ∙ k)
+        go false e (inr k) = inr (ap is_some (entry-now (about (w.key o)) ∙ kept-takes w.debounce (about (w.key o)) (length queue) (entry_by w.debounce queue (about (w.key o))) r.taken e) ∙ k)
 
     -- one more turn
     pub settled-turn : (policies : ℕ → O → Option ℕ) → IsRecord w policies h t made → IsSettled w h → IsSettled w (h ++ step t made ∷ [])

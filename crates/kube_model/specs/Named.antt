@@ -1,5 +1,5 @@
 -- Whether what came from a source has the names that it must have, said of what came itself; and a turn that is broken off where it hasn't.
-use Rattle.std.specs.Prelude.{◌≡◌, ℕ, Bool, true, false, not, ◌||◌, List, [], ◌∷◌, ◌++◌, Option, Some, IsTrue}
+use Rattle.std.specs.Prelude.{◌≡◌, ℕ, zero, suc, Bool, true, false, not, ◌||◌, List, [], ◌∷◌, ◌++◌, Option, Some, IsTrue}
 use Rattle.std.specs.List.{list_all, AllByRecursion}
 use Rattle.kube_model.specs.World.{World, Feed, Watched, Streamed, Queued, feed_of}
 use Rattle.kube_model.specs.Raw.{Raw}
@@ -44,11 +44,21 @@ module _ {O B : Type 0} (w : World O B) where
   abbrev pub AreNamed : List (Exchange O) → Exchange O → Type 0
   AreNamed own x = IsTrue (has_references (mark own x)) → AllByRecursion (λ o. IsTrue (w.is_named o)) x.items
 
+  -- the objects of the root's exchanges have names; a related source's exchange keeps none
+  abbrev pub RootIsNamed : ℕ → List (Exchange O) → Exchange O → Type 0
+  RootIsNamed zero own x = AreNamed own x
+  RootIsNamed (suc place) own x = Unit {0}
+
   -- each of these came with its names: named says so of an exchange of a source, after those of that source
   module _ (named : ℕ → List (Exchange O) → Exchange O → Type 0) where
     abbrev pub EachIsNamed : List (Step O) → Turn → List (Exchange O) → List (Exchange O) → Type 0
     EachIsNamed h t before [] = Unit {0}
     EachIsNamed h t before (x ∷ xs) = named x.source (exchanges_of x.source (exchanges_with h t before)) x × EachIsNamed h t (before ++ x ∷ []) xs
+
+    -- so in each of these turns, after those before them
+    abbrev pub AreNamedTurns : List (Step O) → List (Step O) → Type 0
+    AreNamedTurns before [] = Unit {0}
+    AreNamedTurns before (s ∷ h) = EachIsNamed before s.turn [] s.made.exchanges × AreNamedTurns (before ++ s ∷ []) h
 
     -- a turn after a history is broken off by what came from this source: it is asked next after these exchanges, which came with their names, by the call that it owes, and what came is without one
     pub record IsUnnamedAt {V : Type 0} (is_named : V → Bool) (version : V → Option (List ℕ)) (h : List (Step O)) (t : Turn) (before : List (Exchange O)) (source : ℕ) (form : Form V) : Type 0 where

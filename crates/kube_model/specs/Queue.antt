@@ -1,28 +1,19 @@
 -- What the requests for one message have made of it, and which messages wait. M is the type of messages. (Crate: `scheduler`, told without its heap.)
-use Rattle.std.specs.Prelude.{ℕ, ◌+◌, ◌-◌, ◌^◌, min, Bool, true, false, not, ◌&&◌, ◌||◌, ◌==◌, nat_le, nat_lt, List, [], ◌∷◌, Option, Some, None, if◌then◌else◌, is_some}
-use Rattle.std.specs.List.{fold, filter_map, list_any}
+use Rattle.std.specs.Prelude.{ℕ, ◌+◌, ◌-◌, ◌^◌, min, Bool, not, ◌&&◌, ◌||◌, ◌==◌, nat_le, nat_lt, List, [], ◌∷◌, Option, Some, None, if◌then◌else◌, is_some}
+use Rattle.std.specs.List.{filter_map, list_any}
 use Rattle.std.specs.Option.{option_map}
 
--- a request for a message: the moment from which it counts, the moment at which it came, and its place among all requests
+-- a request for a message: the moment from which it counts, and the moment at which it came
 pub record Request (M : Type 0) : Type 0 where
   pub message : M
   pub run_at : ℕ
   pub now : ℕ
-  pub number : ℕ
 
--- what happens to the queue; a settle has its place among all settles
+-- what happens to the queue
 pub data QueueEvent (M : Type 0) : Type 0 where
   Requested : (request : Request M) → QueueEvent M
-  Settled : (now : ℕ) → (number : ℕ) → QueueEvent M
+  Settled : (now : ℕ) → QueueEvent M
   Took : (message : M) → QueueEvent M
-
-abbrev pub is_request : {M : Type 0} → QueueEvent M → Bool
-is_request (Requested q) = true
-is_request _ = false
-
-abbrev pub is_settle : {M : Type 0} → QueueEvent M → Bool
-is_settle (Settled now number) = true
-is_settle _ = false
 
 -- a sum that stops at the greatest u64
 abbrev pub plus : ℕ → ℕ → ℕ
@@ -32,30 +23,30 @@ plus a b = min (a + b) (2 ^ 64 - 1)
 abbrev pub longest_wait : ℕ
 longest_wait = 15552000000000000
 
--- what a message's requests have made of it
+-- what a message's requests have made of it; an event's place is how many came before it
 pub record Entry (M : Type 0) : Type 0 where
   pub message : M
   pub time : ℕ
-  pub number : ℕ  -- that of the request that set it
+  pub request : ℕ  -- the place of the request that set it
   pub settle : Option ℕ  -- that of the settle that froze it
 
-abbrev pub entry_of : {M : Type 0} → ℕ → Request M → Entry M
-entry_of debounce q =
-    record { message = q.message; time = min (plus q.run_at debounce) (plus q.now longest_wait); number = q.number; settle = None }
+abbrev pub entry_of : {M : Type 0} → ℕ → ℕ → Request M → Entry M
+entry_of debounce place q =
+    record { message = q.message; time = min (plus q.run_at debounce) (plus q.now longest_wait); request = place; settle = None }
 
 -- a request makes an entry, or sets it anew where the entry isn't frozen and its time is not earlier than the request's `run_at`, which is without the debounce
-abbrev pub entry_requested : {M : Type 0} → ℕ → Request M → Option (Entry M) → Option (Entry M)
-entry_requested debounce q None = Some (entry_of debounce q)
-entry_requested debounce q (Some e) =
-    if not (is_some e.settle) && nat_le q.run_at e.time then Some (entry_of debounce q) else Some e
+abbrev pub entry_requested : {M : Type 0} → ℕ → ℕ → Request M → Option (Entry M) → Option (Entry M)
+entry_requested debounce place q None = Some (entry_of debounce place q)
+entry_requested debounce place q (Some e) =
+    if not (is_some e.settle) && nat_le q.run_at e.time then Some (entry_of debounce place q) else Some e
 
 -- a settle freezes an entry whose time has come
 abbrev pub entry_settled : {M : Type 0} → ℕ → ℕ → Option (Entry M) → Option (Entry M)
-entry_settled now number None = None
-entry_settled now number (Some e) =
-    if not (is_some e.settle) && nat_le e.time now then Some (record e { settle = Some number }) else Some e
+entry_settled place now None = None
+entry_settled place now (Some e) =
+    if not (is_some e.settle) && nat_le e.time now then Some (record e { settle = Some place }) else Some e
 
--- by settle, then time, then number
+-- by settle, then time, then request
 pub record Frozen (M : Type 0) : Type 0 where
   pub settle : ℕ
   pub entry : Entry M
@@ -64,7 +55,7 @@ abbrev pub goes_before : {M : Type 0} → Frozen M → Frozen M → Bool
 goes_before a b =
     nat_lt a.settle b.settle
     || (a.settle == b.settle)
-    && (nat_lt a.entry.time b.entry.time || (a.entry.time == b.entry.time) && nat_lt a.entry.number b.entry.number)
+    && (nat_lt a.entry.time b.entry.time || (a.entry.time == b.entry.time) && nat_lt a.entry.request b.entry.request)
 
 abbrev pub insert_by : {A : Type 0} → (A → A → Bool) → A → List A → List A
 insert_by before x [] = x ∷ []
@@ -91,15 +82,20 @@ distinct same (x ∷ xs) = if list_any (λ y. same y x) xs then distinct same xs
 
 -- same says whether two messages are the same
 module _ {M : Type 0} (same : M → M → Bool) (debounce : ℕ) where
-  -- the entry of a message after one more event
-  abbrev pub entry_after : M → Option (Entry M) → QueueEvent M → Option (Entry M)
-  entry_after m e (Requested q) = if same q.message m then entry_requested debounce q e else e
-  entry_after m e (Settled now number) = entry_settled now number e
-  entry_after m e (Took taken) = if same taken m then None else e
+  -- the entry of a message after one more event, at this place
+  abbrev pub entry_after : M → ℕ → Option (Entry M) → QueueEvent M → Option (Entry M)
+  entry_after m place e (Requested q) = if same q.message m then entry_requested debounce place q e else e
+  entry_after m place e (Settled now) = entry_settled place now e
+  entry_after m place e (Took taken) = if same taken m then None else e
+
+  -- and after more, from this place on
+  abbrev pub entry_from : M → ℕ → Option (Entry M) → List (QueueEvent M) → Option (Entry M)
+  entry_from m place e [] = e
+  entry_from m place e (x ∷ xs) = entry_from m (place + 1) (entry_after m place e x) xs
 
   -- the entry of a message: what its requests since it was last taken made of it
   abbrev pub entry : List (QueueEvent M) → M → Option (Entry M)
-  entry events m = fold (entry_after m) None events
+  entry events m = entry_from m 0 None events
 
   -- the frozen entries of the messages that were requested, in their order
   abbrev pub waiting : List (QueueEvent M) → List (Frozen M)

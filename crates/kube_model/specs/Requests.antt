@@ -1,12 +1,12 @@
 -- All requests of a turn, and what happens to the queue over a history.
-use Rattle.std.specs.Prelude.{ℕ, ◌+◌, List, [], ◌∷◌, ◌++◌, map, Option, Some, None, if◌then◌else◌}
-use Rattle.std.specs.List.{flat_map, count_by}
+use Rattle.std.specs.Prelude.{ℕ, List, [], ◌∷◌, ◌++◌, map, Option, Some, None, if◌then◌else◌}
+use Rattle.std.specs.List.{flat_map}
 use Rattle.kube_meta.specs.Reference.{reference_before}
 use Rattle.kube_model.specs.Reason.{Reason, Unknown, ReconcilerRequestedRetry, ErrorPolicyRequestedRetry, BulkReconcile}
 use Rattle.kube_model.specs.World.{World}
 use Rattle.kube_model.specs.Reads.{Reads}
 use Rattle.kube_model.specs.History.{Message, same_message, Exchange, Outcome, Succeeded, Failed, Turn, Finished, Step, Taken}
-use Rattle.kube_model.specs.Queue.{QueueEvent, Requested, Settled, Took, is_request, is_settle, plus, sorted_by, Entry, Frozen, entry, waiting}
+use Rattle.kube_model.specs.Queue.{QueueEvent, Requested, Settled, Took, plus, sorted_by, Entry, Frozen, entry, waiting}
 use Rattle.kube_model.specs.Shutdowns.{is_closed}
 use Rattle.kube_model.specs.Stored.{stored_in}
 
@@ -39,14 +39,12 @@ named_requests t = map (λ r. requested_at t.at (record { reference = r; reason 
 abbrev pub requests_of_exchanges : {O : Type 0} → ℕ → List (Exchange O) → List Timed
 requests_of_exchanges at xs = map (requested_at at) (flat_map (λ x. x.requests) xs)
 
--- requests in order, numbered from n on
-abbrev pub numbered : ℕ → ℕ → List Timed → List (QueueEvent Message)
-numbered n now [] = []
-numbered n now (q ∷ qs) = Requested (record { message = q.message; run_at = q.run_at; now = now; number = n }) ∷ numbered (n + 1) now qs
+abbrev pub asked_at : ℕ → Timed → QueueEvent Message
+asked_at now q = Requested (record { message = q.message; run_at = q.run_at; now = now })
 
--- the requests of a turn after these events, and its settle
-abbrev pub requested_and_settled : List (QueueEvent Message) → ℕ → List Timed → List (QueueEvent Message)
-requested_and_settled events now qs = numbered (count_by is_request events) now qs ++ Settled now (count_by is_settle events) ∷ []
+-- requests at a moment, and a settle
+abbrev pub requested_and_settled : ℕ → List Timed → List (QueueEvent Message)
+requested_and_settled now qs = map (asked_at now) qs ++ Settled now ∷ []
 
 abbrev pub took : {O : Type 0} → List (Taken O) → List (QueueEvent Message)
 took taken = map (λ t. Took t.message) taken
@@ -64,21 +62,20 @@ module _ {O B : Type 0} (w : World O B) where
   requests_of_turn store t finished xs =
       flat_map (requests_of_finish t.at) finished ++ reload_requests store t ++ named_requests t ++ requests_of_exchanges t.at xs
 
-  -- what a turn does to the queue before it takes, after these events
-  abbrev pub turn_events : List (Step O) → List (QueueEvent Message) → Turn → Reads O → List Finished → List (Exchange O) → List (QueueEvent Message)
-  turn_events h events t r finished xs =
-      if is_closed w h t then []
-      else requested_and_settled events t.at (requests_of_turn (stored_in w h t r xs).reloaded t finished xs)
+  -- what a turn does to the queue before it takes
+  abbrev pub turn_events : List (Step O) → Turn → Reads O → List Finished → List (Exchange O) → List (QueueEvent Message)
+  turn_events h t r finished xs =
+      if is_closed w h t then [] else requested_and_settled t.at (requests_of_turn (stored_in w h t r xs).reloaded t finished xs)
 
-  -- what happened to the queue in these turns, after the turns and the events before them
-  abbrev pub events_after : List (Step O) → List (QueueEvent Message) → List (Step O) → List (QueueEvent Message)
-  events_after before events [] = events
-  events_after before events (s ∷ h) =
-      events_after (before ++ s ∷ []) (events ++ turn_events before events s.turn s.reads s.made.finished s.made.exchanges ++ took s.made.taken) h
+  -- what happened to the queue in these turns, after those before them
+  abbrev pub events_after : List (Step O) → List (Step O) → List (QueueEvent Message)
+  events_after before [] = []
+  events_after before (s ∷ h) =
+      (turn_events before s.turn s.reads s.made.finished s.made.exchanges ++ took s.made.taken) ++ events_after (before ++ s ∷ []) h
 
   -- all that happened to the queue
   abbrev pub events_of : List (Step O) → List (QueueEvent Message)
-  events_of h = events_after [] [] h
+  events_of h = events_after [] h
 
   -- the entry of a message after a history
   abbrev pub entry_in : List (Step O) → Message → Option (Entry Message)
@@ -86,4 +83,4 @@ module _ {O B : Type 0} (w : World O B) where
 
   -- the messages that wait in a turn after its settle
   abbrev pub waiting_in : List (Step O) → Turn → Reads O → List Finished → List (Exchange O) → List (Frozen Message)
-  waiting_in h t r finished xs = waiting same_message w.debounce (events_of h ++ turn_events h (events_of h) t r finished xs)
+  waiting_in h t r finished xs = waiting same_message w.debounce (events_of h ++ turn_events h t r finished xs)

@@ -7,7 +7,7 @@ use Rattle.kube_model.specs.Queue.{Request, QueueEvent, Requested, Settled, Took
 abbrev pub NeverFall : {M : Type 0} → ℕ → List (QueueEvent M) → Type 0
 NeverFall last [] = Unit {0}
 NeverFall last (Requested q ∷ es) = (last ≤ q.now) × NeverFall q.now es
-NeverFall last (Settled now number ∷ es) = (last ≤ now) × NeverFall now es
+NeverFall last (Settled now ∷ es) = (last ≤ now) × NeverFall now es
 NeverFall last (Took m ∷ es) = NeverFall last es
 
 -- the moment that is asked for, but not later than 180 days after that of the request
@@ -16,7 +16,7 @@ clamped_time q = min q.run_at (plus q.now longest_wait)
 
 abbrev pub asked_after : {M : Type 0} → (M → M → Bool) → M → List (Request M) → QueueEvent M → List (Request M)
 asked_after same m qs (Requested q) = if same q.message m then qs ++ q ∷ [] else qs
-asked_after same m qs (Settled now number) = qs
+asked_after same m qs (Settled now) = qs
 asked_after same m qs (Took taken) = if same taken m then [] else qs
 
 -- the requests for a message since it was last taken: the first of them made its entry

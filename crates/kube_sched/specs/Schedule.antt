@@ -1,11 +1,10 @@
 -- What a scheduler holds, and the events that it stands for. (Crate: `Scheduler`.)
 use Rattle.std.specs.Prelude.{◌≡◌, ℕ, ◌+◌, length, Bool, true, false, List, [], ◌∷◌, ◌++◌, map, Option, Some, None, ◌⊎◌}
-use Rattle.std.specs.List.{count_by}
 use Rattle.kube_meta.specs.declared.moment.Moment.{Moment}
-use Rattle.kube_model.specs.Queue.{QueueEvent, Requested, Settled, Took, is_request, is_settle, Entry, Frozen, waiting}
+use Rattle.kube_model.specs.Queue.{QueueEvent, Requested, Settled, Took, Entry, Frozen, waiting}
 use Rattle.kube_sched.specs.declared.held.Held.{Held}
 use Rattle.kube_sched.specs.declared.request.ScheduleRequest.{ScheduleRequest}
-use Rattle.kube_sched.specs.Entries.{IsNumbered, scheduled}
+use Rattle.kube_sched.specs.Entries.{scheduled}
 
 -- the messages that wait and those that are due later, each with its time, and for how many more there is room
 pub record Schedule (M : Type 0) : Type 0 where
@@ -27,18 +26,16 @@ held_of_frozen f = held_of f.entry
 
 -- it holds what these events leave: what waits in its order, and what is scheduled in the order of the requests
 pub record Stands {M : Type 0} (same : M → M → Bool) (s : Schedule M) (events : List (QueueEvent M)) : Type 0 where
-  pub numbered : IsNumbered 0 0 events
   pub waits : s.waiting ≡ map held_of_frozen (waiting same s.debounce events)
   pub comes : s.scheduled ≡ map held_of (scheduled same s.debounce events)
 
 -- these events and a request
 abbrev pub with_request : {M : Type 0} → List (QueueEvent M) → ScheduleRequest M → Moment → List (QueueEvent M)
-with_request events q now =
-    events ++ Requested (record { message = q.message; run_at = q.run_at.0; now = now.0; number = count_by is_request events }) ∷ []
+with_request events q now = events ++ Requested (record { message = q.message; run_at = q.run_at.0; now = now.0 }) ∷ []
 
 -- these events and a settle
 abbrev pub with_settle : {M : Type 0} → List (QueueEvent M) → Moment → List (QueueEvent M)
-with_settle events now = events ++ Settled now.0 (count_by is_settle events) ∷ []
+with_settle events now = events ++ Settled now.0 ∷ []
 
 -- these events and a take
 abbrev pub with_take : {M : Type 0} → List (QueueEvent M) → M → List (QueueEvent M)

@@ -43,27 +43,90 @@ enum Step {
     Ask(u64, u64, u64),
     /// The tag of the first message that waits at a moment, which is taken.
     Take(u64, Option<u64>),
-    /// How many messages wait at a moment, and how many are held.
-    Count(u64, usize, usize),
+    /// How many messages wait at a moment, how many are held, and whether one of key 1 waits.
+    Count(u64, usize, usize, bool),
 }
+
+/// What is tried of a scheduler, its debounce, and its steps.
+const STEPS: [(&str, u64, &[Step]); 5] = [
+    (
+        "an earlier request takes the place",
+        0,
+        &[
+            Step::Ask(10, 2_000_000_000, 0),
+            Step::Ask(11, 1_000_000_000, 0),
+            Step::Take(999_999_999, None),
+            Step::Take(1_000_000_000, Some(11)),
+            Step::Take(2_000_000_000, None),
+            Step::Count(2_000_000_000, 0, 0, false),
+        ],
+    ),
+    (
+        "a later request changes nothing",
+        0,
+        &[
+            Step::Ask(10, 1_000_000_000, 0),
+            Step::Ask(11, 2_000_000_000, 0),
+            Step::Count(0, 0, 1, false),
+            Step::Take(1_000_000_000, Some(10)),
+            Step::Take(2_000_000_000, None),
+        ],
+    ),
+    (
+        "a debounce holds a message",
+        3_000_000_000,
+        &[
+            Step::Ask(10, 0, 0),
+            Step::Ask(11, 1_000_000_000, 1_000_000_000),
+            Step::Count(3_500_000_000, 0, 1, false),
+            Step::Count(4_000_000_000, 1, 1, true),
+        ],
+    ),
+    (
+        "a request before the settle moves the message",
+        3_000_000_000,
+        &[
+            Step::Ask(10, 0, 0),
+            Step::Ask(11, 3_000_000_000, 3_000_000_000),
+            Step::Take(3_000_000_000, None),
+            Step::Take(5_999_999_999, None),
+            Step::Take(6_000_000_000, Some(11)),
+        ],
+    ),
+    (
+        "no message is held longer than 180 days",
+        0,
+        &[
+            Step::Ask(10, u64::MAX, 5),
+            Step::Take(15_552_000_000_000_004, None),
+            Step::Take(15_552_000_000_000_005, Some(10)),
+        ],
+    ),
+];
 
 /// Does steps in order.
 fn check_steps(
     rt: &impl Abort,
     alloc: Global,
-    scheduler: &mut Scheduler<Message>,
+    name: &str,
+    debounce: u64,
     steps: &[Step],
 ) -> Result<(), Fail> {
+    let mut scheduler = Scheduler::new(alloc, debounce);
     for step in steps {
         match step {
             Step::Ask(tag, run_at, now) => {
                 scheduler.schedule(alloc, request(1, *tag, *run_at), Moment(*now))?;
             }
-            Step::Take(at, wanted) => assert_eq!(rt; taken(scheduler, *at), *wanted, "at {at}"),
-            Step::Count(at, waiting, held) => {
+            Step::Take(at, wanted) => {
+                assert_eq!(rt; taken(&mut scheduler, *at), *wanted, "{name}: at {at}");
+            }
+            Step::Count(at, waiting, held, waits) => {
                 scheduler.settle(Moment(*at));
-                assert_eq!(rt; scheduler.waiting_len(), *waiting, "at {at}");
-                assert_eq!(rt; scheduler.len(), *held, "at {at}");
+                assert_eq!(rt; scheduler.waiting_len(), *waiting, "{name}: at {at}");
+                assert_eq!(rt; scheduler.len(), *held, "{name}: at {at}");
+                let one = Message { key: 1, tag: 0 };
+                assert_eq!(rt; scheduler.contains_pending(&one), *waits, "{name}: at {at}");
             }
         }
     }
@@ -71,68 +134,11 @@ fn check_steps(
 }
 
 #[test]
-fn an_earlier_request_takes_the_place(rt: HostRuntime) -> Result<(), Fail> {
-    let mut scheduler = Scheduler::new(rt.alloc(), 0);
-    let steps = [
-        Step::Ask(10, 2 * SECOND, 0),
-        Step::Ask(11, SECOND, 0),
-        Step::Take(SECOND - 1, None),
-        Step::Take(SECOND, Some(11)),
-        Step::Take(2 * SECOND, None),
-        Step::Count(2 * SECOND, 0, 0),
-    ];
-    check_steps(&rt, rt.alloc(), &mut scheduler, &steps)
-}
-
-#[test]
-fn a_later_request_changes_nothing(rt: HostRuntime) -> Result<(), Fail> {
-    let mut scheduler = Scheduler::new(rt.alloc(), 0);
-    let steps = [
-        Step::Ask(10, SECOND, 0),
-        Step::Ask(11, 2 * SECOND, 0),
-        Step::Count(0, 0, 1),
-        Step::Take(SECOND, Some(10)),
-        Step::Take(2 * SECOND, None),
-    ];
-    check_steps(&rt, rt.alloc(), &mut scheduler, &steps)
-}
-
-#[test]
-fn a_debounce_holds_a_message(rt: HostRuntime) -> Result<(), Fail> {
-    let mut scheduler = Scheduler::new(rt.alloc(), 3 * SECOND);
-    let steps = [
-        Step::Ask(10, 0, 0),
-        Step::Ask(11, SECOND, SECOND),
-        Step::Count(3 * SECOND + SECOND / 2, 0, 1),
-        Step::Count(4 * SECOND, 1, 1),
-    ];
-    check_steps(&rt, rt.alloc(), &mut scheduler, &steps)?;
-    assert!(rt; scheduler.contains_pending(&Message { key: 1, tag: 0 }));
+fn requests_settles_and_takes(rt: HostRuntime) -> Result<(), Fail> {
+    for (name, debounce, steps) in STEPS {
+        check_steps(&rt, rt.alloc(), name, debounce, steps)?;
+    }
     Ok(())
-}
-
-#[test]
-fn a_request_before_the_settle_moves_the_message(rt: HostRuntime) -> Result<(), Fail> {
-    let mut scheduler = Scheduler::new(rt.alloc(), 3 * SECOND);
-    let steps = [
-        Step::Ask(10, 0, 0),
-        Step::Ask(11, 3 * SECOND, 3 * SECOND),
-        Step::Take(3 * SECOND, None),
-        Step::Take(6 * SECOND - 1, None),
-        Step::Take(6 * SECOND, Some(11)),
-    ];
-    check_steps(&rt, rt.alloc(), &mut scheduler, &steps)
-}
-
-#[test]
-fn no_message_is_held_longer_than_180_days(rt: HostRuntime) -> Result<(), Fail> {
-    let mut scheduler = Scheduler::new(rt.alloc(), 0);
-    let steps = [
-        Step::Ask(10, u64::MAX, 5),
-        Step::Take(15_552_000_000_000_004, None),
-        Step::Take(15_552_000_000_000_005, Some(10)),
-    ];
-    check_steps(&rt, rt.alloc(), &mut scheduler, &steps)
 }
 
 /// Uses reserved places, of which each request takes one.
@@ -317,6 +323,7 @@ const END: u64 = 1002;
 fn poll_all(
     rt: &impl Abort,
     alloc: Global,
+    name: &str,
     scheduled: &mut Scheduled<Message, Script>,
     fuel: u32,
     polls: &[(u64, u64)],
@@ -324,28 +331,62 @@ fn poll_all(
     for (second, wanted) in polls {
         let now = Moment(second.saturating_mul(SECOND));
         let answer = scheduled.poll_next(alloc, now, fuel)?;
-        assert_eq!(rt; shown(&answer), *wanted, "at {second} s");
+        assert_eq!(rt; shown(&answer), *wanted, "{name}: at {second} s");
     }
     Ok(())
 }
 
-#[test]
-fn messages_come_when_they_are_due(rt: HostRuntime) -> Result<(), Fail> {
-    let alloc = rt.alloc();
-    let requests = asks(alloc, &[(1, 0, SECOND), (2, 0, 3 * SECOND)], None)?;
-    let mut scheduled = scheduler(alloc, requests);
-    let polls = [(0, NOT_READY), (2, 1), (2, NOT_READY), (4, 2)];
-    poll_all(&rt, alloc, &mut scheduled, 9, &polls)
-}
+/// What is tried of a scheduler over requests: its debounce, the requests, how many of them a poll may take, and the polls.
+const POLLS: [(&str, u64, &[(u8, u64, u64)], u32, &[(u64, u64)]); 5] = [
+    (
+        "messages come when they are due",
+        0,
+        &[(1, 0, 1_000_000_000), (2, 0, 3_000_000_000)],
+        9,
+        &[(0, NOT_READY), (2, 1), (2, NOT_READY), (4, 2)],
+    ),
+    (
+        "equal messages come once, the earlier first",
+        0,
+        &[(1, 0, 1_000_000_000), (1, 0, 3_000_000_000)],
+        9,
+        &[(0, NOT_READY), (2, 1), (4, NOT_READY)],
+    ),
+    (
+        "equal messages come once, the later first",
+        0,
+        &[(1, 0, 3_000_000_000), (1, 0, 1_000_000_000)],
+        9,
+        &[(0, NOT_READY), (2, 1), (4, NOT_READY)],
+    ),
+    (
+        "a poll takes as many requests as it may",
+        0,
+        &[(1, 0, 0), (2, 0, 0), (3, 0, 0)],
+        2,
+        &[(0, SPENT), (0, 1), (0, 2), (0, 3), (0, NOT_READY)],
+    ),
+    (
+        "a debounced scheduler holds longer",
+        3_000_000_000,
+        &[(1, 0, 0), (1, 1_000_000_000, 1_000_000_000)],
+        9,
+        &[
+            (0, NOT_READY),
+            (1, NOT_READY),
+            (3, NOT_READY),
+            (4, 1),
+            (7, NOT_READY),
+        ],
+    ),
+];
 
 #[test]
-fn equal_messages_come_once(rt: HostRuntime) -> Result<(), Fail> {
-    let alloc = rt.alloc();
-    for (first, second) in [(SECOND, 3 * SECOND), (3 * SECOND, SECOND)] {
-        let requests = asks(alloc, &[(1, 0, first), (1, 0, second)], None)?;
-        let mut scheduled = scheduler(alloc, requests);
-        let polls = [(0, NOT_READY), (2, 1), (4, NOT_READY)];
-        poll_all(&rt, alloc, &mut scheduled, 9, &polls)?;
+fn polls_give_what_is_due(rt: HostRuntime) -> Result<(), Fail> {
+    for (name, debounce, requests, fuel, polls) in POLLS {
+        let requests = asks(rt.alloc(), requests, None)?;
+        let mut scheduled = debounced_scheduler(rt.alloc(), requests, debounce);
+        poll_all(&rt, rt.alloc(), name, &mut scheduled, fuel, polls)?;
     }
     Ok(())
 }
@@ -364,7 +405,7 @@ fn hold_and_release(
         assert!(rt; scheduled.contains_pending(&one));
     }
     let polls = [(2, 1), (3, NOT_READY), (4, END), (5, END)];
-    poll_all(rt, alloc, scheduled, 9, &polls)
+    poll_all(rt, alloc, "released", scheduled, 9, &polls)
 }
 
 #[test]
@@ -388,7 +429,7 @@ fn hold_one(
     }
     let one = Message { key: 1, tag: 0 };
     assert!(rt; scheduled.contains_pending(&one));
-    poll_all(rt, alloc, scheduled, 9, &[(1, END)])?;
+    poll_all(rt, alloc, "ended", scheduled, 9, &[(1, END)])?;
     assert!(rt;
         !scheduled.contains_pending(&one),
         "what is held is dropped"
@@ -402,28 +443,4 @@ fn a_message_that_does_not_pass_is_held(rt: HostRuntime) -> Result<(), Fail> {
     let requests = asks(alloc, &[(1, 0, 0), (2, 0, 0)], Some(SECOND))?;
     let mut scheduled = scheduler(alloc, requests);
     hold_one(&rt, alloc, &mut scheduled)
-}
-
-#[test]
-fn a_call_takes_as_many_requests_as_it_may(rt: HostRuntime) -> Result<(), Fail> {
-    let alloc = rt.alloc();
-    let requests = asks(alloc, &[(1, 0, 0), (2, 0, 0), (3, 0, 0)], None)?;
-    let mut scheduled = scheduler(alloc, requests);
-    let polls = [(0, SPENT), (0, 1), (0, 2), (0, 3), (0, NOT_READY)];
-    poll_all(&rt, alloc, &mut scheduled, 2, &polls)
-}
-
-#[test]
-fn a_debounced_scheduler_holds_longer(rt: HostRuntime) -> Result<(), Fail> {
-    let alloc = rt.alloc();
-    let requests = asks(alloc, &[(1, 0, 0), (1, SECOND, SECOND)], None)?;
-    let mut scheduled = debounced_scheduler(alloc, requests, 3 * SECOND);
-    let polls = [
-        (0, NOT_READY),
-        (1, NOT_READY),
-        (3, NOT_READY),
-        (4, 1),
-        (7, NOT_READY),
-    ];
-    poll_all(&rt, alloc, &mut scheduled, 9, &polls)
 }

@@ -96,12 +96,12 @@ fn number_of<E: Shown>(answer: &Next<Result<u64, Error<E>>>) -> u64 {
 }
 
 /// A runner of requests, without readiness.
-fn runner_of<MkF: FnMut(&Message) -> Untold<Countdown> + Drop>(
+fn runner_of<R: Requests<Message>, MkF: FnMut(&Message) -> Untold<Countdown> + Drop>(
     alloc: Global,
-    requests: Script,
+    requests: R,
     max: u16,
     run_msg: MkF,
-) -> Runner<Message, Script, Untold<Countdown>, MkF, AtOnce>
+) -> Runner<Message, R, Untold<Countdown>, MkF, AtOnce>
     ensures { result.makes ≡ run_msg }
 {
     Runner::new(alloc, scheduler(alloc, requests), max, run_msg)
@@ -164,50 +164,74 @@ fn one_and_then(alloc: Global, last: Next<ScheduleRequest<Message>>) -> Result<A
     Ok(Answers { answers })
 }
 
-#[test]
-fn the_second_starts_after_the_first_has_finished(rt: HostRuntime) -> Result<(), Fail> {
-    let alloc = rt.alloc();
-    let task = MockTask::new(&rt)?;
-    let requests = asks(alloc, &[(1, 0, 0), (2, 0, 0)], None)?;
-    let mut runner = runner_of(alloc, requests, 1, |m: &Message| run(m, 1));
-    let polls = [
-        (0, NOT_READY),
-        (0, NOT_READY),
-        (0, 1),
-        (0, NOT_READY),
-        (0, NOT_READY),
-        (0, 2),
-        (0, NOT_READY),
-    ];
-    poll_all(&rt, &task, alloc, &mut runner, 9, &polls)
+/// Polls a runner without readiness, whose runs are over after so many polls.
+fn poll_runs<R: Requests<Message>>(
+    rt: &impl Abort,
+    task: &MockTask,
+    alloc: Global,
+    requests: R,
+    max: u16,
+    left: u32,
+    fuel: u32,
+    polls: &[(u64, u64)],
+) -> Result<(), Fail> {
+    let mut runner = runner_of(alloc, requests, max, |m: &Message| run(m, left));
+    poll_all(rt, task, alloc, &mut runner, fuel, polls)
 }
 
+/// The requests, how many may run, how many polls each run takes, and the polls.
+const RUNS: [(&[(u8, u64, u64)], u16, u32, &[(u64, u64)]); 2] = [
+    // the second starts after the first has finished
+    (
+        &[(1, 0, 0), (2, 0, 0)],
+        1,
+        1,
+        &[
+            (0, NOT_READY),
+            (0, NOT_READY),
+            (0, 1),
+            (0, NOT_READY),
+            (0, NOT_READY),
+            (0, 2),
+            (0, NOT_READY),
+        ],
+    ),
+    // without a limit all start at once
+    (
+        &[(1, 0, 0), (2, 0, 0), (3, 0, 0)],
+        0,
+        0,
+        &[(0, NOT_READY), (0, 1), (0, 2), (0, 3), (0, NOT_READY)],
+    ),
+];
+
 #[test]
-fn without_a_limit_all_start_at_once(rt: HostRuntime) -> Result<(), Fail> {
-    let alloc = rt.alloc();
+fn as_many_run_as_may(rt: HostRuntime) -> Result<(), Fail> {
     let task = MockTask::new(&rt)?;
-    let requests = asks(alloc, &[(1, 0, 0), (2, 0, 0), (3, 0, 0)], None)?;
-    let mut runner = runner_of(alloc, requests, 0, |m: &Message| run(m, 0));
-    let polls = [(0, NOT_READY), (0, 1), (0, 2), (0, 3), (0, NOT_READY)];
-    poll_all(&rt, &task, alloc, &mut runner, 9, &polls)
+    for (requests, max, left, polls) in RUNS {
+        let requests = asks(rt.alloc(), requests, None)?;
+        poll_runs(&rt, &task, rt.alloc(), requests, max, left, 9, polls)?;
+    }
+    Ok(())
 }
 
 #[test]
 fn the_end_comes_after_the_result_of_what_was_started(rt: HostRuntime) -> Result<(), Fail> {
-    let alloc = rt.alloc();
     let task = MockTask::new(&rt)?;
+    let polls = [(0, NOT_READY), (0, 1), (0, END), (0, END)];
     for max in [0, 1, 2] {
-        let requests = one_and_then(alloc, Next::End)?;
-        let mut runner = Runner::new(
-            alloc,
-            scheduler(alloc, requests),
-            max,
-            |m: &Message| run(m, 0),
-        );
-        let polls = [(0, NOT_READY), (0, 1), (0, END), (0, END)];
-        poll_all(&rt, &task, alloc, &mut runner, 9, &polls)?;
+        let requests = one_and_then(rt.alloc(), Next::End)?;
+        poll_runs(&rt, &task, rt.alloc(), requests, max, 0, 9, &polls)?;
     }
     Ok(())
+}
+
+#[test]
+fn a_poll_takes_as_many_requests_as_it_may(rt: HostRuntime) -> Result<(), Fail> {
+    let task = MockTask::new(&rt)?;
+    let requests = one_and_then(rt.alloc(), Next::Item(request(2, 2, 0)))?;
+    let polls = [(0, SPENT), (0, 1), (0, NOT_READY), (0, 2), (0, NOT_READY)];
+    poll_runs(&rt, &task, rt.alloc(), requests, 0, 0, 2, &polls)
 }
 
 #[test]
@@ -297,21 +321,6 @@ fn a_finished_message_may_start_again(rt: HostRuntime) -> Result<(), Fail> {
     poll_all(&rt, &task, alloc, &mut runner, 9, &[(SECOND, NOT_READY)])?;
     assert!(rt; runner.finish(&Message { key: 1, tag: 0 }));
     Ok(())
-}
-
-#[test]
-fn a_poll_takes_as_many_requests_as_it_may(rt: HostRuntime) -> Result<(), Fail> {
-    let alloc = rt.alloc();
-    let task = MockTask::new(&rt)?;
-    let requests = one_and_then(alloc, Next::Item(request(2, 2, 0)))?;
-    let mut runner = Runner::new(
-        alloc,
-        scheduler(alloc, requests),
-        0,
-        |m: &Message| run(m, 0),
-    );
-    let polls = [(0, SPENT), (0, 1), (0, NOT_READY), (0, 2), (0, NOT_READY)];
-    poll_all(&rt, &task, alloc, &mut runner, 2, &polls)
 }
 
 #[test]

@@ -8,4 +8,4 @@ use Rattle.kube_model.proofs.laws.each_message_waits_once.Goals as goal
 
 pub returns : goal.returns
 returns g c w h t r finished xs =
-    waiting-once same_message (on_equiv (λ (m : Message). m.reference) same_reference_equiv) w.debounce (events_of w h ++ turn_events w h (events_of w h) t r finished xs)
+    waiting-once same_message (on_equiv (λ (m : Message). m.reference) same_reference_equiv) w.debounce (events_of w h ++ turn_events w h t r finished xs)

@@ -1,6 +1,6 @@
-use Rattle.std.proofs.Common.{◌≡◌, ℕ, ◌∷◌, ◌++◌, [], zero-add, subst, sym, ap, ◌∙◌, is_some, if◌then◌else◌}
+use Rattle.std.proofs.Common.{◌≡◌, ◌∷◌, ◌++◌, [], zero-add, subst, sym, ap, ◌∙◌, is_some, if◌then◌else◌}
 use Rattle.std.specs.List.{count_by}
-use Rattle.kube_model.specs.History.{Taken, TurnRecord}
+use Rattle.kube_model.specs.History.{TurnRecord}
 use Rattle.kube_model.specs.Stored.{stored_in}
 use Rattle.kube_model.specs.Requests.{waiting_in}
 use Rattle.kube_model.specs.Takes.{found_with, has_room, taken_of, within_room}
