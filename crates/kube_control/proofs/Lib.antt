@@ -17,3 +17,4 @@ pub mod Once
 pub mod Apart
 pub mod Causes
 pub mod BuiltTurns
+pub mod NamedTurns

@@ -145,8 +145,8 @@ module _ {O : Type 0} (t : ObjectType) (meta : O → ObjectMeta) where
     open_now = or-three (is_shut h) false (gave_up (world_of t meta) (exchanges h)) s.unshut refl (ap (λ (z : Pause (Unit {0})). z.given_up) s.kept.calm)
 
     -- what happens to the queue before the takes
-    events-now : turn_events (world_of t meta) h (events_of (world_of t meta) h) tn nothing_read [] xs ≡ requested_and_settled (events_of (world_of t meta) h) at (map (requested_at at) (requested xs))
-    events-now = ap (λ b. if b then [] else requested_and_settled (events_of (world_of t meta) h) at (map (requested_at at) (requested xs))) open_now
+    events-now : turn_events (world_of t meta) h tn nothing_read [] xs ≡ requested_and_settled at (map (requested_at at) (requested xs))
+    events-now = ap (λ b. if b then [] else requested_and_settled at (map (requested_at at) (requested xs))) open_now
 
     waiting-now : map (λ f. f.entry.message) (waiting_in (world_of t meta) h tn nothing_read [] xs) ≡ waiting_after xs
     waiting-now =

@@ -1,8 +1,5 @@
 -- What an exchange of a watched root is, is determined by those before it, its moment, and how the call was answered.
-use Rattle.std.proofs.Common.{◌≡◌, ℕ, zero, suc, Bool, true, false, IsTrue, List, [], ◌∷◌, ◌++◌, map, Option, Some, None, if◌then◌else◌, unwrap_or, refl, sym, ap, ap₂, subst, ◌∙◌, inl, inr, arith}
-use Rattle.std.specs.List.{flat_map}
-use Rattle.std.proofs.lemmas.Grind.{flat_map-append}
-use Rattle.std.proofs.lemmas.List.{map-append}
+use Rattle.std.proofs.Common.{◌≡◌, ℕ, zero, suc, Bool, true, false, IsTrue, List, [], ◌∷◌, Option, Some, None, unwrap_or, refl, sym, ap, subst, ◌∙◌, inl, inr, arith}
 use Rattle.std.proofs.lemmas.Option.{slice_get_past}
 use Rattle.kube_meta.specs.declared.metadata.ObjectMeta.{ObjectMeta}
 use Rattle.kube_meta.specs.Reference.{ObjectType}
@@ -10,15 +7,12 @@ use Rattle.kube_model.specs.declared.call.Call.{Call}
 use Rattle.kube_model.specs.declared.call.Call.TheVariants.{List as ListCall, Watch, Next, Stream}
 use Rattle.kube_model.specs.declared.call.Answer.{Answer}
 use Rattle.kube_model.specs.declared.call.Answer.TheVariants.{NotReady, Idle, Item}
-use Rattle.kube_model.specs.Cuts.{from_last, up_to_last}
-use Rattle.kube_model.specs.History.{Exchange, Dated, Message, dated_of, exchanges_of}
-use Rattle.kube_model.specs.Owed.{is_next, is_opened, mark, marks, owed}
-use Rattle.kube_model.specs.Store.{arrived, changes_of, completes, is_list_start, is_page, listed, listed_by, listed_to, paged}
-use Rattle.kube_model.specs.Fits.{ErrorFits, IsAnswered, IsFitting, IsOfSource, error_of, idle_fits, is_window_over, put_of, requests_of_watch, silent_since, updated}
+use Rattle.kube_model.specs.History.{Exchange, Dated, dated_of, exchanges_of}
+use Rattle.kube_model.specs.Owed.{is_next, mark, owed}
+use Rattle.kube_model.specs.Fits.{ErrorFits, IsAnswered, IsFitting, IsOfSource, error_of, idle_fits, is_window_over, requests_of_watch, silent_since}
 use Rattle.kube_model.specs.Raw.{Raw, RawAnswer, NextAsked, Waits, Fails, GivesPage, Opens, GivesAdded, GivesModified, GivesDeleted, GivesBookmark, GivesError, Ends}
 use Rattle.kube_model.specs.Recorded.{AsItCame, IsAnsweredBy, IsRecorded, PastItsWindow, answer_of, raw_call}
-use Rattle.kube_model.specs.World.{Streamed, Watched, World, default_settings, feed_of, window_of}
-use Rattle.kube_model.proofs.Lasts.{from_last-hit, from_last-miss, last-push, up_to_last-hit}
+use Rattle.kube_model.specs.World.{Streamed, Watched, default_settings, feed_of, window_of}
 use Rattle.kube_model.proofs.SameExchanges.{requests-same, error-same}
 use Rattle.kube_control.specs.Worlds.{world_of}
 

@@ -17,15 +17,16 @@ use Rattle.kube_control.specs.PlainTraces.{unasked, step, steps, IsRecord, IsTra
 use Rattle.kube_model.specs.Recorded.{IsRecorded}
 use Rattle.kube_model.proofs.Joins.{joined}
 use Rattle.kube_control.specs.declared.watcher.Root.{Root}
-use Rattle.kube_control.specs.declared.turn.Turn.{Turn as HeldTurn}
-use Rattle.kube_control.specs.declared.record.TurnRecord.{TurnRecord as HeldRecord}
-use Rattle.kube_control.specs.declared.exchange.SourceExchange.{SourceExchange}
+use Rattle.kube_turn.specs.declared.turn.Turn.{Turn as HeldTurn}
+use Rattle.kube_turn.specs.declared.record.TurnRecord.{TurnRecord as HeldRecord}
+use Rattle.kube_turn.specs.declared.exchange.SourceExchange.{SourceExchange}
 use Rattle.kube_control.specs.Exchanges.{Kept, AreAsked, AreAll, any_not_ready, waiting_after}
 use Rattle.kube_control.specs.Messages.{take_of}
 use Rattle.kube_control.specs.Unbuilt.{OnlyAsks}
-use Rattle.kube_control.specs.Views.{exchange_of, kept_of, object_of, stored_of, shown_objects, taken_of}
+use Rattle.kube_turn.specs.Views.{exchange_of, shown_objects, taken_of}
+use Rattle.kube_control.specs.Views.{kept_of, object_of, stored_of}
 use Rattle.kube_control.specs.Stands.{Stands}
-use Rattle.kube_control.specs.Records.{turn_of, record_of, finished_of}
+use Rattle.kube_turn.specs.Records.{turn_of, record_of, finished_of}
 use Rattle.kube_control.specs.StandsFor.{taken_in}
 use Rattle.kube_control.specs.Calls.{dated_in}
 use Rattle.kube_control.specs.Worlds.{world_of}

@@ -7,9 +7,9 @@ use Rattle.kube_model.specs.declared.call.Answer.TheVariants.{Page, Opened, NotR
 use Rattle.kube_model.specs.declared.call.Call.TheVariants.{List as ListCall, Watch, Next}
 use Rattle.kube_model.specs.declared.turn.Shutdown.TheVariants.{No}
 use Rattle.kube_model.specs.History.{Exchange, Turn, TurnRecord}
-use Rattle.kube_control.specs.declared.record.TurnRecord.{TurnRecord as HeldRecord}
+use Rattle.kube_turn.specs.declared.record.TurnRecord.{TurnRecord as HeldRecord}
 use Rattle.kube_control.specs.Unbuilt.{any_unnamed}
-use Rattle.kube_control.specs.Views.{taken_of}
+use Rattle.kube_turn.specs.Views.{taken_of}
 
 -- an exchange is built: a list whose only page has a version and named objects, a watch that was opened, or a look at it that told nothing
 pub data IsBuiltExchange {O : Type 0} (meta : O → ObjectMeta) (x : Exchange O) : Type 0 where

@@ -4,7 +4,7 @@ use Rattle.kube_control.specs.declared.controller.Controller.{Controller}
 use Rattle.kube_control.specs.declared.source.WatchRoot.{WatchRoot}
 use Rattle.kube_control.specs.declared.error.RunError.{RunError}
 use Rattle.kube_control.specs.declared.error.RunError.TheVariants.{NoMemory, NotBuilt, Spent}
-use Rattle.kube_control.specs.declared.record.TurnRecord.{TurnRecord}
+use Rattle.kube_turn.specs.declared.record.TurnRecord.{TurnRecord}
 
 -- whether a run of it failed
 abbrev pub is_spent : {R S B : Type 0} → Controller R S B → Bool

@@ -5,8 +5,8 @@ use Rattle.kube_meta.specs.Reference.{ObjectType, same_reference}
 use Rattle.kube_meta.specs.Keys.{reference_of}
 use Rattle.kube_meta.specs.declared.action.Action.{Action}
 use Rattle.kube_model.specs.Takes.{Running}
-use Rattle.kube_control.specs.declared.turn.Finish.{Finish}
-use Rattle.kube_control.specs.declared.record.Finished.{Finished}
+use Rattle.kube_turn.specs.declared.turn.Finish.{Finish}
+use Rattle.kube_turn.specs.declared.record.Finished.{Finished}
 
 -- policy says what the error policy answered of an object and a fault
 module _ {K E D : Type 0} (type_of : D → ObjectType) (policy : K → E → Action → Type 0) where

@@ -13,7 +13,6 @@ pub mod Views
 pub mod Worlds
 pub mod PlainTraces
 pub mod Stands
-pub mod Records
 pub mod StandsFor
 pub mod NotBuilt
 pub mod Built

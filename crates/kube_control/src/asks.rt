@@ -7,15 +7,16 @@ ghost use Rattle.kube_model.specs.Raw.{Raw, grown_by};
 ghost use Rattle.kube_control.specs.Calls.{AreMoves, made_at};
 ghost use Rattle.kube_control.specs.Exchanges.{AreAll, AreAsked, IsStoppedAsking};
 ghost use Rattle.kube_control.specs.Unbuilt.{IfNotBuilt};
-ghost use Rattle.kube_control.specs.Views.{exchange_of, kept_of};
+ghost use Rattle.kube_turn.specs.Views.{exchange_of};
+ghost use Rattle.kube_control.specs.Views.{kept_of};
 
-use crate::exchange::SourceExchange;
 use crate::fault::Fault;
 use crate::watcher::{Root, ask};
 use kube_api::ApiMode;
 use kube_meta::{List, Moment, Resource};
 use kube_model::call::Answer;
 use kube_model::turn::Stop;
+use kube_turn::SourceExchange;
 use std::alloc::Global;
 
 /// Whether the answer was that it is not ready.

@@ -1,7 +1,7 @@
 //! Why a run ends early.
 
-use crate::record::Trace;
 use kube_meta::Resource;
+use kube_turn::Trace;
 use std::fmt;
 use thiserror::Error;
 

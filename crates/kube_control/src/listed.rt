@@ -6,14 +6,15 @@ ghost use Rattle.std.specs.Arc.{arc_value};
 ghost use Rattle.kube_meta.specs.Keys.{reference_of, key_of, is_named};
 ghost use Rattle.kube_control.specs.Stores.{put_stored};
 ghost use Rattle.kube_control.specs.Unbuilt.{IfNotBuilt, any_unnamed};
-ghost use Rattle.kube_control.specs.Views.{stored_of, message_of};
+ghost use Rattle.kube_turn.specs.Views.{message_of};
+ghost use Rattle.kube_control.specs.Views.{stored_of};
 ghost use Rattle.kube_control.specs.Keyed.{keyed, updated};
 
 use crate::cache::{Stored, put};
 use crate::fault::Fault;
-use crate::request::ReconcileRequest;
 use kube_meta::{List, ObjectRef, Resource, TypeInfo};
 use kube_model::reason::ReconcileReason;
+use kube_turn::ReconcileRequest;
 use std::alloc::Global;
 use std::sync::Arc;
 

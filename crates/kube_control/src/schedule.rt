@@ -7,12 +7,11 @@ ghost use Rattle.kube_meta.specs.Reference.{same_reference};
 ghost use Rattle.kube_model.specs.History.{same_message};
 ghost use Rattle.kube_control.specs.Messages.{last_of_each as last_messages};
 ghost use Rattle.kube_control.specs.Exchanges.{requested};
-ghost use Rattle.kube_control.specs.Views.{exchange_of, message_of};
+ghost use Rattle.kube_turn.specs.Views.{exchange_of, message_of};
 
-use crate::exchange::SourceExchange;
 use crate::items::add;
-use crate::request::ReconcileRequest;
 use kube_meta::{NoMemory, ObjectRef, Resource};
+use kube_turn::{ReconcileRequest, SourceExchange};
 use std::alloc::Global;
 
 /// An equal request in memory of its own.

@@ -4,13 +4,13 @@ ghost use Rattle.std.specs.Prelude.{◌≡◌, [], Some, IfOk, OnOk, OnErr, map}
 ghost use Rattle.std.specs.List.{cons_option, filter_map};
 ghost use Rattle.kube_model.specs.Raw.{grown_by};
 ghost use Rattle.kube_control.specs.Messages.{take_of, handed};
-ghost use Rattle.kube_control.specs.Views.{message_of, stored_of, taken_of};
+ghost use Rattle.kube_turn.specs.Views.{message_of, taken_of};
+ghost use Rattle.kube_control.specs.Views.{stored_of};
 
 use crate::cache::{Stored, get};
 use crate::reconciler::Reconciler;
-use crate::record::Taken;
-use crate::request::ReconcileRequest;
 use kube_meta::{List, NoMemory, Resource};
+use kube_turn::{ReconcileRequest, Taken};
 use std::alloc::Global;
 use std::sync::Arc;
 

@@ -5,16 +5,17 @@ ghost use Rattle.std.specs.Option.{option_map};
 ghost use Rattle.kube_model.specs.Raw.{Raw, grown};
 ghost use Rattle.kube_control.specs.Exchanges.{AskedFrom, IsCalledFrom, IsUnbuiltFrom, or_now};
 ghost use Rattle.kube_control.specs.Unbuilt.{IfNotBuilt};
-ghost use Rattle.kube_control.specs.Views.{exchange_of, kept_of};
+ghost use Rattle.kube_turn.specs.Views.{exchange_of};
+ghost use Rattle.kube_control.specs.Views.{kept_of};
 
 use crate::cache::Stored;
 use crate::calls::{LastPage, list_page, open_watch, poll_watch};
-use crate::exchange::SourceExchange;
 use crate::fault::Fault;
 use crate::listed::{Listed, make_listed};
 use kube_api::ApiMode;
 use kube_meta::{List, Moment, Resource, Text};
 use kube_model::call::{Answer, Call};
+use kube_turn::SourceExchange;
 use std::alloc::Global;
 
 /// A watch that tells nothing for so many nanoseconds counts as over.

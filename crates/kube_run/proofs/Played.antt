@@ -15,12 +15,12 @@ use Rattle.kube_control.specs.Built.{IsBuilt}
 use Rattle.kube_control.specs.Calls.{AreMadeBy, dated_in}
 use Rattle.kube_control.specs.Controllers.{IfNotBuiltTurn, records_before}
 use Rattle.kube_control.specs.NotBuilt.{IsNotBuilt, IsNotBuiltAfter}
-use Rattle.kube_control.specs.Records.{finished_of, record_of, records_of}
-use Rattle.kube_control.specs.Views.{exchange_of, shown_objects, taken_of}
+use Rattle.kube_turn.specs.Records.{finished_of, record_of, records_of}
+use Rattle.kube_turn.specs.Views.{exchange_of, shown_objects, taken_of}
 use Rattle.kube_control.specs.declared.error.RunError.{RunError}
 use Rattle.kube_control.specs.declared.error.RunError.TheVariants.{NoMemory, NotBuilt, Spent}
-use Rattle.kube_control.specs.declared.record.Finished.{Finished}
-use Rattle.kube_control.specs.declared.record.TurnRecord.{TurnRecord as HeldRecord}
+use Rattle.kube_turn.specs.declared.record.Finished.{Finished}
+use Rattle.kube_turn.specs.declared.record.TurnRecord.{TurnRecord as HeldRecord}
 use Rattle.kube_meta.specs.Resources.{resource_type}
 use Rattle.kube_run.specs.Played.{IsPlayedTo, IsPlayed, IsPlayedFront, IsPlayedUntil, IsFront, first_api, meta_of, script_world, tells}
 use Rattle.kube_run.specs.Script.{Script}

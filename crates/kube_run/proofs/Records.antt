@@ -2,7 +2,7 @@
 use Rattle.std.proofs.Common.{◌≡◌, ℕ, ◌+◌, ◌<◌, suc, List, [], ◌∷◌, ◌++◌, Option, refl, sym, ap, ◌∙◌, append_assoc, append-nil, drop, length, subst, get_or, add-one, drop-cons}
 use Rattle.std.specs.Io.KnownBytes.{Appends}
 use Rattle.kube_meta.specs.Reading.{ObjectData}
-use Rattle.kube_control.specs.declared.record.TurnRecord.{TurnRecord}
+use Rattle.kube_turn.specs.declared.record.TurnRecord.{TurnRecord}
 use Rattle.kube_run.proofs.Known.{none_written, both_written}
 use Rattle.kube_run.specs.Part.{AppendsPart}
 use Rattle.kube_run.specs.TraceText.{line_text, lines_text}

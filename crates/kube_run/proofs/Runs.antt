@@ -1,7 +1,7 @@
 -- How a run of a script's turns may end.
 use Rattle.std.proofs.Common.{◌≡◌, List, ℕ, [], Option, ◌⊎◌, inl, inr, sym, ap, subst, ◌∙◌, append-nil}
 use Rattle.std.specs.Io.KnownBytes.{Appends}
-use Rattle.kube_control.specs.Records.{records_of}
+use Rattle.kube_turn.specs.Records.{records_of}
 use Rattle.kube_run.specs.Part.{AppendsPart}
 use Rattle.kube_run.specs.Played.{IsCutOff, IsFront, IsPlayedFront}
 use Rattle.kube_run.specs.Script.{Script}

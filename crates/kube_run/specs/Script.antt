@@ -14,8 +14,8 @@ use Rattle.kube_model.specs.declared.turn.Shutdown.TheVariants as shutdowns
 use Rattle.kube_model.specs.History.{Turn}
 use Rattle.kube_api.specs.Answers.{list_answer}
 use Rattle.kube_api.specs.TestScript.{Step, Pauses}
-use Rattle.kube_control.specs.declared.turn.Turn as held_turn
-use Rattle.kube_control.specs.Records.{turn_of}
+use Rattle.kube_turn.specs.declared.turn.Turn as held_turn
+use Rattle.kube_turn.specs.Records.{turn_of}
 use Rattle.kube_run.specs.declared.script.Script as held_script
 use Rattle.kube_run.specs.declared.script.Root as held_root
 use Rattle.kube_run.specs.Reading.{◌>>=◌, Wrong, of_object, members_among, object_at, field, maybe_field, list_field, list_at, there, text_at, number_at, small_at, flag_at}

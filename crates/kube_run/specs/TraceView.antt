@@ -10,9 +10,9 @@ use Rattle.kube_meta.specs.Resources.{resource_type}
 use Rattle.kube_meta.specs.declared.dynamic.ApiResource.{ApiResource}
 use Rattle.kube_meta.specs.Reading.{ObjectData}
 use Rattle.kube_meta.specs.declared.object_ref.ObjectRef.{ObjectRef}
-use Rattle.kube_control.specs.declared.record.Finished.{Finished}
-use Rattle.kube_control.specs.declared.record.TurnRecord.{TurnRecord}
-use Rattle.kube_control.specs.Views.{exchange_of, taken_of}
+use Rattle.kube_turn.specs.declared.record.Finished.{Finished}
+use Rattle.kube_turn.specs.declared.record.TurnRecord.{TurnRecord}
+use Rattle.kube_turn.specs.Views.{exchange_of, taken_of}
 use Rattle.kube_run.specs.TraceText.{ShownFinish, Line}
 
 -- how the program names a type of objects

@@ -8,7 +8,7 @@ ghost use Rattle.kube_meta.specs.Reading.{ObjectData as object_record};
 ghost use Rattle.kube_run.specs.Shown.{ShowsMembers};
 ghost use Rattle.kube_run.specs.TraceText.{request_data, answer_word as answer_word_of, call_word as call_word_of, error_word as error_word_of, code_members, error_members, from_members, text_members, version_members, exchange_members, exchange_data};
 ghost use Rattle.kube_run.specs.TraceView.{named_type};
-ghost use Rattle.kube_control.specs.Views.{exchange_of, message_of};
+ghost use Rattle.kube_turn.specs.Views.{exchange_of, message_of};
 
 use crate::script_object::ScriptObject;
 use crate::show::{Show, member, text_member};

@@ -2,7 +2,7 @@
 
 ghost use Rattle.std.specs.Prelude.{◌≡◌, [], IfOk, IfErr, length};
 ghost use Rattle.kube_control.specs.Controllers.{records_before, IfNotBuiltTurn};
-ghost use Rattle.kube_control.specs.Records.{records_of};
+ghost use Rattle.kube_turn.specs.Records.{records_of};
 ghost use Rattle.kube_run.specs.Played.{IsPlayed, IsPlayedFront, IsPlayedUntil};
 ghost use Rattle.kube_run.specs.Script.{seen_script};
 ghost use Rattle.kube_run.specs.TraceView.{named_type};

@@ -7,7 +7,7 @@ ghost use Rattle.kube_model.specs.declared.turn.Stop.{Stop as stop_type};
 ghost use Rattle.kube_run.specs.Shown.{ShowsMembers, tokens_of, array_of};
 ghost use Rattle.kube_run.specs.TraceText.{ShownFinish, text_or_null, finish_members, finish_data, stop_word as stop_word_of, stop_data, taken_data, line_members, line_data, line_text};
 ghost use Rattle.kube_run.specs.TraceView.{error_text, named_type, seen_finish, seen_record};
-ghost use Rattle.kube_control.specs.Views.{taken_of};
+ghost use Rattle.kube_turn.specs.Views.{taken_of};
 ghost use Rattle.kube_run.specs.Lines.{not_built_data, not_built_line as not_built_text};
 
 use crate::script_object::ScriptObject;

@@ -8,7 +8,7 @@ ghost use Rattle.kube_model.specs.ReasonView.{reason_of};
 ghost use Rattle.kube_run.specs.Shown.{ShowsMembers, tokens_of, item_tokens, array_of, member_if as data_member_if};
 ghost use Rattle.kube_run.specs.TraceText.{taken_members, taken_data, taken_tokens};
 ghost use Rattle.kube_run.specs.TraceView.{named_type, seen_reference};
-ghost use Rattle.kube_control.specs.Views.{taken_of};
+ghost use Rattle.kube_turn.specs.Views.{taken_of};
 
 use crate::script_object::ScriptObject;
 use crate::show::{Show, member};

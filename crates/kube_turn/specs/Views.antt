@@ -1,5 +1,5 @@
 -- The values of a turn, as plain data. K is the type of objects, D that of their dynamic types.
-use Rattle.std.specs.Prelude.{Bool, map, Option, Some, None}
+use Rattle.std.specs.Prelude.{Bool, List, map, Option, Some, None}
 use Rattle.std.specs.Arc.{arc_value}
 use Rattle.std.specs.declared.sync.Arc.{Arc}
 use Rattle.std.specs.declared.alloc.Global.{Global}
@@ -43,3 +43,8 @@ module _ {K D : Type 0} (type_of : D → ObjectType) where
   -- a reference that runs, with the object that was handed over
   abbrev pub running_of : ObjectRef K D × Arc K Global → Running K
   running_of p = record { reference = reference_of type_of p.0; object = arc_value p.1 }
+
+-- the objects that are shown
+abbrev pub shown_objects : {K : Type 0} → Option (List (Arc K Global)) → Option (List K)
+shown_objects None = None
+shown_objects (Some os) = Some (map arc_value os)

@@ -3,6 +3,7 @@
 ghost use Rattle.std.specs.Prelude.{◌≡◌, ◌<◌, ◌^◌, ◌++◌, ℕ, [], List, true, false, IfErr, IfOk, IsErrAnd, OnErr, OnOk, length, take};
 ghost use Rattle.std.specs.List.{filter_map, AllByRecursion, AllZip};
 ghost use Rattle.kube_model.specs.History.{Step, Turn as PlainTurn, TurnRecord as PlainRecord};
+ghost use Rattle.kube_model.specs.Named.{AreNamedTurns, RootIsNamed};
 ghost use Rattle.kube_model.specs.Raw.{grown_by};
 ghost use Rattle.kube_model.specs.Settled.{IsSettled};
 ghost use Rattle.kube_control.specs.PlainTraces.{IsTrace, steps};
@@ -11,7 +12,7 @@ ghost use Rattle.kube_control.specs.Calls.{AreMadeBy, dated_in};
 ghost use Rattle.kube_control.specs.Controllers.{is_spent, api_of, dyntype_of, records_before, IfNotBuiltTurn, IfSpent, IsSpent};
 ghost use Rattle.kube_control.specs.Messages.{handed};
 ghost use Rattle.kube_control.specs.NotBuilt.{IsNotBuiltAfter};
-ghost use Rattle.kube_control.specs.Records.{records_of, turns_of};
+ghost use Rattle.kube_turn.specs.Records.{records_of, turns_of};
 ghost use Rattle.kube_control.specs.StandsFor.{StandsFor, taken_in, world};
 
 use crate::controller::Controller;
@@ -19,12 +20,11 @@ use crate::controller::turns::take_turns;
 use crate::error::RunError;
 use crate::fault::Fault;
 use crate::reconciler::Reconciler;
-use crate::record::Trace;
 use crate::source::{NoRelated, WatchRoot};
-use crate::turn::Turn;
 use crate::watcher::{Root, State};
 use kube_api::ApiMode;
 use kube_meta::{Action, List, Moment, Resource};
+use kube_turn::{Trace, Turn};
 use std::alloc::Global;
 use std::sync::Arc;
 
@@ -82,6 +82,11 @@ impl<A: ApiMode> Controller<WatchRoot<A>, NoRelated, ()> {
         ensures trace { (h : List (Step A.Value)) → StandsFor A.Value.type_of A.Value.meta_of h self.old
             → IfOk result (λ r. IsTrace (world A.Value.type_of A.Value.meta_of self.old) h (turns_of A.Value.type_of turns.items) (records_of A.Value.type_of r.records)
             × StandsFor A.Value.type_of A.Value.meta_of (h ++ steps (turns_of A.Value.type_of turns.items) (records_of A.Value.type_of r.records)) self.new) }
+
+        // Each turn of the trace is named: each object that had to become a reference came with a name.
+        ensures named { (h : List (Step A.Value)) → StandsFor A.Value.type_of A.Value.meta_of h self.old
+            → IfOk result (λ r. AreNamedTurns (world A.Value.type_of A.Value.meta_of self.old) (RootIsNamed (world A.Value.type_of A.Value.meta_of self.old)) h
+            (steps (turns_of A.Value.type_of turns.items) (records_of A.Value.type_of r.records))) }
 
         // The trace's exchanges were made by calls of the API, one after another, each at its turn's moment. Where the API
         // tells its talk, it grew by exactly these.

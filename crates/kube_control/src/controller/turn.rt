@@ -8,22 +8,22 @@ ghost use Rattle.kube_model.specs.Owed.{is_not_ready};
 ghost use Rattle.kube_control.specs.Calls.{AreMoves, made_at};
 ghost use Rattle.kube_control.specs.Exchanges.{AreAll, AreAsked, IsStoppedAsking, waiting_after};
 ghost use Rattle.kube_control.specs.Messages.{take_of, handed};
-ghost use Rattle.kube_control.specs.Records.{turn_of};
+ghost use Rattle.kube_turn.specs.Records.{turn_of};
 ghost use Rattle.kube_control.specs.Unbuilt.{DoesMore, IfNotBuilt, OnlyAsks};
-ghost use Rattle.kube_control.specs.Views.{exchange_of, kept_of, object_of, shown_objects, taken_of};
+ghost use Rattle.kube_turn.specs.Views.{exchange_of, shown_objects, taken_of};
+ghost use Rattle.kube_control.specs.Views.{kept_of, object_of};
 
 use crate::asks::{ask_all, stop_of};
 use crate::cache::{Stored, state};
 use crate::fault::Fault;
 use crate::reconciler::Reconciler;
-use crate::record::TurnRecord;
 use crate::schedule::{last_of_each, requests_of};
 use crate::source::WatchRoot;
 use crate::takes::take_all;
-use crate::turn::Turn;
 use kube_api::ApiMode;
 use kube_meta::{List, Moment, NoMemory, Resource};
 use kube_model::turn::Shutdown;
+use kube_turn::{Turn, TurnRecord};
 use std::alloc::Global;
 use std::sync::Arc;
 

@@ -10,7 +10,7 @@ ghost use Rattle.kube_control.specs.Calls.{AreMadeBy, dated_in};
 ghost use Rattle.kube_control.specs.Controllers.{api_of, dyntype_of};
 ghost use Rattle.kube_control.specs.Messages.{handed};
 ghost use Rattle.kube_control.specs.NotBuilt.{IsNotBuilt, IsNotBuiltAfter};
-ghost use Rattle.kube_control.specs.Records.{record_of, records_of, turn_of, turns_of};
+ghost use Rattle.kube_turn.specs.Records.{record_of, records_of, turn_of, turns_of};
 ghost use Rattle.kube_control.specs.StandsFor.{StandsFor, taken_in, world};
 ghost use Rattle.kube_control.specs.Unbuilt.{IfNotBuilt};
 
@@ -18,11 +18,10 @@ use crate::controller::Controller;
 use crate::controller::turn::take_turn;
 use crate::fault::Fault;
 use crate::reconciler::Reconciler;
-use crate::record::TurnRecord;
 use crate::source::{NoRelated, WatchRoot};
-use crate::turn::Turn;
 use kube_api::ApiMode;
 use kube_meta::List;
+use kube_turn::{Turn, TurnRecord};
 use std::alloc::Global;
 use std::sync::Arc;
 

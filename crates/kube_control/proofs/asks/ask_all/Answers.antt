@@ -3,7 +3,8 @@ use Rattle.std.proofs.lemmas.List.{map-append}
 use Rattle.kube_model.specs.Raw.{Raw, grown_by}
 use Rattle.kube_control.specs.Calls.{AreMoves, made_at}
 use Rattle.kube_control.specs.Exchanges.{AreAll, AreAsked, Asked, any_not_ready}
-use Rattle.kube_control.specs.Views.{exchange_of, kept_of}
+use Rattle.kube_turn.specs.Views.{exchange_of}
+use Rattle.kube_control.specs.Views.{kept_of}
 use Rattle.kube_control.proofs.AskSteps.{asked_more, stopped, AreAll-ready, AreAll-spent, more_ready, count_more}
 use Rattle.std.proofs.lemmas.Result.{err_from_is_err_and}
 use Rattle.kube_control.proofs.Causes.{cause-weaker}

@@ -2,7 +2,8 @@ use Rattle.std.proofs.Common.{◌≡◌, List, false, length, map}
 use Rattle.kube_model.specs.Raw.{Raw, grown_by}
 use Rattle.kube_control.specs.Calls.{AreMoves, made_at}
 use Rattle.kube_control.specs.Exchanges.{AreAsked, any_not_ready}
-use Rattle.kube_control.specs.Views.{exchange_of, kept_of}
+use Rattle.kube_turn.specs.Views.{exchange_of}
+use Rattle.kube_control.specs.Views.{kept_of}
 use Rattle.kube_control.proofs.asks.ask_all.Given as goal
 
 -- as far as the loop has come

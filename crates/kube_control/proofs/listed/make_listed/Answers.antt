@@ -2,7 +2,8 @@ use Rattle.std.proofs.Common.{◌<◌, length, sym, ◌∙◌, ap, ap₂, arith,
 use Rattle.std.proofs.lemmas.Result.{err_from_is_err_and}
 use Rattle.kube_meta.specs.Keys.{is_named, key_of}
 use Rattle.kube_model.specs.Reason.{ObjectUpdated}
-use Rattle.kube_control.specs.Views.{stored_of, message_of}
+use Rattle.kube_turn.specs.Views.{message_of}
+use Rattle.kube_control.specs.Views.{stored_of}
 use Rattle.kube_control.specs.Keyed.{keyed, updated}
 use Rattle.kube_control.proofs.ListedSteps.{not_built_weaker, cache_more, requests_more, none_more, any_at}
 use Rattle.kube_control.proofs.listed.make_listed.Goals as goal

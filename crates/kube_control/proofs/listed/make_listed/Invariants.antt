@@ -3,7 +3,8 @@ use Rattle.std.specs.List.{fold}
 use Rattle.std.specs.Arc.{arc_value}
 use Rattle.kube_control.specs.Stores.{put_stored}
 use Rattle.kube_control.specs.Unbuilt.{any_unnamed}
-use Rattle.kube_control.specs.Views.{stored_of, message_of}
+use Rattle.kube_turn.specs.Views.{message_of}
+use Rattle.kube_control.specs.Views.{stored_of}
 use Rattle.kube_control.specs.Keyed.{keyed, updated}
 use Rattle.kube_control.proofs.listed.make_listed.Given as goal
 

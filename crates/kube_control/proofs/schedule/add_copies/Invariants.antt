@@ -1,5 +1,5 @@
 use Rattle.std.proofs.Common.{◌≡◌, ◌++◌, map, take}
-use Rattle.kube_control.specs.Views.{message_of}
+use Rattle.kube_turn.specs.Views.{message_of}
 use Rattle.kube_control.proofs.schedule.add_copies.Given as goal
 
 abbrev pub invariant-loop-request : goal.invariant-loop-request

@@ -1,5 +1,5 @@
 use Rattle.std.proofs.Common.{sym, ◌∙◌}
-use Rattle.kube_control.specs.Views.{message_of}
+use Rattle.kube_turn.specs.Views.{message_of}
 use Rattle.kube_control.proofs.LastOfEach.{passed_over, kept_more}
 use Rattle.kube_control.proofs.schedule.last_of_each.Goals as goal
 

@@ -1,7 +1,7 @@
 use Rattle.std.proofs.Common.{◌≡◌, ◌++◌, length, map}
 use Rattle.kube_model.specs.History.{same_message}
 use Rattle.kube_control.specs.Messages.{last_of_each}
-use Rattle.kube_control.specs.Views.{message_of}
+use Rattle.kube_turn.specs.Views.{message_of}
 use Rattle.kube_control.proofs.schedule.last_of_each.Given as goal
 
 -- those that were kept, and the last of each of the rest, are all

@@ -1,6 +1,6 @@
 use Rattle.std.proofs.Common.{◌≡◌, map, take}
 use Rattle.kube_control.specs.Exchanges.{requested}
-use Rattle.kube_control.specs.Views.{exchange_of, message_of}
+use Rattle.kube_turn.specs.Views.{exchange_of, message_of}
 use Rattle.kube_control.proofs.schedule.requests_of.Given as goal
 
 abbrev pub invariant-loop-exchange : goal.invariant-loop-exchange

@@ -5,7 +5,8 @@ use Rattle.std.proofs.lemmas.Iterator.Adapters.{YieldsList-from_vec}
 use Rattle.std.proofs.lemmas.Iterator.Consumers.{YieldsList-end}
 use Rattle.kube_model.specs.Raw.{grown_by}
 use Rattle.kube_control.specs.Messages.{take_of, handed}
-use Rattle.kube_control.specs.Views.{message_of, stored_of, taken_of}
+use Rattle.kube_turn.specs.Views.{message_of, taken_of}
+use Rattle.kube_control.specs.Views.{stored_of}
 use Rattle.kube_control.proofs.TakeSteps.{grown_by-none, taken_more, handed_more}
 use Rattle.kube_control.proofs.takes.take_all.Goals as goal
 

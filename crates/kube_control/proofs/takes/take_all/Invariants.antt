@@ -2,7 +2,8 @@ use Rattle.std.proofs.Common.{◌≡◌, Some, map}
 use Rattle.std.specs.List.{filter_map}
 use Rattle.kube_model.specs.Raw.{grown_by}
 use Rattle.kube_control.specs.Messages.{take_of, handed}
-use Rattle.kube_control.specs.Views.{message_of, stored_of, taken_of}
+use Rattle.kube_turn.specs.Views.{message_of, taken_of}
+use Rattle.kube_control.specs.Views.{stored_of}
 use Rattle.kube_control.proofs.takes.take_all.Given as goal
 
 -- as far as the loop has come

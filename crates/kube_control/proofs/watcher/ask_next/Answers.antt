@@ -2,7 +2,8 @@ use Rattle.std.proofs.Common.{◌≡◌, ◌+◌, arith, false, nat_le, map, ap}
 use Rattle.std.specs.Arc.{arc_value}
 use Rattle.std.proofs.lemmas.Bool.Decides.{nat_tests}
 use Rattle.kube_control.specs.Exchanges.{window}
-use Rattle.kube_control.specs.Views.{kept_of, message_of}
+use Rattle.kube_turn.specs.Views.{message_of}
+use Rattle.kube_control.specs.Views.{kept_of}
 use Rattle.kube_control.proofs.AskSteps.{next_asked}
 use Rattle.kube_control.proofs.watcher.ask_next.Goals as goal
 

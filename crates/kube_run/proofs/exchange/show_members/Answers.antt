@@ -3,7 +3,7 @@ use Rattle.serde_json.specs.Data.{member, string, number, unsigned}
 use Rattle.kube_run.specs.Shown.{array_of}
 use Rattle.kube_meta.specs.Writing.{object_data}
 use Rattle.kube_run.specs.TraceText.{request_data, code_members, error_members, from_members, text_members, version_members, exchange_members}
-use Rattle.kube_control.specs.Views.{exchange_of}
+use Rattle.kube_turn.specs.Views.{exchange_of}
 use Rattle.kube_run.specs.TraceView.{named_type}
 use Rattle.kube_run.proofs.exchange.show_members.Goals as goal
 

@@ -8,9 +8,9 @@ use Rattle.kube_api.specs.TestScript as api
 use Rattle.kube_control.specs.Built.{IsBuilt}
 use Rattle.kube_control.specs.Controllers.{api_of, dyntype_of, records_before}
 use Rattle.kube_control.specs.NotBuilt.{IsNotBuiltAfter}
-use Rattle.kube_control.specs.Records.{record_of, records_of, turn_of, turns_of}
+use Rattle.kube_turn.specs.Records.{record_of, records_of, turn_of, turns_of}
 use Rattle.kube_control.specs.Worlds.{world_of}
-use Rattle.kube_control.specs.declared.turn.Turn.{Turn as HeldTurn}
+use Rattle.kube_turn.specs.declared.turn.Turn.{Turn as HeldTurn}
 use Rattle.kube_control.specs.declared.error.RunError.{RunError}
 use Rattle.kube_control.specs.declared.error.RunError.TheVariants.{NoMemory}
 use Rattle.kube_run.specs.Played.{IsPlayedFront, first_api, meta_of, script_world, tells}

@@ -1,7 +1,7 @@
 use Rattle.std.proofs.Common.{◌≡◌, ◌++◌, inl, inr, length, refl, ap₂, subst}
 use Rattle.std.specs.Io.KnownBytes.{Appends}
 use Rattle.kube_control.specs.Controllers.{IfNotBuiltTurn, records_before}
-use Rattle.kube_control.specs.Records.{records_of}
+use Rattle.kube_turn.specs.Records.{records_of}
 use Rattle.kube_run.specs.Lines.{not_built_line}
 use Rattle.kube_run.specs.Part.{AppendsPart}
 use Rattle.kube_run.specs.Played.{IsPlayedFront, IsPlayedUntil}

@@ -3,7 +3,7 @@ use Rattle.std.specs.List.{filter_map}
 use Rattle.kube_run.specs.Shown.{item_tokens}
 use Rattle.kube_run.specs.TraceText.{taken_data}
 use Rattle.kube_run.specs.TraceView.{named_type}
-use Rattle.kube_control.specs.Views.{taken_of}
+use Rattle.kube_turn.specs.Views.{taken_of}
 use Rattle.kube_run.proofs.taken.show_takes.Given as goal
 
 abbrev pub invariant-loop-taken : goal.invariant-loop-taken

@@ -4,7 +4,8 @@ use Rattle.kube_model.specs.Raw.{grown_by}
 use Rattle.kube_control.specs.Exchanges.{AreAll, requested, waiting_after}
 use Rattle.kube_model.specs.History.{same_message}
 use Rattle.kube_control.specs.Messages.{take_of, handed, last_of_each}
-use Rattle.kube_control.specs.Views.{exchange_of, message_of, stored_of}
+use Rattle.kube_turn.specs.Views.{exchange_of, message_of}
+use Rattle.kube_control.specs.Views.{stored_of}
 use Rattle.kube_control.proofs.controller.turn.take_turn.Goals as goal
 
 pub returns-clause-all : goal.returns-clause-all

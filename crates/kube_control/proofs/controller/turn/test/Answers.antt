@@ -1,6 +1,6 @@
 use Rattle.std.proofs.Common.{◌≡◌, true, false, sym, ◌∙◌}
 use Rattle.kube_meta.specs.Keys.{reference_of}
-use Rattle.kube_control.specs.Records.{finish_of}
+use Rattle.kube_turn.specs.Records.{finish_of}
 use Rattle.kube_control.specs.Unbuilt.{Finishes, Names}
 use Rattle.kube_control.proofs.Grows.{map-none}
 use Rattle.kube_control.proofs.controller.turn.test.Goals as goal

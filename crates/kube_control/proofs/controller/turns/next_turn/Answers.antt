@@ -6,10 +6,11 @@ use Rattle.kube_model.specs.History.{dated}
 use Rattle.kube_control.specs.Calls.{AreMadeBy}
 use Rattle.kube_control.specs.Controllers.{api_of}
 use Rattle.kube_control.specs.Exchanges.{waiting_after}
-use Rattle.kube_control.specs.Records.{finished_of, turn_of}
+use Rattle.kube_turn.specs.Records.{finished_of, turn_of}
 use Rattle.kube_control.specs.StandsFor.{world}
 use Rattle.kube_control.specs.Messages.{handed, take_of}
-use Rattle.kube_control.specs.Views.{exchange_of, kept_of, taken_of}
+use Rattle.kube_turn.specs.Views.{exchange_of, taken_of}
+use Rattle.kube_control.specs.Views.{kept_of}
 use Rattle.kube_control.proofs.TurnSteps.{turn-taken, record-is, asked-recorded, filter_map-some}
 use Rattle.std.proofs.lemmas.Result.{err_from_is_err_and}
 use Rattle.kube_control.proofs.BuiltTurns.{all-built, each-some}

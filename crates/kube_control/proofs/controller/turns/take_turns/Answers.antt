@@ -10,7 +10,7 @@ use Rattle.kube_control.specs.Built.{IsBuilt, TakesSomething}
 use Rattle.kube_control.specs.Calls.{AreMadeBy, dated_in}
 use Rattle.kube_control.specs.Controllers.{api_of, dyntype_of}
 use Rattle.kube_control.specs.Messages.{handed}
-use Rattle.kube_control.specs.Records.{record_of, records_of, turn_of, turns_of}
+use Rattle.kube_turn.specs.Records.{record_of, records_of, turn_of, turns_of}
 use Rattle.kube_control.specs.StandsFor.{StandsFor, taken_in, world}
 use Rattle.kube_control.specs.Worlds.{world_of}
 use Rattle.std.proofs.lemmas.Option.{slice_get_read, slice_get-map}

@@ -7,7 +7,7 @@ use Rattle.kube_control.specs.Built.{IsBuilt, TakesSomething}
 use Rattle.kube_control.specs.Calls.{AreMadeBy, dated_in}
 use Rattle.kube_control.specs.Controllers.{api_of, dyntype_of}
 use Rattle.kube_control.specs.Messages.{handed}
-use Rattle.kube_control.specs.Records.{records_of, turns_of}
+use Rattle.kube_turn.specs.Records.{records_of, turns_of}
 use Rattle.kube_control.specs.StandsFor.{StandsFor, taken_in, world}
 use Rattle.kube_control.proofs.controller.turns.take_turns.Given as goal
 

@@ -1,6 +1,6 @@
 use Rattle.serde_json.specs.Data.{no_members}
 use Rattle.kube_run.specs.TraceText.{exchange_data, exchange_members}
-use Rattle.kube_control.specs.Views.{exchange_of}
+use Rattle.kube_turn.specs.Views.{exchange_of}
 use Rattle.kube_run.specs.TraceView.{named_type}
 use Rattle.kube_run.proofs.Shown.{object_shown}
 use Rattle.kube_run.proofs.exchange.SourceExchangeScriptObjectShow.show.Goals as goal

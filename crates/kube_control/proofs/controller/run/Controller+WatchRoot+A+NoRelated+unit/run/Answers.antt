@@ -1,5 +1,6 @@
 use Rattle.std.proofs.Common.{◌++◌, [], length, map, take, refl, sym, ap, subst}
 use Rattle.std.proofs.Math.Seq.{take-length}
+use Rattle.kube_model.specs.Named.{RootIsNamed, AreNamedTurns}
 use Rattle.kube_model.specs.Pause.{Pause}
 use Rattle.kube_model.specs.Settled.{IsSettled}
 use Rattle.kube_model.specs.Traces.{unread}
@@ -7,11 +8,19 @@ use Rattle.kube_control.specs.PlainTraces.{unasked, steps}
 use Rattle.kube_model.specs.World.{default_settings}
 use Rattle.kube_model.proofs.SettledSteps.{settled-fronts}
 use Rattle.kube_control.specs.Calls.{AreMadeBy, dated_in}
-use Rattle.kube_control.specs.Controllers.{api_of}
-use Rattle.kube_control.specs.Records.{records_of, turns_of}
+use Rattle.kube_control.specs.Controllers.{api_of, dyntype_of}
+use Rattle.kube_turn.specs.Records.{records_of, turns_of}
 use Rattle.kube_control.specs.StandsFor.{world}
 use Rattle.kube_control.proofs.Moves.{made-none}
+use Rattle.kube_control.proofs.NamedTurns.{turns-named}
 use Rattle.kube_control.proofs.controller.run.Controller+WatchRoot+A+NoRelated+unit.run.Goals as goal
+
+pub returns-in-Ok-clause-named : goal.returns-in-Ok-clause-named
+returns-in-Ok-clause-named g c h s =
+    let type_of = g.A.Value.Resource.type_of in
+    let w = world type_of g.A.Value.Resource.meta_of c.args.self.now in
+    subst (λ us. AreNamedTurns w (RootIsNamed w) h (steps (turns_of type_of us) (records_of type_of c.take_turns.new.records))) c.as_slice.ensures.value
+    (turns-named (type_of (dyntype_of c.args.self.now)) g.A.Value.Resource.meta_of type_of h c.as_slice.result.now c.take_turns.new.records c.in-Ok.ensures.built)
 
 pub returns-in-Ok-clause-settled : goal.returns-in-Ok-clause-settled
 returns-in-Ok-clause-settled g c ts rs k s n =

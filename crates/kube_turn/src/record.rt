@@ -1,9 +1,9 @@
 //! What turns did.
 
 use crate::exchange::SourceExchange;
+use crate::taken::Taken;
 use kube_meta::{Action, List, Moment, ObjectRef, Resource};
 use kube_model::error::RunnerError;
-use kube_model::reason::ReconcileReason;
 use kube_model::turn::Stop;
 use std::sync::Arc;
 
@@ -15,25 +15,6 @@ pub struct Finished<K: Resource, E: Drop> {
     pub outcome: Result<Action, E>,
     /// The outcome's own, or what the error policy answered.
     pub action: Action,
-}
-
-/// What was taken of the messages that waited.
-#[derive(Drop)]
-#[derive_where(Debug; K, K::DynamicType)]
-pub enum Taken<K: Resource> {
-    /// It was found and handed to the reconciler.
-    Started {
-        reference: ObjectRef<K>,
-        reason: ReconcileReason,
-        object: Arc<K>,
-    },
-    /// Nothing is stored under it.
-    NotFound {
-        reference: ObjectRef<K>,
-        reason: ReconcileReason,
-    },
-    /// None could be taken. No record holds this.
-    Nothing,
 }
 
 /// What a turn did.

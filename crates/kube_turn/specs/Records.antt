@@ -5,11 +5,11 @@ use Rattle.kube_meta.specs.declared.action.Action.{Action}
 use Rattle.kube_meta.specs.Reference.{ObjectType}
 use Rattle.kube_meta.specs.Keys.{reference_of}
 use Rattle.kube_model.specs.History.{Outcome, Succeeded, Failed, Finish, Turn, Finished, TurnRecord}
-use Rattle.kube_control.specs.declared.turn.Finish.{Finish as HeldFinish}
-use Rattle.kube_control.specs.declared.turn.Turn.{Turn as HeldTurn}
-use Rattle.kube_control.specs.declared.record.Finished.{Finished as HeldFinished}
-use Rattle.kube_control.specs.declared.record.TurnRecord.{TurnRecord as HeldRecord}
-use Rattle.kube_control.specs.Views.{exchange_of, taken_of, shown_objects}
+use Rattle.kube_turn.specs.declared.turn.Finish.{Finish as HeldFinish}
+use Rattle.kube_turn.specs.declared.turn.Turn.{Turn as HeldTurn}
+use Rattle.kube_turn.specs.declared.record.Finished.{Finished as HeldFinished}
+use Rattle.kube_turn.specs.declared.record.TurnRecord.{TurnRecord as HeldRecord}
+use Rattle.kube_turn.specs.Views.{exchange_of, taken_of, shown_objects}
 
 -- a fault is a run's own: a history keeps that there was one
 abbrev pub outcome_of : {E : Type 0} → Result Action E → Outcome
