@@ -5,7 +5,7 @@ use Rattle.kube_model.specs.declared.call.Call.{Call}
 use Rattle.kube_model.specs.declared.call.Call.TheVariants.{List as ListCall, Watch, Next, Stream}
 use Rattle.kube_model.specs.declared.call.Answer.{Answer}
 use Rattle.kube_model.specs.declared.call.Answer.TheVariants.{Page, Opened, Added, Modified, Deleted, Bookmark, ErrorItem, Fault, End, NotReady, Idle, Item, Spent}
-use Rattle.kube_model.specs.World.{Settings, Watched, window_of, window_after}
+use Rattle.kube_model.specs.World.{Settings, window_after}
 use Rattle.kube_model.specs.History.{Dated, Exchange}
 use Rattle.kube_model.specs.Owed.{is_next}
 use Rattle.kube_model.specs.Fits.{answers, idle_fits, is_window_over, silent_since}

@@ -1,5 +1,6 @@
 pub mod Annotations
 pub mod Asking
+pub mod Fitting
 pub mod Idling
 pub mod Made
 pub mod Orders

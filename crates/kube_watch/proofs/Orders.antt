@@ -2,21 +2,21 @@
 use Rattle.std.proofs.Common.{◌≡◌, ℕ, Bool, true, false, ◌==◌, List, [], ◌∷◌, ◌++◌, map, Option, Some, None, if◌then◌else◌, IsTrue, refl, sym, ap, ◌∙◌, subst}
 use Rattle.std.specs.List.{list_any}
 use Rattle.kube_model.specs.declared.call.Call.{Call}
-use Rattle.kube_model.specs.declared.call.Call.TheVariants.{List as ListCall, Watch, Next, Stream}
+use Rattle.kube_model.specs.declared.call.Call.TheVariants.{List as ListCall, Watch, Next}
 use Rattle.kube_model.specs.declared.call.Answer.{Answer}
 use Rattle.kube_model.specs.declared.call.Answer.TheVariants.{Page, Opened, Added, Modified, Deleted, Bookmark, ErrorItem, Fault, End, NotReady, Idle, Item, Spent}
-use Rattle.kube_model.specs.World.{Settings, Watched, version_zero}
+use Rattle.kube_model.specs.World.{Settings, version_zero}
 use Rattle.kube_model.specs.History.{Exchange}
-use Rattle.kube_model.specs.Owed.{owed, is_initial, seen}
+use Rattle.kube_model.specs.Owed.{is_initial, seen}
 use Rattle.kube_model.specs.Fits.{answers}
 use Rattle.kube_watch.specs.declared.event.Event.{Event}
 use Rattle.kube_watch.specs.declared.event.Event.TheVariants.{Apply, Delete, Init, InitApply, InitDone}
 use Rattle.kube_watch.specs.declared.state.State.{State}
 use Rattle.kube_watch.specs.declared.state.State.TheVariants.{Empty, InitPage, InitialWatch, InitListed, Watching}
 use Rattle.kube_watch.specs.Agrees.{is_done}
-use Rattle.kube_watch.specs.Order.{Phase, Unbegun, Listing, Listed, phase_after, may_come, IsOrdered, AreMade, events_after, is_change}
+use Rattle.kube_watch.specs.Order.{Phase, Unbegun, Listing, Listed, phase_after, IsOrdered, AreMade, events_after, is_change}
 use Rattle.kube_watch.specs.States.{call_in, is_initial_in, state_after, after_fault}
-use Rattle.kube_watch.specs.Stands.{IsIn, row_of}
+use Rattle.kube_watch.specs.Stands.{row_of}
 use Rattle.kube_watch.specs.Table.{Row, table, begun, all_init}
 use Rattle.kube_watch.proofs.Made.{table-in}
 use Rattle.kube_watch.proofs.Steps.{Fits, fits-push}

@@ -2,10 +2,12 @@
 
 ghost use Rattle.std.specs.Prelude.{◌≡◌, ◌≤◌, ℕ, List, [], ◌∷◌, ◌++◌, true, false, IsTrue};
 ghost use Rattle.std.specs.List.{list_any};
-ghost use Rattle.kube_model.specs.World.{Settings, Watched};
+ghost use Rattle.kube_model.specs.World.{Settings, Watched, World};
 ghost use Rattle.kube_model.specs.History.{Dated, Exchange};
 ghost use Rattle.kube_model.specs.Owed.{owed};
-ghost use Rattle.kube_model.specs.Fits.{answers};
+ghost use Rattle.kube_model.specs.Fits.{answers, WatchItemsFit};
+ghost use Rattle.kube_model.specs.Raw.{Raw};
+ghost use Rattle.kube_model.specs.Recorded.{IsRecorded};
 ghost use Rattle.kube_watch.specs.declared.event.Event.{Event};
 ghost use Rattle.kube_watch.specs.declared.event.Event.TheVariants.{Init};
 ghost use Rattle.kube_watch.specs.Agrees.{Agrees, asks_api, is_done};
@@ -35,4 +37,10 @@ pub fn no_change_stands_in_a_list<O>()
 /// At one moment a watcher idles at most once, since a window is 6 seconds long at least and begins anew where it was over.
 pub fn idles_at_most_once<O>()
     ensures { (settings : Settings) (ds : List (Dated O)) (now : ℕ) (xs : List (Exchange O)) → AreNext settings ds now xs → idles xs ≤ 1 }
+{}
+
+/// The objects of an exchange that is recorded from a raw form fit its answer: any of a page, one of the answer's version
+/// where it tells of an object, and none else.
+pub fn recorded_objects_fit<O, B>()
+    ensures { (w : World O B) (settings : Settings) (raw : Raw O) (x : Exchange O) → IsRecorded w.version settings raw x → WatchItemsFit w x.answer x.items }
 {}

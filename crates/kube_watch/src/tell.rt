@@ -17,44 +17,32 @@ use kube_model::error::{ApiError, Error};
 use std::alloc::Global;
 use std::sync::Arc;
 
-/// As what objects are told.
-#[derive(Clone, Copy, Debug, PartialEq, Eq)]
-pub enum Kind {
-    Apply,
-    Delete,
-    InitApply,
-}
-
-fn event_of<V: Drop>(kind: Kind, object: Arc<V>) -> Event<Arc<V>>
-    ensures { event_map arc_value result ≡ told_as kind (arc_value object) }
+/// An event of this form, of this object.
+fn event_of<V: Drop>(form: &Event<()>, object: Arc<V>) -> Event<Arc<V>>
+    ensures { event_map arc_value result ≡ told_as form.now (arc_value object) }
 {
-    match kind {
-        Kind::Apply => Event::Apply(object),
-        Kind::Delete => Event::Delete(object),
-        Kind::InitApply => Event::InitApply(object),
+    match form {
+        Event::Apply(_) => Event::Apply(object),
+        Event::Delete(_) => Event::Delete(object),
+        Event::Init => Event::Init,
+        Event::InitApply(_) => Event::InitApply(object),
+        Event::InitDone => Event::InitDone,
     }
 }
 
-/// Tells these objects, in order, after the events that are there.
+/// Tells these objects by events of this form, in order, after the events that are there.
 fn tell_all<V: Drop>(
     events: List<Event<Arc<V>>>,
-    kind: Kind,
+    form: Event<()>,
     items: &[Arc<V>],
 ) -> Result<List<Event<Arc<V>>>, NoMemory>
-    ensures { IfOk result (λ es. map (event_map arc_value) es ≡ map (event_map arc_value) events ++ map (told_as kind) (map arc_value items.now)) }
+    ensures { IfOk result (λ es. map (event_map arc_value) es ≡ map (event_map arc_value) events ++ map (told_as form) (map arc_value items.now)) }
 {
     let mut events = events;
     for item in items {
-        events.push(event_of(kind, item.clone()?))?;
+        events.push(event_of(&form, item.clone()?))?;
     }
     Ok(events)
-}
-
-/// Nothing.
-fn nothing<V: Drop>(alloc: Global) -> List<Event<Arc<V>>>
-    ensures { map (event_map arc_value) result ≡ [] }
-{
-    List::new(alloc)
 }
 
 /// One event.
@@ -72,31 +60,8 @@ fn beginning<V: Drop>(alloc: Global, token: &Option<Text>) -> Result<List<Event<
 {
     match token {
         None => only(alloc, Event::Init),
-        Some(_) => Ok(nothing(alloc)),
+        Some(_) => Ok(List::new(alloc)),
     }
-}
-
-/// What a page tells.
-fn page_events<V: Drop>(
-    alloc: Global,
-    asked: &Option<Text>,
-    token: &Option<Text>,
-    version: &Option<Text>,
-    items: &[Arc<V>],
-) -> Result<List<Event<Arc<V>>>, NoMemory>
-    ensures { IfOk result (λ es. (settings : Settings) (kept : List ℕ) → map (event_map arc_value) es
-        ≡ (list_rows settings kept asked.now (Answer.Page token.now version.now) (map arc_value items.now)).events) }
-{
-    let events = beginning(alloc, asked)?;
-    if token.is_some() {
-        return tell_all(events, Kind::InitApply, items);
-    }
-    if version.is_none() {
-        return Ok(events);
-    }
-    let mut events = tell_all(events, Kind::InitApply, items)?;
-    events.push(Event::InitDone)?;
-    Ok(events)
 }
 
 /// What a list call with its answer tells.
@@ -110,9 +75,19 @@ fn list_events<V: Drop>(
         ≡ (list_rows settings kept asked.now answer.now (map arc_value items.now)).events) }
 {
     match answer {
-        Answer::Page { token, version } => page_events(alloc, asked, token, version, items),
-        Answer::Fault(_) => beginning(alloc, asked),
-        _ => Ok(nothing(alloc)),
+        Answer::Page { token: Some(_), .. } => {
+            tell_all(beginning(alloc, asked)?, Event::InitApply(()), items)
+        }
+        Answer::Page {
+            token: None,
+            version: Some(_),
+        } => {
+            let mut events = tell_all(beginning(alloc, asked)?, Event::InitApply(()), items)?;
+            events.push(Event::InitDone)?;
+            Ok(events)
+        }
+        Answer::Page { .. } | Answer::Fault(_) => beginning(alloc, asked),
+        _ => Ok(List::new(alloc)),
     }
 }
 
@@ -127,10 +102,10 @@ fn initial_events<V: Drop>(
 {
     match answer {
         Answer::Added { .. } | Answer::Modified { .. } => {
-            tell_all(nothing(alloc), Kind::InitApply, items)
+            tell_all(List::new(alloc), Event::InitApply(()), items)
         }
         Answer::Bookmark { ending: true, .. } => only(alloc, Event::InitDone),
-        _ => Ok(nothing(alloc)),
+        _ => Ok(List::new(alloc)),
     }
 }
 
@@ -145,12 +120,16 @@ fn later_events<V: Drop>(
 {
     match answer {
         Answer::Added { version: Some(_) } | Answer::Modified { version: Some(_) } => tell_all(
-            nothing(alloc),
-            Kind::Apply,
+            List::new(alloc),
+            Event::Apply(()),
             items,
         ),
-        Answer::Deleted { version: Some(_) } => tell_all(nothing(alloc), Kind::Delete, items),
-        _ => Ok(nothing(alloc)),
+        Answer::Deleted { version: Some(_) } => tell_all(
+            List::new(alloc),
+            Event::Delete(()),
+            items,
+        ),
+        _ => Ok(List::new(alloc)),
     }
 }
 
@@ -165,7 +144,7 @@ fn watch_events<V: Drop>(
 {
     match answer {
         Answer::Opened if initial => only(alloc, Event::Init),
-        _ => Ok(nothing(alloc)),
+        _ => Ok(List::new(alloc)),
     }
 }
 
@@ -190,7 +169,7 @@ pub fn events_of<V: Drop>(
                 later_events(alloc, answer, items)
             }
         }
-        Call::Stream => Ok(nothing(alloc)),
+        Call::Stream => Ok(List::new(alloc)),
     }
 }
 

@@ -8,4 +8,4 @@ use Rattle.kube_watch.proofs.tell.tell_all.Given as goal
 abbrev pub invariant-loop-item : goal.invariant-loop-item
 invariant-loop-item g l =
     map (event_map arc_value) l.events
-    ≡ map (event_map arc_value) l.fn.events ++ map (told_as l.kind) (map arc_value (take l.item-index l.items))
+    ≡ map (event_map arc_value) l.fn.events ++ map (told_as l.form) (map arc_value (take l.item-index l.items))

@@ -2,7 +2,6 @@ use Rattle.std.proofs.Common.{inr, subst}
 use Rattle.std.specs.Prelude.{Result, Ok, Err, OnErr}
 use Rattle.kube_watch.specs.Calls.{IsAskedOnce}
 use Rattle.kube_watch.specs.Configs.{settings_of}
-use Rattle.kube_watch.specs.States.{call_in}
 use Rattle.kube_watch.proofs.watching.make_exchange.Goals as goal
 
 -- what holds, holds if there is an error
