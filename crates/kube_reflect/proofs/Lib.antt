@@ -15,3 +15,4 @@ pub mod ListExchanges
 pub mod InitialExchanges
 pub mod LaterExchanges
 pub mod Exchanging
+pub mod Naming

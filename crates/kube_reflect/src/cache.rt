@@ -87,90 +87,6 @@ fn find_without_namespace<'a, K: Resource>(
     }
 }
 
-/// The first object that passes.
-fn find_passing<'a, K: Resource, P: Fn(&K) -> bool>(
-    items: &'a [Stored<K>],
-    p: &P,
-) -> Option<&'a Arc<K>>
-    requires { P.IsAlwaysCallable p.now }
-    ensures { IsFirst (FnReturnsAt P.Fn p.now) (map (λ s. arc_value s.object) items.now) (option_map arc_value (option_copied result)) }
-{
-    for stored in items {
-        if lets_pass(p, &*stored.object) {
-            return Some(&stored.object);
-        }
-    }
-    None
-}
-
-/// All objects.
-fn share_all<K: Resource>(alloc: Global, items: &[Stored<K>]) -> Result<Vec<Arc<K>>, NoMemory>
-    ensures { IfOk result (λ v. map arc_value v.items ≡ map (λ s. arc_value s.object) items.now) }
-{
-    let mut objects = Vec::new(alloc);
-    for stored in items {
-        objects.push(Arc::try_clone(&stored.object)?)?;
-    }
-    Ok(objects)
-}
-
-/// All references.
-fn copy_keys<K: Resource>(
-    alloc: Global,
-    items: &[Stored<K>],
-) -> Result<VecDeque<ObjectRef<K>>, NoMemory>
-    ensures { IfOk result (λ v. map (reference_of K.type_of) v.items ≡ map (λ s. reference_of K.type_of (arc_value s.reference)) items.now) }
-{
-    let mut keys = VecDeque::new(alloc);
-    for stored in items {
-        keys.push_back(stored.reference.copy(alloc)?)?;
-    }
-    Ok(keys)
-}
-
-/// All references, in a vector.
-fn list_keys<K: Resource>(alloc: Global, items: &[Stored<K>]) -> Result<Vec<ObjectRef<K>>, NoMemory>
-    ensures { IfOk result (λ v. map (reference_of K.type_of) v.items ≡ map (λ s. reference_of K.type_of (arc_value s.reference)) items.now) }
-{
-    let mut keys = Vec::new(alloc);
-    for stored in items {
-        keys.push(stored.reference.copy(alloc)?)?;
-    }
-    Ok(keys)
-}
-
-/// All of it once more, with the same references and objects.
-fn copy_all<K: Resource>(alloc: Global, items: &[Stored<K>]) -> Result<Vec<Stored<K>>, NoMemory>
-    ensures { IfOk result (λ v. all_stored K.type_of v.items ≡ all_stored K.type_of items.now) }
-{
-    let mut copies = Vec::new(alloc);
-    for stored in items {
-        copies.push(Stored {
-            reference: Arc::try_clone(&stored.reference)?,
-            object: Arc::try_clone(&stored.object)?,
-        })?;
-    }
-    Ok(copies)
-}
-
-/// The objects that pass.
-fn share_passing<K: Resource, P: Fn(&K) -> bool>(
-    alloc: Global,
-    items: &[Stored<K>],
-    p: &P,
-) -> Result<Vec<Arc<K>>, NoMemory>
-    requires { P.IsAlwaysCallable p.now }
-    ensures { IfOk result (λ v. IsFiltered (FnReturnsAt P.Fn p.now) (map (λ s. arc_value s.object) items.now) (map arc_value v.items)) }
-{
-    let mut objects = Vec::new(alloc);
-    for stored in items {
-        if lets_pass(p, &*stored.object) {
-            objects.push(Arc::try_clone(&stored.object)?)?;
-        }
-    }
-    Ok(objects)
-}
-
 /// Whether a selector holds of an object; `none` is the map without labels.
 fn is_selected<K: Resource>(selector: &Selector, object: &K, none: &TextMap) -> bool
     requires { none.now ≡ [] }
@@ -180,24 +96,6 @@ fn is_selected<K: Resource>(selector: &Selector, object: &K, none: &TextMap) -> 
         Some(labels) => selector.matches(labels),
         None => selector.matches(none),
     }
-}
-
-/// The objects of which a selector holds.
-fn share_selected<K: Resource>(
-    alloc: Global,
-    items: &[Stored<K>],
-    selector: &Selector,
-) -> Result<Vec<Arc<K>>, NoMemory>
-    ensures { IfOk result (λ v. map arc_value v.items ≡ filter (λ o. is_selected selector.now (K.meta_of o)) (map (λ s. arc_value s.object) items.now)) }
-{
-    let none = TextMap::new(alloc);
-    let mut objects = Vec::new(alloc);
-    for stored in items {
-        if is_selected(selector, &*stored.object, &none) {
-            objects.push(Arc::try_clone(&stored.object)?)?;
-        }
-    }
-    Ok(objects)
 }
 
 impl<K: Resource> Cache<K> {
@@ -234,7 +132,11 @@ impl<K: Resource> Cache<K> {
     pub(crate) fn queue_keys(&self, alloc: Global) -> Result<VecDeque<ObjectRef<K>>, NoMemory>
         ensures { IfOk result (λ v. map (reference_of K.type_of) v.items ≡ map (λ p. p.0) self.now) }
     {
-        copy_keys(alloc, &self.items)
+        let mut keys = VecDeque::new(alloc);
+        for stored in &self.items {
+            keys.push_back(stored.reference.copy(alloc)?)?;
+        }
+        Ok(keys)
     }
 
     /// The references under which objects are stored, in order.
@@ -245,16 +147,21 @@ impl<K: Resource> Cache<K> {
     pub fn keys(&self, alloc: Global) -> Result<Vec<ObjectRef<K>>, NoMemory>
         ensures { IfOk result (λ v. map (reference_of K.type_of) v.items ≡ map (λ p. p.0) self.now) }
     {
-        list_keys(alloc, &self.items)
+        Ok(Vec::from(self.queue_keys(alloc)?))
     }
 
     // Another one with the same references and objects.
     pub(crate) fn copy(&self, alloc: Global) -> Result<Cache<K>, NoMemory>
         ensures { IfOk result (λ c. c ≡ self.now) }
     {
-        Ok(Cache {
-            items: copy_all(alloc, &self.items)?,
-        })
+        let mut copies = Vec::new(alloc);
+        for stored in &self.items {
+            copies.push(Stored {
+                reference: Arc::try_clone(&stored.reference)?,
+                object: Arc::try_clone(&stored.object)?,
+            })?;
+        }
+        Ok(Cache { items: copies })
     }
 
     /// The object under a reference, or else under it without its namespace, as cluster-scoped objects are stored.
@@ -272,7 +179,12 @@ impl<K: Resource> Cache<K> {
         requires { P.IsAlwaysCallable p }
         ensures { IsFirst (FnReturnsAt P.Fn p) (objects self.now) (option_map arc_value (option_copied result)) }
     {
-        find_passing(&self.items, &p)
+        for stored in &self.items {
+            if lets_pass(&p, &*stored.object) {
+                return Some(&stored.object);
+            }
+        }
+        None
     }
 
     /// All objects, in order.
@@ -283,7 +195,11 @@ impl<K: Resource> Cache<K> {
     pub fn state(&self, alloc: Global) -> Result<Vec<Arc<K>>, NoMemory>
         ensures { IfOk result (λ v. map arc_value v.items ≡ objects self.now) }
     {
-        share_all(alloc, &self.items)
+        let mut objects = Vec::new(alloc);
+        for stored in &self.items {
+            objects.push(Arc::try_clone(&stored.object)?)?;
+        }
+        Ok(objects)
     }
 
     /// The objects that pass, in order.
@@ -299,7 +215,13 @@ impl<K: Resource> Cache<K> {
         requires { P.IsAlwaysCallable p }
         ensures { IfOk result (λ v. IsFiltered (FnReturnsAt P.Fn p) (objects self.now) (map arc_value v.items)) }
     {
-        share_passing(alloc, &self.items, &p)
+        let mut objects = Vec::new(alloc);
+        for stored in &self.items {
+            if lets_pass(&p, &*stored.object) {
+                objects.push(Arc::try_clone(&stored.object)?)?;
+            }
+        }
+        Ok(objects)
     }
 
     /// The objects whose labels a selector selects, in order. An object without labels has none of them.
@@ -314,7 +236,14 @@ impl<K: Resource> Cache<K> {
     ) -> Result<Vec<Arc<K>>, NoMemory>
         ensures { IfOk result (λ v. map arc_value v.items ≡ filter (λ o. is_selected selector.now (K.meta_of o)) (objects self.now)) }
     {
-        share_selected(alloc, &self.items, selector)
+        let none = TextMap::new(alloc);
+        let mut objects = Vec::new(alloc);
+        for stored in &self.items {
+            if is_selected(selector, &*stored.object, &none) {
+                objects.push(Arc::try_clone(&stored.object)?)?;
+            }
+        }
+        Ok(objects)
     }
 
     /// How many objects are stored.

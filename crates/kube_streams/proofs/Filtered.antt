@@ -1,9 +1,9 @@
 -- What the stream of a filter gave.
-use Rattle.std.proofs.Common.{◌≡◌, ◌≤◌, ℕ, Bool, true, false, cond, List, [], ◌∷◌, ◌++◌, map, Option, Some, None, Ok, Err, refl, sym, ap, ap₂, subst, ◌∙◌}
+use Rattle.std.proofs.Common.{◌≡◌, ℕ, Bool, List, [], ◌∷◌, ◌++◌, map, Option, None, Ok, Err, refl, sym, ap, ap₂, subst, ◌∙◌}
 use Rattle.kube_meta.specs.declared.metadata.ObjectMeta.{ObjectMeta}
 use Rattle.kube_meta.specs.declared.poll.Next.TheVariants.{Item, NotReady, Spent, End}
 use Rattle.kube_watch.specs.Streams.{Answer}
-use Rattle.kube_streams.specs.Adapts.{Told, Adapting, Adapted, Came, Gives, GivenSoFar, NeverFall, Polled}
+use Rattle.kube_streams.specs.Adapts.{Told, Adapting, Adapted, Came, Gives, NeverFall, Polled}
 use Rattle.kube_streams.specs.InOrder.{Answered, PolledInTurn}
 use Rattle.kube_streams.specs.Filters.{Filtering, Filtered, Judgement, JudgedInTurn, FilteredSoFar, objects_in, objects_of_all, through, let_through}
 use Rattle.kube_streams.proofs.Forgetting.{passed-without-forgetting}

@@ -2,7 +2,6 @@
 
 mod adapted;
 mod backoffs;
-mod cuts;
 mod filtered;
 mod pauses;
 mod predicates;

@@ -3,76 +3,82 @@
 ghost use Rattle.std.specs.Prelude.{◌≡◌};
 
 use crate::{DelayedInit, InitDropped, Initializer};
-use kube_meta::{NoMemory, Polled};
+use kube_meta::Polled;
+use std::alloc::Global;
 use std::process::Abort;
 use std::sync::Wait;
 use std::test::Fail;
 use std::thread;
 
-pub type Delayed = DelayedInit<u32>;
-
-/// A word for an answer.
-fn word(answer: &Polled<Result<u32, InitDropped>>) -> &str {
-    match answer {
-        Polled::NotReady => "not ready",
-        Polled::Ready(Err(InitDropped)) => "dropped",
-        Polled::Ready(Ok(1)) => "1",
-        Polled::Ready(Ok(_)) => "another value",
-    }
-}
+type Delayed = DelayedInit<u32>;
 
 /// Checks what a poll gives.
 fn check_poll<R: Abort + Wait>(rt: &R, delayed: &mut Delayed, wanted: &str)
     ensures { delayed.new.book ≡ delayed.old.book }
 {
-    let answer = delayed.poll_get(rt);
-    assert_eq!(rt; word(&answer), wanted);
+    let word = match delayed.poll_get(rt) {
+        Polled::NotReady => "not ready",
+        Polled::Ready(Err(InitDropped)) => "dropped",
+        Polled::Ready(Ok(1)) => "1",
+        Polled::Ready(Ok(_)) => "another value",
+    };
+    assert_eq!(rt; word, wanted);
 }
 
-#[test]
-fn a_value_that_was_set_stays(rt: HostRuntime) -> Result<(), Fail> {
-    let (initializer, mut delayed) = DelayedInit::new(rt.alloc())?;
-    check_poll(&rt, &mut delayed, "not ready");
-    initializer.init(&rt, 1);
-    check_poll(&rt, &mut delayed, "1");
-    check_poll(&rt, &mut delayed, "1");
+/// What comes of an initializer.
+enum How {
+    Value,
+    /// The value, whose note is learnt before a look.
+    Noted,
+    /// The value, whose note is learnt after a look.
+    NotedLate,
+    Abandoned,
+    Dropped,
+}
+
+fn set<R: Abort + Wait>(rt: &R, initializer: Initializer<u32>, delayed: &mut Delayed, how: &How)
+    requires { initializer.book ≡ delayed.old.book }
+{
+    match how {
+        How::Value => drop(initializer.init(rt, 1)),
+        How::Noted => {
+            let note = initializer.init(rt, 1);
+            delayed.learn(&note);
+            delayed.agrees(&note);
+        }
+        How::NotedLate => {
+            let note = initializer.init(rt, 1);
+            check_poll(rt, delayed, "1");
+            delayed.learn(&note);
+        }
+        How::Abandoned => drop(initializer.abandon(rt)),
+        How::Dropped => drop(initializer),
+    }
+}
+
+/// What polls give after it.
+const ROWS: &[(How, &str)] = &[
+    (How::Value, "1"),
+    (How::Noted, "1"),
+    (How::NotedLate, "1"),
+    (How::Abandoned, "dropped"),
+    (How::Dropped, "not ready"),
+];
+
+fn check_row<R: Abort + Wait>(rt: &R, alloc: Global, how: &How, wanted: &str) -> Result<(), Fail> {
+    let (initializer, mut delayed) = DelayedInit::new(alloc)?;
+    check_poll(rt, &mut delayed, "not ready");
+    set(rt, initializer, &mut delayed, how);
+    check_poll(rt, &mut delayed, wanted);
+    check_poll(rt, &mut delayed, wanted);
     Ok(())
 }
 
 #[test]
-fn no_value_follows_where_it_was_abandoned(rt: HostRuntime) -> Result<(), Fail> {
-    let (initializer, mut delayed): (Initializer<u32>, Delayed) = DelayedInit::new(rt.alloc())?;
-    initializer.abandon(&rt);
-    check_poll(&rt, &mut delayed, "dropped");
-    check_poll(&rt, &mut delayed, "dropped");
-    Ok(())
-}
-
-#[test]
-fn a_note_tells_the_outcome(rt: HostRuntime) -> Result<(), Fail> {
-    let (initializer, mut delayed) = DelayedInit::new(rt.alloc())?;
-    let note = initializer.init(&rt, 1);
-    delayed.learn(&note);
-    delayed.agrees(&note);
-    check_poll(&rt, &mut delayed, "1");
-    Ok(())
-}
-
-#[test]
-fn what_is_known_stays(rt: HostRuntime) -> Result<(), Fail> {
-    let (initializer, mut delayed) = DelayedInit::new(rt.alloc())?;
-    let note = initializer.init(&rt, 1);
-    check_poll(&rt, &mut delayed, "1");
-    delayed.learn(&note);
-    check_poll(&rt, &mut delayed, "1");
-    Ok(())
-}
-
-#[test]
-fn an_initializer_that_is_dropped_sets_nothing(rt: HostRuntime) -> Result<(), Fail> {
-    let (initializer, mut delayed): (Initializer<u32>, Delayed) = DelayedInit::new(rt.alloc())?;
-    drop(initializer);
-    check_poll(&rt, &mut delayed, "not ready");
+fn what_was_set_stays(rt: HostRuntime) -> Result<(), Fail> {
+    for (how, wanted) in ROWS {
+        check_row(&rt, rt.alloc(), how, wanted)?;
+    }
     Ok(())
 }
 
@@ -97,16 +103,5 @@ fn one_thread_sets_what_another_sees(rt: HostRuntime) -> Result<(), Fail> {
         move || poll_for(shared, delayed, 1000),
     );
     check_poll(&rt, &mut delayed, "1");
-    Ok(())
-}
-
-#[test]
-fn the_error_is_shown(rt: HostRuntime) -> Result<(), Fail> {
-    let dropped = InitDropped;
-    let shown = format!(in rt.alloc(); "{dropped}")?;
-    assert_eq!(rt;
-        shown.as_str(),
-        "initializer was dropped before value was initialized"
-    );
     Ok(())
 }

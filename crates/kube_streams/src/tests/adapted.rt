@@ -1,164 +1,253 @@
 //! What adaptors give of a stream's answers.
 
-use super::scripted::{Poll, Said, Scripted, check};
+use super::scripted::Polls::{Each, Fueled};
+use super::scripted::Said::{Apply, Delete, Error, Init, InitApply, InitDone, NotReady};
+use super::scripted::{Poll, Polls, Said, check, numbers};
 use crate::WatchStreamExt;
 use std::test::Fail;
 
-const CHANGES: [Said; 8] = [
-    Said::Apply(0),
-    Said::Apply(1),
-    Said::Delete(0),
-    Said::Apply(2),
-    Said::InitApply(1),
-    Said::InitApply(2),
-    Said::Error,
-    Said::Apply(2),
+/// What a stream answers, and how an adaptor of it is polled.
+type Row = (&'static [Said], Polls);
+
+const CHANGES: &[Said] = &[
+    Apply(0),
+    Apply(1),
+    Delete(0),
+    Apply(2),
+    InitApply(1),
+    InitApply(2),
+    Error,
+    Apply(2),
+];
+
+pub const EIGHT: &[Said] = &[
+    Init,
+    InitApply(1),
+    NotReady,
+    Error,
+    Delete(2),
+    InitApply(3),
+    InitDone,
+    Apply(4),
+];
+
+const APPLIED: &[Row] = &[
+    (
+        CHANGES,
+        Each(&[
+            Poll(0, 9, "0"),
+            Poll(0, 9, "1"),
+            Poll(0, 9, "2"),
+            Poll(0, 9, "1"),
+            Poll(0, 9, "2"),
+            Poll(0, 9, "error"),
+            Poll(0, 9, "2"),
+            Poll(0, 9, "end"),
+        ]),
+    ),
+    // Events without an object spend the fuel.
+    (
+        &[Init, InitDone, Apply(1)],
+        Each(&[Poll(0, 2, "spent"), Poll(0, 2, "1")]),
+    ),
+    (
+        EIGHT,
+        Fueled(
+            1,
+            &[
+                "spent",
+                "1",
+                "not ready",
+                "error",
+                "spent",
+                "3",
+                "spent",
+                "4",
+                "end",
+            ],
+        ),
+    ),
+    (
+        EIGHT,
+        Fueled(2, &["1", "not ready", "error", "3", "4", "end"]),
+    ),
+    (
+        EIGHT,
+        Fueled(3, &["1", "not ready", "error", "3", "4", "end"]),
+    ),
 ];
 
 #[test]
 fn applied_objects_are_given(rt: HostRuntime) -> Result<(), Fail> {
     let alloc = rt.alloc();
-    let mut objects = Scripted::new(&CHANGES).applied_objects(alloc);
-    check(
-        &rt,
-        alloc,
-        &mut objects,
-        &[
+    for (answers, polls) in APPLIED {
+        let mut objects = numbers(alloc, answers)?.applied_objects(alloc);
+        check(&rt, alloc, &mut objects, polls)?;
+    }
+    Ok(())
+}
+
+const TOUCHED: &[Row] = &[
+    (
+        CHANGES,
+        Each(&[
             Poll(0, 9, "0"),
             Poll(0, 9, "1"),
+            Poll(0, 9, "0"),
             Poll(0, 9, "2"),
-            Poll(0, 9, "1"),
-            Poll(0, 9, "2"),
-            Poll(0, 9, "error"),
-            Poll(0, 9, "2"),
-            Poll(0, 9, "end"),
-        ],
-    )
-}
+        ]),
+    ),
+    (
+        EIGHT,
+        Fueled(
+            1,
+            &[
+                "spent",
+                "1",
+                "not ready",
+                "error",
+                "2",
+                "3",
+                "spent",
+                "4",
+                "end",
+            ],
+        ),
+    ),
+    (
+        EIGHT,
+        Fueled(2, &["1", "not ready", "error", "2", "3", "4", "end"]),
+    ),
+    (
+        EIGHT,
+        Fueled(3, &["1", "not ready", "error", "2", "3", "4", "end"]),
+    ),
+];
 
 #[test]
 fn touched_objects_are_given(rt: HostRuntime) -> Result<(), Fail> {
     let alloc = rt.alloc();
-    let mut objects = Scripted::new(&CHANGES).touched_objects(alloc);
-    check(
-        &rt,
-        alloc,
-        &mut objects,
-        &[
-            Poll(0, 9, "0"),
-            Poll(0, 9, "1"),
-            Poll(0, 9, "0"),
-            Poll(0, 9, "2"),
-        ],
-    )
+    for (answers, polls) in TOUCHED {
+        let mut objects = numbers(alloc, answers)?.touched_objects(alloc);
+        check(&rt, alloc, &mut objects, polls)?;
+    }
+    Ok(())
 }
 
-#[test]
-fn events_without_an_object_spend_the_fuel(rt: HostRuntime) -> Result<(), Fail> {
-    let alloc = rt.alloc();
-    let mut objects = Scripted::new(&[Said::Init, Said::InitDone, Said::Apply(1)]).applied_objects(
-        alloc,
-    );
-    check(
-        &rt,
-        alloc,
-        &mut objects,
-        &[Poll(0, 2, "spent"), Poll(0, 2, "1")],
-    )
-}
-
-#[test]
-fn a_list_is_given_at_its_end(rt: HostRuntime) -> Result<(), Fail> {
-    let alloc = rt.alloc();
-    let mut objects = Scripted::new(&[
-        Said::Init,
-        Said::InitApply(1),
-        Said::InitApply(2),
-        Said::InitDone,
-        Said::Apply(3),
-    ])
-    .settled_objects(alloc);
-    check(
-        &rt,
-        alloc,
-        &mut objects,
-        &[
+const SETTLED: &[Row] = &[
+    // A list is given at its end.
+    (
+        &[Init, InitApply(1), InitApply(2), InitDone, Apply(3)],
+        Each(&[
             Poll(0, 3, "spent"),
             Poll(0, 1, "1"),
             Poll(0, 1, "2"),
             Poll(0, 1, "3"),
             Poll(0, 1, "end"),
-        ],
-    )
-}
-
-#[test]
-fn what_an_interrupted_list_gave_is_dropped(rt: HostRuntime) -> Result<(), Fail> {
-    let alloc = rt.alloc();
-    let mut objects = Scripted::new(&[
-        Said::Init,
-        Said::InitApply(1),
-        Said::Error,
-        Said::Init,
-        Said::InitApply(2),
-        Said::InitDone,
-    ])
-    .settled_objects(alloc);
-    check(
-        &rt,
-        alloc,
-        &mut objects,
-        &[Poll(0, 9, "error"), Poll(0, 9, "2"), Poll(0, 9, "end")],
-    )
-}
-
-#[test]
-fn a_list_goes_on_after_an_error(rt: HostRuntime) -> Result<(), Fail> {
-    let alloc = rt.alloc();
-    let mut objects = Scripted::new(&[
-        Said::Init,
-        Said::InitApply(1),
-        Said::Error,
-        Said::NotReady,
-        Said::Delete(3),
-        Said::InitApply(2),
-        Said::InitDone,
-    ])
-    .settled_objects(alloc);
-    check(
-        &rt,
-        alloc,
-        &mut objects,
+        ]),
+    ),
+    // What an interrupted list gave is dropped.
+    (
+        &[Init, InitApply(1), Error, Init, InitApply(2), InitDone],
+        Each(&[Poll(0, 9, "error"), Poll(0, 9, "2"), Poll(0, 9, "end")]),
+    ),
+    // A list goes on after an error.
+    (
         &[
+            Init,
+            InitApply(1),
+            Error,
+            NotReady,
+            Delete(3),
+            InitApply(2),
+            InitDone,
+        ],
+        Each(&[
             Poll(0, 9, "error"),
             Poll(0, 9, "not ready"),
             Poll(0, 9, "1"),
             Poll(0, 9, "2"),
             Poll(0, 9, "end"),
-        ],
-    )
-}
+        ]),
+    ),
+    (
+        EIGHT,
+        Fueled(
+            1,
+            &[
+                "spent",
+                "spent",
+                "not ready",
+                "error",
+                "spent",
+                "spent",
+                "1",
+                "3",
+                "4",
+                "end",
+            ],
+        ),
+    ),
+    (
+        EIGHT,
+        Fueled(
+            2,
+            &["spent", "not ready", "error", "spent", "1", "3", "4", "end"],
+        ),
+    ),
+    (
+        EIGHT,
+        Fueled(3, &["not ready", "error", "1", "3", "4", "end"]),
+    ),
+];
 
 #[test]
-fn objects_are_changed(rt: HostRuntime) -> Result<(), Fail> {
+fn settled_objects_are_given(rt: HostRuntime) -> Result<(), Fail> {
     let alloc = rt.alloc();
-    let mut events = Scripted::new(&[
-        Said::Apply(0),
-        Said::Error,
-        Said::InitApply(10),
-        Said::InitDone,
-    ])
-    .modify(|object| *object = object.saturating_add(1));
-    check(
-        &rt,
-        alloc,
-        &mut events,
-        &[
+    for (answers, polls) in SETTLED {
+        let mut objects = numbers(alloc, answers)?.settled_objects(alloc);
+        check(&rt, alloc, &mut objects, polls)?;
+    }
+    Ok(())
+}
+
+/// Each answer of the stream is one of the adaptor, whatever the fuel.
+const EIGHT_CHANGED: &[&str] = &[
+    "Init",
+    "InitApply 2",
+    "not ready",
+    "error",
+    "Delete 3",
+    "InitApply 4",
+    "InitDone",
+    "Apply 5",
+    "end",
+];
+
+const CHANGED: &[Row] = &[
+    (
+        &[Apply(0), Error, InitApply(10), InitDone],
+        Each(&[
             Poll(0, 9, "Apply 1"),
             Poll(0, 9, "error"),
             Poll(0, 9, "InitApply 11"),
             Poll(0, 9, "InitDone"),
             Poll(0, 9, "end"),
-        ],
-    )
+        ]),
+    ),
+    (EIGHT, Fueled(1, EIGHT_CHANGED)),
+    (EIGHT, Fueled(2, EIGHT_CHANGED)),
+    (EIGHT, Fueled(3, EIGHT_CHANGED)),
+];
+
+#[test]
+fn changed_events_are_given(rt: HostRuntime) -> Result<(), Fail> {
+    let alloc = rt.alloc();
+    for (answers, polls) in CHANGED {
+        let mut events = numbers(alloc, answers)?.modify(|object| {
+            *object = object.saturating_add(1)
+        });
+        check(&rt, alloc, &mut events, polls)?;
+    }
+    Ok(())
 }

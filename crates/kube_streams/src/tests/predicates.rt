@@ -26,105 +26,111 @@ fn texts(alloc: Global, first: &str, second: &str) -> Result<List<Text>, NoMemor
 
 /// An object that has all properties.
 fn full(alloc: Global) -> Result<DynamicObject, NoMemory> {
-    let mut metadata = ObjectMeta::empty();
-    metadata.resource_version = Some(Text::new(alloc, "12")?);
-    metadata.labels = Some(map(alloc, "app", "web", "tier")?);
-    metadata.annotations = Some(map(alloc, "note", "x", "")?);
-    metadata.finalizers = Some(texts(alloc, "a/b", "c")?);
-    metadata.generation = Some(7);
+    let metadata = ObjectMeta {
+        resource_version: Some(Text::new(alloc, "12")?),
+        labels: Some(map(alloc, "app", "web", "tier")?),
+        annotations: Some(map(alloc, "note", "x", "")?),
+        finalizers: Some(texts(alloc, "a/b", "c")?),
+        generation: Some(7),
+        ..ObjectMeta::empty()
+    };
     Ok(DynamicObject::bare(metadata))
 }
 
 /// An object with a generation or without, that has no other property.
 fn bare(generation: Option<i64>) -> DynamicObject {
-    let mut metadata = ObjectMeta::empty();
-    metadata.generation = generation;
-    DynamicObject::bare(metadata)
+    DynamicObject::bare(ObjectMeta {
+        generation,
+        ..ObjectMeta::empty()
+    })
 }
 
-fn check_full(rt: &impl Abort, object: &DynamicObject) -> Result<(), Fail> {
-    assert_eq!(rt; generation(object), Some(3719803776375581067));
-    assert_eq!(rt; resource_version(object), Some(6559768642691309808));
-    assert_eq!(rt; labels(object), Some(14440557738715755993));
-    assert_eq!(rt; annotations(object), Some(9293253282460112337));
-    assert_eq!(rt; finalizers(object), Some(17258855008697999997));
-    Ok(())
+/// What is asked of an object.
+enum Ask {
+    Generation,
+    Version,
+    Labels,
+    Annotations,
+    Finalizers,
+    /// The values of its generation and its version, combined.
+    Both,
+    /// The value of its version, or else of its generation.
+    Either,
+}
+
+fn both(object: &DynamicObject) -> Option<u64> {
+    FnPredicate(generation::<DynamicObject>)
+        .combine(FnPredicate(resource_version::<DynamicObject>))
+        .hash_property(object)
+}
+
+fn either(object: &DynamicObject) -> Option<u64> {
+    FnPredicate(resource_version::<DynamicObject>)
+        .fallback(FnPredicate(generation::<DynamicObject>))
+        .hash_property(object)
+}
+
+fn value(object: &DynamicObject, ask: &Ask) -> Option<u64> {
+    match ask {
+        Ask::Generation => generation(object),
+        Ask::Version => resource_version(object),
+        Ask::Labels => labels(object),
+        Ask::Annotations => annotations(object),
+        Ask::Finalizers => finalizers(object),
+        Ask::Both => both(object),
+        Ask::Either => either(object),
+    }
+}
+
+fn check(rt: &impl Abort, object: &DynamicObject, values: &[(Ask, Option<u64>)]) {
+    for (place, (ask, wanted)) in values.iter().enumerate() {
+        assert_eq!(rt; value(object, ask), *wanted, "value {place}");
+    }
 }
 
 #[test]
 fn each_property_has_its_value(rt: HostRuntime) -> Result<(), Fail> {
     let object = full(rt.alloc())?;
-    check_full(&rt, &object)
-}
-
-fn check_bare(rt: &impl Abort, object: &DynamicObject) -> Result<(), Fail> {
-    assert_eq!(rt; generation(object), Some(7520123224966509604));
-    assert_eq!(rt; resource_version(object), None);
-    assert_eq!(rt; labels(object), Some(8750168172674097106));
-    assert_eq!(rt; finalizers(object), Some(356021204681317216));
+    check(
+        &rt,
+        &object,
+        &[
+            (Ask::Generation, Some(3719803776375581067)),
+            (Ask::Version, Some(6559768642691309808)),
+            (Ask::Labels, Some(14440557738715755993)),
+            (Ask::Annotations, Some(9293253282460112337)),
+            (Ask::Finalizers, Some(17258855008697999997)),
+            (Ask::Both, Some(13477763842899525787)),
+            // The first goes before the second.
+            (Ask::Either, Some(6559768642691309808)),
+        ],
+    );
     Ok(())
 }
 
 #[test]
-fn absent_maps_and_lists_count_as_empty(rt: HostRuntime) -> Result<(), Fail> {
-    let object = bare(Some(-1));
-    check_bare(&rt, &object)
-}
-
-/// What the predicate gives of the object.
-fn check<P: Predicate<DynamicObject>>(
-    rt: &impl Abort,
-    predicate: &P,
-    object: &DynamicObject,
-    wanted: Option<u64>,
-) -> Result<(), Fail>
-    requires { P.may predicate.now object.now }
-{
-    assert_eq!(rt; predicate.hash_property(object), wanted);
-    Ok(())
+fn absent_maps_and_lists_count_as_empty(rt: HostRuntime) {
+    check(
+        &rt,
+        &bare(Some(-1)),
+        &[
+            (Ask::Generation, Some(7520123224966509604)),
+            (Ask::Version, None),
+            (Ask::Labels, Some(8750168172674097106)),
+            (Ask::Finalizers, Some(356021204681317216)),
+        ],
+    );
 }
 
 #[test]
-fn both_values_are_combined(rt: HostRuntime) -> Result<(), Fail> {
-    let object = full(rt.alloc())?;
-    let both = FnPredicate(generation::<DynamicObject>).combine(FnPredicate(
-        resource_version::<DynamicObject>,
-    ));
-    check(&rt, &both, &object, Some(13477763842899525787))
-}
-
-#[test]
-fn one_value_is_combined_with_none(rt: HostRuntime) -> Result<(), Fail> {
-    let object = bare(Some(7));
-    let both = FnPredicate(generation::<DynamicObject>).combine(FnPredicate(
-        resource_version::<DynamicObject>,
-    ));
-    check(&rt, &both, &object, Some(18404737571765746040))
-}
-
-#[test]
-fn none_combined_with_none_is_none(rt: HostRuntime) -> Result<(), Fail> {
-    let object = bare(None);
-    let both = FnPredicate(generation::<DynamicObject>).combine(FnPredicate(
-        resource_version::<DynamicObject>,
-    ));
-    check(&rt, &both, &object, None)
-}
-
-#[test]
-fn the_second_is_asked_where_the_first_gives_none(rt: HostRuntime) -> Result<(), Fail> {
-    let object = bare(Some(7));
-    let either = FnPredicate(resource_version::<DynamicObject>).fallback(FnPredicate(
-        generation::<DynamicObject>,
-    ));
-    check(&rt, &either, &object, Some(3719803776375581067))
-}
-
-#[test]
-fn the_first_goes_before_the_second(rt: HostRuntime) -> Result<(), Fail> {
-    let object = full(rt.alloc())?;
-    let either = FnPredicate(resource_version::<DynamicObject>).fallback(FnPredicate(
-        generation::<DynamicObject>,
-    ));
-    check(&rt, &either, &object, Some(6559768642691309808))
+fn none_counts_where_the_other_has_a_value(rt: HostRuntime) {
+    check(
+        &rt,
+        &bare(Some(7)),
+        &[
+            (Ask::Both, Some(18404737571765746040)),
+            (Ask::Either, Some(3719803776375581067)),
+        ],
+    );
+    check(&rt, &bare(None), &[(Ask::Both, None)]);
 }

@@ -1,101 +1,16 @@
 //! Events that are applied to a writer, closures at the end, and results apart from errors.
 
-ghost use Rattle.std.specs.Prelude.{◌≤◌};
-
-use super::cuts::{EIGHT, check_fuel};
-use super::scripted::{Poll, Readable, Said, Scripted, check};
+use super::adapted::EIGHT;
+use super::scripted::Polls::{Each, Fueled};
+use super::scripted::Said::{Apply, End, Error, Init, InitApply, InitDone};
+use super::scripted::{Poll, Polls, Said, check, numbers, objects};
 use crate::{EventStream, StreamFault, WatchStreamExt, on_complete, split_result};
-use kube_meta::{ApiResource, DynamicObject, Moment, Next, NoMemory, ObjectMeta, Text};
+use kube_meta::{ApiResource, DynamicObject, Moment, NoMemory, Text};
 use kube_reflect::Writer;
-use kube_watch::stream::fault_of;
-use kube_watch::{Error, Event};
-use std::alloc::{AllocError, Global};
+use std::alloc::Global;
 use std::process::Abort;
 use std::sync::Arc;
 use std::test::Fail;
-
-type Object = Arc<DynamicObject>;
-
-/// Gives an object for each number: one of no name for 0, else of the number as its name.
-#[derive(Drop)]
-struct Objects {
-    script: Scripted,
-    fault: Option<StreamFault>,
-}
-
-fn naming(answers: &'static [Said]) -> Objects {
-    Objects {
-        script: Scripted::new(answers),
-        fault: None,
-    }
-}
-
-fn object(alloc: Global, number: u32) -> Result<Object, NoMemory> {
-    let mut metadata = ObjectMeta::empty();
-    if number != 0 {
-        metadata.name = Some(Text::from(format!(in alloc; "{number}")?));
-    }
-    Ok(Arc::new(alloc, DynamicObject::bare(metadata))?)
-}
-
-fn event(alloc: Global, event: Event<u32>) -> Result<Event<Object>, NoMemory> {
-    Ok(match event {
-        Event::Apply(number) => Event::Apply(object(alloc, number)?),
-        Event::Delete(number) => Event::Delete(object(alloc, number)?),
-        Event::Init => Event::Init,
-        Event::InitApply(number) => Event::InitApply(object(alloc, number)?),
-        Event::InitDone => Event::InitDone,
-    })
-}
-
-impl Objects {
-    fn give(
-        &mut self,
-        alloc: Global,
-        now: Moment,
-        fuel: u32,
-    ) -> Result<Next<Result<Event<Object>, Error>>, StreamFault>
-        requires { 1 ≤ fuel }
-    {
-        Ok(match self.script.poll_next(alloc, now, fuel)? {
-            Next::Item(Ok(told)) => Next::Item(Ok(event(alloc, told)?)),
-            Next::Item(Err(error)) => Next::Item(Err(error)),
-            Next::NotReady => Next::NotReady,
-            Next::Spent => Next::Spent,
-            Next::End => Next::End,
-        })
-    }
-}
-
-impl EventStream for Objects {
-    ghost use Rattle.std.specs.Prelude.{None};
-
-    type Item = Event<Object>;
-
-    ghost told = { λ _. None };
-
-    ghost fault = { λ o. o.fault };
-
-    fn poll_next(
-        &mut self,
-        alloc: Global,
-        now: Moment,
-        fuel: u32,
-    ) -> Result<Next<Result<Event<Object>, Error>>, StreamFault> {
-        if let Some(fault) = self.fault {
-            return Err(fault);
-        }
-        let answer = self.give(alloc, now, fuel);
-        self.fault = fault_of(&answer);
-        answer
-    }
-}
-
-impl Readable for Event<Object> {
-    fn read_out(&self, alloc: Global) -> Result<String, AllocError> {
-        format!(in alloc; "{self}")
-    }
-}
 
 fn config_maps(alloc: Global) -> Result<Arc<ApiResource>, NoMemory> {
     let kind = ApiResource {
@@ -108,31 +23,28 @@ fn config_maps(alloc: Global) -> Result<Arc<ApiResource>, NoMemory> {
     Ok(Arc::new(alloc, kind)?)
 }
 
-fn writer(alloc: Global) -> Result<Writer<DynamicObject>, Fail> {
-    Ok(Writer::new(alloc, config_maps(alloc)?, 1)?)
+fn writer(alloc: Global) -> Result<Writer<DynamicObject>, NoMemory> {
+    Writer::new(alloc, config_maps(alloc)?, 1)
 }
 
-const SAID: [Said; 6] = [
-    Said::Apply(1),
-    Said::Error,
-    Said::Init,
-    Said::InitApply(1),
-    Said::InitApply(2),
-    Said::InitDone,
+const SAID: &[Said] = &[Apply(1), Error, Init, InitApply(1), InitApply(2), InitDone];
+
+const EVENTS: &[&str] = &[
+    "Init",
+    "InitApply(1)",
+    "not ready",
+    "error",
+    "Delete(2)",
+    "InitApply(3)",
+    "InitDone",
+    "Apply(4)",
+    "end",
 ];
 
-const EVENTS: &str =
-    "Init;InitApply(1);not ready;error;Delete(2);InitApply(3);InitDone;Apply(4);end;";
-
-#[test]
-fn all_events_are_given(rt: HostRuntime) -> Result<(), Fail> {
-    let alloc = rt.alloc();
-    let mut events = naming(&SAID).reflect(writer(alloc)?);
-    check(
-        &rt,
-        alloc,
-        &mut events,
-        &[
+const ROWS: &[(&[Said], Polls)] = &[
+    (
+        SAID,
+        Each(&[
             Poll(0, 9, "Apply(1)"),
             Poll(0, 9, "error"),
             Poll(0, 9, "Init"),
@@ -140,40 +52,38 @@ fn all_events_are_given(rt: HostRuntime) -> Result<(), Fail> {
             Poll(0, 9, "InitApply(2)"),
             Poll(0, 9, "InitDone"),
             Poll(0, 9, "end"),
-        ],
-    )
-}
+        ]),
+    ),
+    (EIGHT, Fueled(1, EVENTS)),
+    (EIGHT, Fueled(2, EVENTS)),
+    (EIGHT, Fueled(3, EVENTS)),
+];
 
 #[test]
-fn applied_events_of_any_cut(rt: HostRuntime) -> Result<(), Fail> {
+fn applied_events_are_given(rt: HostRuntime) -> Result<(), Fail> {
     let alloc = rt.alloc();
-    for index in 0..3 {
-        let mut events = naming(&EIGHT).reflect(writer(alloc)?);
-        check_fuel(&rt, alloc, &mut events, index, [EVENTS, EVENTS, EVENTS])?;
+    for (answers, polls) in ROWS {
+        let stream = objects(alloc, answers)?;
+        let mut events = stream.reflect(writer(alloc)?);
+        check(&rt, alloc, &mut events, polls)?;
     }
     Ok(())
 }
 
-fn poll_once<S: EventStream>(alloc: Global, stream: &mut S) -> Result<(), Fail>
+fn poll_all<S: EventStream>(alloc: Global, stream: &mut S, polls: usize) -> Result<(), StreamFault>
     requires may { S.can_poll stream.old }
     ensures may { S.can_poll stream.new }
 {
-    let _answer = stream.poll_next(alloc, Moment(0), 9)?;
-    Ok(())
-}
-
-fn poll_all<S: EventStream>(alloc: Global, stream: &mut S, polls: usize) -> Result<(), Fail>
-    requires { S.can_poll stream.old }
-{
     for _poll in 0..polls {
-        poll_once(alloc, stream)?;
+        stream.poll_next(alloc, Moment(0), 9)?;
     }
     Ok(())
 }
 
 /// After so many polls so many objects are stored.
 fn check_stored(rt: &impl Abort, alloc: Global, polls: usize, stored: usize) -> Result<(), Fail> {
-    let mut events = naming(&SAID).reflect(writer(alloc)?);
+    let stream = objects(alloc, SAID)?;
+    let mut events = stream.reflect(writer(alloc)?);
     poll_all(alloc, &mut events, polls)?;
     assert_eq!(rt; events.writer().cache().len(), stored);
     assert_eq!(rt; events.into_writer().is_ready(), stored == 2);
@@ -182,47 +92,74 @@ fn check_stored(rt: &impl Abort, alloc: Global, polls: usize, stored: usize) -> 
 
 #[test]
 fn each_event_is_applied_before_it_is_given(rt: HostRuntime) -> Result<(), Fail> {
-    let alloc = rt.alloc();
     for polls in 1..6 {
-        check_stored(&rt, alloc, polls, 1)?;
+        check_stored(&rt, rt.alloc(), polls, 1)?;
     }
-    check_stored(&rt, alloc, 6, 2)
-}
-
-fn check_unnamed<S: EventStream>(rt: &impl Abort, alloc: Global, stream: &mut S) -> Result<(), Fail>
-    requires may { S.can_poll stream.old }
-    ensures may { S.can_poll stream.new }
-{
-    match stream.poll_next(alloc, Moment(0), 9) {
-        Err(StreamFault::Unnamed) => {}
-        _ => assert!(rt; false),
-    }
-    Ok(())
+    check_stored(&rt, rt.alloc(), 6, 2)
 }
 
 #[test]
 fn an_object_without_a_name_ends_it(rt: HostRuntime) -> Result<(), Fail> {
     let alloc = rt.alloc();
-    let mut events = naming(&[Said::Apply(0), Said::Apply(1)]).reflect(writer(alloc)?);
-    check_unnamed(&rt, alloc, &mut events)?;
-    check_unnamed(&rt, alloc, &mut events)
+    let stream = objects(alloc, &[Apply(0), Apply(1)])?;
+    let mut events = stream.reflect(writer(alloc)?);
+    for _poll in 0..2 {
+        let polled = poll_all(alloc, &mut events, 1);
+        assert_eq!(&rt; polled, Err(StreamFault::Unnamed));
+    }
+    Ok(())
 }
 
 #[test]
 fn subscribers_can_be_shared(rt: HostRuntime) -> Result<(), Fail> {
     let alloc = rt.alloc();
+    let stream = objects(alloc, SAID)?;
     let shared = Writer::new_shared(alloc, 10, config_maps(alloc)?, 1)?;
-    let mut events = naming(&SAID).reflect_shared(shared);
+    let mut events = stream.reflect_shared(shared);
     check(
         &rt,
         alloc,
         &mut events,
-        &[
+        &Each(&[
             Poll(0, 9, "Apply(1)"),
             Poll(0, 9, "error"),
             Poll(0, 9, "Init"),
-        ],
+        ]),
     )
+}
+
+/// Each answer of the stream is one of the adaptor, whatever the fuel.
+const UNCHANGED: &[&str] = &[
+    "Init",
+    "InitApply 1",
+    "not ready",
+    "error",
+    "Delete 2",
+    "InitApply 3",
+    "InitDone",
+    "Apply 4",
+    "end",
+];
+
+const COMPLETED: &[(&[Said], Polls)] = &[
+    (EIGHT, Fueled(1, UNCHANGED)),
+    (EIGHT, Fueled(2, UNCHANGED)),
+    (EIGHT, Fueled(3, UNCHANGED)),
+    // After the end only the end comes.
+    (
+        &[Init, End, Apply(1)],
+        Each(&[Poll(0, 9, "Init"), Poll(0, 9, "end"), Poll(0, 9, "end")]),
+    ),
+];
+
+#[test]
+fn events_come_up_to_the_end(rt: HostRuntime) -> Result<(), Fail> {
+    let alloc = rt.alloc();
+    for (answers, polls) in COMPLETED {
+        let mut events = on_complete(numbers(alloc, answers)?, || {});
+        check(&rt, alloc, &mut events, polls)?;
+    }
+    Ok(())
 }
 
 #[test]
@@ -230,7 +167,7 @@ fn the_end_calls_once(rt: HostRuntime) -> Result<(), Fail> {
     let alloc = rt.alloc();
     let mut called = 0u32;
     let mut events = on_complete(
-        Scripted::new(&[Said::Init]),
+        numbers(alloc, &[Init])?,
         || called = called.saturating_add(1),
     );
     poll_all(alloc, &mut events, 4)?;
@@ -239,28 +176,14 @@ fn the_end_calls_once(rt: HostRuntime) -> Result<(), Fail> {
     Ok(())
 }
 
-#[test]
-fn after_the_end_only_the_end_comes(rt: HostRuntime) -> Result<(), Fail> {
-    let mut events = on_complete(
-        Scripted::new(&[Said::Init, Said::End, Said::Apply(1)]),
-        || {},
-    );
-    check(
-        &rt,
-        rt.alloc(),
-        &mut events,
-        &[Poll(0, 9, "Init"), Poll(0, 9, "end"), Poll(0, 9, "end")],
-    )
+fn results(alloc: Global) -> Result<Vec<Result<u32, u32>>, Fail> {
+    Ok(vec![in alloc; Ok(1), Err(2), Ok(3)]?)
 }
 
 #[test]
 fn results_are_taken_apart(rt: HostRuntime) -> Result<(), Fail> {
     let alloc = rt.alloc();
-    let mut all: Vec<Result<u32, u32>> = Vec::new(alloc);
-    all.push(Ok(1))?;
-    all.push(Err(2))?;
-    all.push(Ok(3))?;
-    let (items, errors) = split_result(alloc, all)?;
+    let (items, errors) = split_result(alloc, results(alloc)?)?;
     assert_eq!(rt; items.as_slice(), [1, 3].as_slice());
     assert_eq!(rt; errors.as_slice(), [2].as_slice());
     Ok(())

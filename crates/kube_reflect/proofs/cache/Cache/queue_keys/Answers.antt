@@ -1,5 +1,5 @@
-use Rattle.std.proofs.Common.{ap, ◌∙◌, map}
-use Rattle.std.proofs.lemmas.Result.{IfOk-weaker}
+use Rattle.std.proofs.Common.{arith, ap, ◌∙◌, map}
+use Rattle.std.proofs.lemmas.List.{take_all}
 use Rattle.std.specs.Arc.{arc_value}
 use Rattle.kube_meta.specs.Keys.{reference_of}
 use Rattle.kube_reflect.specs.Views.{stored_of}
@@ -9,7 +9,7 @@ use Rattle.kube_reflect.proofs.cache.Cache.queue_keys.Goals as goal
 pub returns : goal.returns
 returns g c =
     let seen = stored_of g.K.Resource.type_of in
-    IfOk-weaker c.copy_keys.result _ _
-    (λ v e. e ∙ (ap (map (λ s. reference_of g.K.Resource.type_of (arc_value s.reference))) c.deref.ensures.value
-    ∙ (references-seen seen c.self.inside.items.items ∙ ap (map (λ p. p.0)) c.self.view_is)))
-    c.copy_keys.ensures
+    let items = c.deref-stored-items.result.now in
+    c.loop-stored.invariant
+    ∙ (ap (map (λ s. reference_of g.K.Resource.type_of (arc_value s.reference))) (take_all c.loop-stored.stored-index items (omega arith))
+    ∙ (references-seen seen items ∙ ap (map (λ p. p.0)) (ap (map seen) c.deref-stored-items.ensures.value ∙ c.self.view_is)))

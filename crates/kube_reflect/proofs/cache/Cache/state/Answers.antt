@@ -1,5 +1,5 @@
-use Rattle.std.proofs.Common.{ap, ◌∙◌, map}
-use Rattle.std.proofs.lemmas.Result.{IfOk-weaker}
+use Rattle.std.proofs.Common.{arith, ap, ◌∙◌, map}
+use Rattle.std.proofs.lemmas.List.{take_all}
 use Rattle.std.specs.Arc.{arc_value}
 use Rattle.kube_reflect.specs.Reads.{objects}
 use Rattle.kube_reflect.specs.Views.{stored_of}
@@ -9,6 +9,7 @@ use Rattle.kube_reflect.proofs.cache.Cache.state.Goals as goal
 pub returns : goal.returns
 returns g c =
     let seen = stored_of g.K.Resource.type_of in
-    IfOk-weaker c.share_all.result _ _
-    (λ v e. e ∙ (ap (map (λ s. arc_value s.object)) c.deref.ensures.value ∙ (objects-seen seen c.self.inside.items.items ∙ ap objects c.self.view_is)))
-    c.share_all.ensures
+    let items = c.deref-stored-items.result.now in
+    c.loop-stored.invariant
+    ∙ (ap (map (λ s. arc_value s.object)) (take_all c.loop-stored.stored-index items (omega arith))
+    ∙ (objects-seen seen items ∙ ap objects (ap (map seen) c.deref-stored-items.ensures.value ∙ c.self.view_is)))

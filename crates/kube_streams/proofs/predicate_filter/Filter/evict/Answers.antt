@@ -1,4 +1,4 @@
-use Rattle.std.proofs.Common.{◌≡◌, List, rules, false, nat_lt, ◌-◌, sym, subst, arith}
+use Rattle.std.proofs.Common.{◌≡◌, rules, false, nat_lt, ◌-◌, sym, subst, arith}
 use Rattle.std.proofs.lemmas.Bool.Decides.{nat_tests}
 use Rattle.std.specs.List.{filter}
 use Rattle.std.specs.Map.{lookup}
