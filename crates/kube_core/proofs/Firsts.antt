@@ -1,5 +1,5 @@
 -- The first that passes, as what is found.
-use Rattle.std.proofs.Common.{◌≡◌, Bool, true, false, List, [], ◌∷◌, map, Option, Some, None, option_map, cond, refl, sym, ap, ◌∙◌, ◌⊎◌, inl, inr}
+use Rattle.std.proofs.Common.{◌≡◌, Bool, true, false, List, [], ◌∷◌, map, Option, Some, option_map, cond, refl, inl, inr}
 use Rattle.std.specs.List.{filter, find}
 use Rattle.kube_sched.specs.Schedule.{IsFirst}
 use Rattle.kube_history.specs.CoreEvents.{first_of}

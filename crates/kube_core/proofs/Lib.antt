@@ -2,3 +2,7 @@
 pub mod QueueImages
 pub mod Firsts
 pub mod PendingSteps
+pub mod CoreSteps
+pub mod Requesting
+pub mod StoredSteps
+pub mod TakenSteps

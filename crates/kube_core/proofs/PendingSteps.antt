@@ -1,6 +1,6 @@
 -- One more event of what waits and runs.
-use Rattle.std.proofs.Common.{◌≡◌, ℕ, ◌+◌, Bool, true, false, not, ◌||◌, cond, List, [], ◌∷◌, ◌++◌, map, length, Option, Some, None, option_map, is_some, if◌then◌else◌, refl, sym, ap, subst, ◌∙◌, arith}
-use Rattle.std.specs.List.{fold, filter, find, list_any, count_by}
+use Rattle.std.proofs.Common.{◌≡◌, ℕ, Bool, true, false, not, ◌||◌, cond, List, [], ◌∷◌, ◌++◌, map, length, Option, Some, None, option_map, is_some, if◌then◌else◌, refl, sym, ap, subst, ◌∙◌}
+use Rattle.std.specs.List.{filter, find}
 use Rattle.std.specs.Map.{lookup, remove_entry}
 use Rattle.std.specs.Arc.{arc_value}
 use Rattle.std.specs.declared.sync.Arc.{Arc}
@@ -13,11 +13,10 @@ use Rattle.kube_meta.specs.Keys.{reference_of}
 use Rattle.kube_meta.specs.declared.object_ref.ObjectRef.{ObjectRef}
 use Rattle.kube_meta.specs.declared.moment.Moment.{Moment}
 use Rattle.kube_model.specs.History.{Message, same_message}
-use Rattle.kube_model.specs.Queue.{QueueEvent, Requested, Settled, Took, is_request, is_settle, Entry, Frozen, entry, waiting}
+use Rattle.kube_model.specs.Queue.{QueueEvent, Requested, Settled, Took, Entry, Frozen, entry, waiting}
 use Rattle.kube_model.specs.WaitingOnce.{is_frozen}
 use Rattle.kube_model.specs.Takes.{Running, runs, candidates, has_room}
-use Rattle.kube_sched.specs.declared.request.ScheduleRequest.{ScheduleRequest}
-use Rattle.kube_sched.specs.Schedule.{Schedule, Stands as Scheduled, with_request, with_settle, with_take, IsFirst, waiting_messages}
+use Rattle.kube_sched.specs.Schedule.{Schedule, Stands as Scheduled, with_request, with_settle, with_take}
 use Rattle.kube_sched.proofs.Steps.{stands-alike}
 use Rattle.kube_history.specs.CoreWorld.{CoreWorld}
 use Rattle.kube_history.specs.CoreEvents.{next_candidate, first_of}
@@ -29,34 +28,15 @@ use Rattle.kube_core.specs.Images.{event_image, events_image, entry_image, froze
 use Rattle.kube_core.specs.Pendings.{Parts, Stands, handed_over, FirstIs, TakenFrom, is_idle}
 use Rattle.kube_core.proofs.QueueImages.{waiting-image, entry-image}
 
--- Numbers.
+-- Events.
 
 module _ {A B : Type 0} (f : A → B) where
-  count-image : (p : QueueEvent B → Bool) (q : QueueEvent A → Bool) → ((x : QueueEvent A) → p (event_image f x) ≡ q x) → (n : ℕ) (es : List (QueueEvent A))
-      → fold (λ a x. a + cond (p x) 1 0) n (events_image f es) ≡ fold (λ a x. a + cond (q x) 1 0) n es
-  count-image p q h n [] = refl
-  count-image p q h n (x ∷ es) = ap (λ b. fold (λ a y. a + cond (p y) 1 0) (n + cond b 1 0) (events_image f es)) (h x) ∙ count-image p q h (n + cond (q x) 1 0) es
-
-  request-image : (x : QueueEvent A) → is_request (event_image f x) ≡ is_request x
-  request-image (Requested q) = refl
-  request-image (Settled now n) = refl
-  request-image (Took m) = refl
-
-  settle-image : (x : QueueEvent A) → is_settle (event_image f x) ≡ is_settle x
-  settle-image (Requested q) = refl
-  settle-image (Settled now n) = refl
-  settle-image (Took m) = refl
-
   with-request : (es : List (QueueEvent A)) (m : A) (run_at now : Moment)
-      → events_image f es ++ Requested (record { message = f m; run_at = run_at.0; now = now.0; number = count_by is_request (events_image f es) }) ∷ [] ≡ events_image f (with_request es (record { message = m; run_at = run_at }) now)
-  with-request es m run_at now =
-      ap (λ n. events_image f es ++ Requested (record { message = f m; run_at = run_at.0; now = now.0; number = n }) ∷ []) (count-image is_request is_request request-image 0 es)
-      ∙ sym (map-append (event_image f) es (Requested (record { message = m; run_at = run_at.0; now = now.0; number = count_by is_request es }) ∷ []))
+      → events_image f es ++ Requested (record { message = f m; run_at = run_at.0; now = now.0 }) ∷ [] ≡ events_image f (with_request es (record { message = m; run_at = run_at }) now)
+  with-request es m run_at now = sym (map-append (event_image f) es (Requested (record { message = m; run_at = run_at.0; now = now.0 }) ∷ []))
 
   with-settle : (es : List (QueueEvent A)) (now : Moment) → with_settle (events_image f es) now ≡ events_image f (with_settle es now)
-  with-settle es now =
-      ap (λ n. events_image f es ++ Settled now.0 n ∷ []) (count-image is_settle is_settle settle-image 0 es)
-      ∙ sym (map-append (event_image f) es (Settled now.0 (count_by is_settle es) ∷ []))
+  with-settle es now = sym (map-append (event_image f) es (Settled now.0 ∷ []))
 
   with-take : (es : List (QueueEvent A)) (m : A) → with_take (events_image f es) (f m) ≡ events_image f (with_take es m)
   with-take es m = sym (map-append (event_image f) es (Took m ∷ []))

@@ -1,24 +1,24 @@
 -- The queue of messages in one form is the queue of them in another.
-use Rattle.std.proofs.Common.{◌≡◌, ℕ, Bool, true, false, not, ◌&&◌, ◌||◌, nat_le, List, [], ◌∷◌, map, Option, Some, None, option_map, is_some, cond, refl, sym, ap, ◌∙◌}
-use Rattle.std.specs.List.{fold, filter_map, cons_option, list_any}
-use Rattle.kube_model.specs.Queue.{Request, QueueEvent, Requested, Settled, Took, Entry, Frozen, entry, entry_after, entry_of, entry_requested, entry_settled, frozen, requested_message, distinct, goes_before, insert_by, sorted_by, waiting}
+use Rattle.std.proofs.Common.{◌≡◌, ℕ, ◌+◌, Bool, true, false, not, ◌&&◌, ◌||◌, nat_le, List, [], ◌∷◌, map, Option, Some, None, option_map, is_some, cond, refl, ap, ◌∙◌}
+use Rattle.std.specs.List.{filter_map, cons_option, list_any}
+use Rattle.kube_model.specs.Queue.{Request, QueueEvent, Requested, Settled, Took, Entry, Frozen, entry, entry_after, entry_from, entry_of, entry_requested, entry_settled, frozen, requested_message, distinct, goes_before, insert_by, sorted_by, waiting}
 use Rattle.kube_core.specs.Images.{event_image, events_image, entry_image, frozen_image}
 
 module _ {A B : Type 0} (f : A → B) where
   abbrev pub request_image : Request A → Request B
-  request_image q = record { message = f q.message; run_at = q.run_at; now = q.now; number = q.number }
+  request_image q = record { message = f q.message; run_at = q.run_at; now = q.now }
 
-  requested-image : (d : ℕ) (q : Request A) (o : Option (Entry A))
-      → entry_requested d (request_image q) (option_map (entry_image f) o) ≡ option_map (entry_image f) (entry_requested d q o)
-  requested-image d q None = refl
-  requested-image d q (Some e) = go (not (is_some e.settle) && nat_le q.run_at e.time)
+  requested-image : (d p : ℕ) (q : Request A) (o : Option (Entry A))
+      → entry_requested d p (request_image q) (option_map (entry_image f) o) ≡ option_map (entry_image f) (entry_requested d p q o)
+  requested-image d p q None = refl
+  requested-image d p q (Some e) = go (not (is_some e.settle) && nat_le q.run_at e.time)
     where
-      go : (b : Bool) → cond b (Some (entry_of d (request_image q))) (Some (entry_image f e)) ≡ option_map (entry_image f) (cond b (Some (entry_of d q)) (Some e))
+      go : (b : Bool) → cond b (Some (entry_of d p (request_image q))) (Some (entry_image f e)) ≡ option_map (entry_image f) (cond b (Some (entry_of d p q)) (Some e))
       go true = refl
       go false = refl
 
   settled-image : (now n : ℕ) (o : Option (Entry A))
-      → entry_settled now n (option_map (entry_image f) o) ≡ option_map (entry_image f) (entry_settled now n o)
+      → entry_settled n now (option_map (entry_image f) o) ≡ option_map (entry_image f) (entry_settled n now o)
   settled-image now n None = refl
   settled-image now n (Some e) = go (not (is_some e.settle) && nat_le e.time now)
     where
@@ -37,7 +37,7 @@ module _ {A B : Type 0} (f : A → B) where
   messages-image : (es : List (QueueEvent A)) → filter_map requested_message (events_image f es) ≡ map f (filter_map requested_message es)
   messages-image [] = refl
   messages-image (Requested q ∷ es) = ap (λ ms. f q.message ∷ ms) (messages-image es)
-  messages-image (Settled now n ∷ es) = messages-image es
+  messages-image (Settled now ∷ es) = messages-image es
   messages-image (Took m ∷ es) = messages-image es
 
   insert-image : (z : Frozen A) (zs : List (Frozen A)) → insert_by goes_before (frozen_image f z) (map (frozen_image f) zs) ≡ map (frozen_image f) (insert_by goes_before z zs)
@@ -55,28 +55,28 @@ module _ {A B : Type 0} (f : A → B) where
   sorted-image (z ∷ zs) = ap (insert_by goes_before (frozen_image f z)) (sorted-image zs) ∙ insert-image z (sorted_by goes_before zs)
 
   module _ (own : A → A → Bool) (same : B → B → Bool) (keeps : (a b : A) → same (f a) (f b) ≡ own a b) (d : ℕ) where
-    after-image : (m : A) (o : Option (Entry A)) (x : QueueEvent A)
-        → entry_after same d (f m) (option_map (entry_image f) o) (event_image f x) ≡ option_map (entry_image f) (entry_after own d m o x)
-    after-image m o (Requested q) =
-        ap (λ b. cond b (entry_requested d (request_image q) (option_map (entry_image f) o)) (option_map (entry_image f) o)) (keeps q.message m) ∙ go (own q.message m)
+    after-image : (m : A) (p : ℕ) (o : Option (Entry A)) (x : QueueEvent A)
+        → entry_after same d (f m) p (option_map (entry_image f) o) (event_image f x) ≡ option_map (entry_image f) (entry_after own d m p o x)
+    after-image m p o (Requested q) =
+        ap (λ b. cond b (entry_requested d p (request_image q) (option_map (entry_image f) o)) (option_map (entry_image f) o)) (keeps q.message m) ∙ go (own q.message m)
       where
-        go : (b : Bool) → cond b (entry_requested d (request_image q) (option_map (entry_image f) o)) (option_map (entry_image f) o) ≡ option_map (entry_image f) (cond b (entry_requested d q o) o)
-        go true = requested-image d q o
+        go : (b : Bool) → cond b (entry_requested d p (request_image q) (option_map (entry_image f) o)) (option_map (entry_image f) o) ≡ option_map (entry_image f) (cond b (entry_requested d p q o) o)
+        go true = requested-image d p q o
         go false = refl
-    after-image m o (Settled now n) = settled-image now n o
-    after-image m o (Took t) = ap (λ b. cond b None (option_map (entry_image f) o)) (keeps t m) ∙ go (own t m)
+    after-image m p o (Settled now) = settled-image now p o
+    after-image m p o (Took t) = ap (λ b. cond b None (option_map (entry_image f) o)) (keeps t m) ∙ go (own t m)
       where
         go : (b : Bool) → cond b None (option_map (entry_image f) o) ≡ option_map (entry_image f) (cond b None o)
         go true = refl
         go false = refl
 
-    fold-image : (m : A) (o : Option (Entry A)) (es : List (QueueEvent A))
-        → fold (entry_after same d (f m)) (option_map (entry_image f) o) (events_image f es) ≡ option_map (entry_image f) (fold (entry_after own d m) o es)
-    fold-image m o [] = refl
-    fold-image m o (x ∷ es) = ap (λ p. fold (entry_after same d (f m)) p (events_image f es)) (after-image m o x) ∙ fold-image m (entry_after own d m o x) es
+    from-image : (m : A) (p : ℕ) (o : Option (Entry A)) (es : List (QueueEvent A))
+        → entry_from same d (f m) p (option_map (entry_image f) o) (events_image f es) ≡ option_map (entry_image f) (entry_from own d m p o es)
+    from-image m p o [] = refl
+    from-image m p o (x ∷ es) = ap (λ o. entry_from same d (f m) (p + 1) o (events_image f es)) (after-image m p o x) ∙ from-image m (p + 1) (entry_after own d m p o x) es
 
     pub entry-image : (es : List (QueueEvent A)) (m : A) → entry same d (events_image f es) (f m) ≡ option_map (entry_image f) (entry own d es m)
-    entry-image es m = fold-image m None es
+    entry-image es m = from-image m 0 None es
 
     any-image : (x : A) (xs : List A) → list_any (λ y. same y (f x)) (map f xs) ≡ list_any (λ y. own y x) xs
     any-image x [] = refl

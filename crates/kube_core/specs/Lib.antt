@@ -1,3 +1,4 @@
 -- the definitions that the contracts cite
 pub mod Images
+pub mod Cores
 pub mod Pendings

@@ -1,7 +1,15 @@
-//! What decides in a controller: what waits and what runs.
+//! What decides in a controller: what is stored, what waits and what runs.
 #![tactic(auto)]
 
+pub mod controller_core;
 pub mod laws;
 pub mod pending;
+mod requests;
+mod storing;
+mod taking;
 
+pub use controller_core::Core;
 pub use pending::Pending;
+
+#[cfg(test)]
+mod tests;

@@ -1,6 +1,6 @@
 //! What waits and what runs (kube-runtime's `applier`, without its streams).
 
-ghost use Rattle.std.specs.Prelude.{◌≡◌, ◌≤◌, ◌+◌, ◌++◌, ◌∷◌, not, [], List, OnOk, OnErr, IfSome, IfNone, IfOk, length, Some, None, option_copied, true, false};
+ghost use Rattle.std.specs.Prelude.{◌≡◌, ◌≤◌, ◌+◌, ◌++◌, ◌∷◌, not, [], List, OnOk, OnErr, IfSome, IfNone, IfOk, length, is_some, Some, None, option_copied, true, false};
 ghost use Rattle.std.specs.Option.{option_map};
 ghost use Rattle.std.specs.List.{filter};
 ghost use Rattle.std.specs.Arc.{arc_value};
@@ -111,11 +111,29 @@ impl<K: Resource> Pending<K> {
         self.schedule.schedule(alloc, request, now)
     }
 
+    /// Takes places for this many requests, beside those that are kept.
+    ///
+    /// # Errors
+    ///
+    /// `NoMemory` where there is none for so many; nothing has changed then.
+    pub fn reserve(&mut self, alloc: Global, n: usize) -> Result<(), NoMemory>
+        ensures room { OnOk result (length self.new.running + n ≤ self.new.schedule.spare) }
+        ensures same { self.new ≡ record self.old { schedule = record self.old.schedule { spare = self.new.schedule.spare } } }
+        ensures err { OnErr result (self.new ≡ self.old) }
+    {
+        let Some(places) = self.running.len().checked_add(n) else {
+            return Err(NoMemory);
+        };
+        self.schedule.reserve(alloc, places)
+    }
+
     /// Requests a message for a moment at the place that was kept for a reference that runs no more. It takes no memory.
     pub fn request_again(&mut self, request: ReconcileRequest<K>, run_at: Moment, now: Moment)
         requires { length self.old.running + 1 ≤ self.old.schedule.spare }
         ensures stands { (core : CoreWorld K) (qs : List (QueueEvent Message)) (rs : List (Running K)) → Stands K.type_of core self.old qs rs
             → Stands K.type_of core self.new (with_requests qs now.0 (record { message = message_of K.type_of request; run_at = run_at.0 } ∷ [])) rs }
+        ensures running { self.new.running ≡ self.old.running }
+        ensures room { self.old.schedule.spare ≤ self.new.schedule.spare + 1 }
     {
         let request = ScheduleRequest {
             message: request,
@@ -228,15 +246,17 @@ impl<K: Resource> Pending<K> {
         Ok(())
     }
 
-    /// Lets a reference run no more. Whether an equal one ran; then a place is kept for one more request.
-    pub fn stop(&mut self, reference: &ObjectRef<K>) -> bool
+    /// Lets a reference run no more, and gives it where an equal one ran; then a place is kept for one more request.
+    pub fn stop(&mut self, reference: &ObjectRef<K>) -> Option<ObjectRef<K>>
         ensures ran { (core : CoreWorld K) (qs : List (QueueEvent Message)) (rs : List (Running K)) → Stands K.type_of core self.old qs rs
-            → result ≡ runs rs (reference_of K.type_of reference.now) }
+            → is_some result ≡ runs rs (reference_of K.type_of reference.now) }
+        ensures equal { IfSome result (λ r. reference_of K.type_of r ≡ reference_of K.type_of reference.now) }
         ensures stands { (core : CoreWorld K) (qs : List (QueueEvent Message)) (rs : List (Running K)) → Stands K.type_of core self.old qs rs
             → Stands K.type_of core self.new qs (filter (λ p. not (same_reference p.reference (reference_of K.type_of reference.now))) rs) }
-        ensures room { result ≡ true → length self.new.running + 1 ≤ self.new.schedule.spare }
+        ensures room { IfSome result (λ r. length self.new.running + 1 ≤ self.new.schedule.spare) }
     {
-        self.running.shift_remove(reference).is_some()
+        let (stopped, _object) = self.running.shift_remove_entry(reference)?;
+        Some(stopped)
     }
 
     /// The object that was handed over with a reference that runs.

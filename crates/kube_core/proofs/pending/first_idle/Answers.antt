@@ -1,4 +1,4 @@
-use Rattle.std.proofs.Common.{refl, sym, subst, ap, ◌∙◌, ◌≡◌, length, true, false, is_some, Some, None, option_copied, option_map}
+use Rattle.std.proofs.Common.{ap, ◌∙◌}
 use Rattle.std.specs.Fn.{FnReturnsAt}
 use Rattle.kube_core.specs.Pendings.{is_idle}
 use Rattle.kube_core.proofs.Firsts.{first-find}

@@ -1,7 +1,7 @@
-use Rattle.std.proofs.Common.{refl, sym, subst, ap, ◌∙◌, ◌≡◌, length, true, false, is_some, Some, None, option_copied, option_map}
+use Rattle.std.proofs.Common.{sym, subst, ap, ◌∙◌}
 use Rattle.kube_meta.specs.Keys.{reference_of}
-use Rattle.kube_model.specs.Takes.{has_room, runs}
-use Rattle.kube_core.specs.Pendings.{Parts, Stands, handed_over}
+use Rattle.kube_model.specs.Takes.{runs}
+use Rattle.kube_core.specs.Pendings.{Stands}
 use Rattle.kube_core.proofs.PendingSteps.{runs-lookup}
 use Rattle.kube_core.proofs.pending.Pending.is_running.Goals as goal
 

@@ -1,7 +1,5 @@
-use Rattle.std.proofs.Common.{refl, sym, subst, ap, ◌∙◌, ◌≡◌, length, true, false, is_some, Some, None, option_copied, option_map}
-use Rattle.kube_meta.specs.Keys.{reference_of}
-use Rattle.kube_model.specs.Takes.{has_room, runs}
-use Rattle.kube_core.specs.Pendings.{Parts, Stands, handed_over}
+use Rattle.std.proofs.Common.{refl, sym, subst}
+use Rattle.kube_core.specs.Pendings.{Stands}
 use Rattle.std.proofs.lemmas.Result.{on_ok_weaker}
 use Rattle.kube_core.proofs.PendingSteps.{requested}
 use Rattle.kube_core.proofs.pending.Pending.request.Goals as goal

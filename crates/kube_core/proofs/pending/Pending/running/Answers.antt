@@ -1,7 +1,6 @@
-use Rattle.std.proofs.Common.{refl, sym, subst, ap, ◌∙◌, ◌≡◌, length, true, false, is_some, Some, None, option_copied, option_map}
+use Rattle.std.proofs.Common.{sym, subst, ap, ◌∙◌, option_map}
 use Rattle.kube_meta.specs.Keys.{reference_of}
-use Rattle.kube_model.specs.Takes.{has_room, runs}
-use Rattle.kube_core.specs.Pendings.{Parts, Stands, handed_over}
+use Rattle.kube_core.specs.Pendings.{Stands, handed_over}
 use Rattle.std.specs.Arc.{arc_value}
 use Rattle.kube_core.proofs.PendingSteps.{handed}
 use Rattle.kube_core.proofs.pending.Pending.running.Goals as goal

@@ -1,7 +1,5 @@
-use Rattle.std.proofs.Common.{refl, sym, subst, ap, ◌∙◌, ◌≡◌, length, true, false, is_some, Some, None, option_copied, option_map}
-use Rattle.kube_meta.specs.Keys.{reference_of}
-use Rattle.kube_model.specs.Takes.{has_room, runs}
-use Rattle.kube_core.specs.Pendings.{Parts, Stands, handed_over}
+use Rattle.std.proofs.Common.{refl, sym, subst, ap}
+use Rattle.kube_core.specs.Pendings.{Stands}
 use Rattle.kube_turn.specs.Views.{same_request}
 use Rattle.kube_sched.proofs.Steps.{stands-alike}
 use Rattle.kube_core.proofs.PendingSteps.{started}

@@ -1,7 +1,6 @@
-use Rattle.std.proofs.Common.{refl, sym, subst, ap, ◌∙◌, ◌≡◌, length, true, false, is_some, Some, None, option_copied, option_map}
-use Rattle.kube_meta.specs.Keys.{reference_of}
-use Rattle.kube_model.specs.Takes.{has_room, runs}
-use Rattle.kube_core.specs.Pendings.{Parts, Stands, handed_over}
+use Rattle.std.proofs.Common.{refl, sym, subst, ap, ◌∙◌, ◌≡◌, length, true}
+use Rattle.kube_model.specs.Takes.{has_room}
+use Rattle.kube_core.specs.Pendings.{Parts, Stands}
 use Rattle.std.proofs.lemmas.Option.{IfSome_then}
 use Rattle.kube_core.proofs.PendingSteps.{first-candidate, taken}
 use Rattle.kube_core.proofs.pending.Pending.take_candidate.Goals as goal

@@ -1,0 +1,49 @@
+-- A take with what is stored for it.
+use Rattle.std.proofs.Common.{◌≡◌, Bool, true, false, cond, List, [], ◌∷◌, Option, Some, None, option_map, refl, ap, ◌∙◌}
+use Rattle.std.specs.Option.{option_or}
+use Rattle.kube_meta.specs.Reference.{Reference, same_reference, without_namespace}
+use Rattle.kube_model.specs.History.{Message}
+use Rattle.kube_model.specs.Store.{found, stored_under}
+use Rattle.kube_reflect.specs.Cached.{keyed}
+use Rattle.kube_reflect.specs.Exchanged.{all_keyed}
+use Rattle.kube_reflect.specs.Reads.{object_at}
+use Rattle.kube_core.specs.Cores.{looked_up}
+
+module _ {O : Type 0} (key : O → Reference) (store : List O) where
+  -- no candidate, one for which nothing is stored, and one for which an object is
+  pub none-looked : (m : Option Message) → None ≡ option_map (λ n. found key store n.reference) m → None ≡ option_map (looked_up key store) m
+  none-looked None e = refl
+  none-looked (Some m) e = absurd (cc)
+
+  pub none-next : (m : Option Message) → None ≡ option_map (λ n. found key store n.reference) m → m ≡ None
+  none-next None e = refl
+  none-next (Some m) e = absurd (cc)
+
+  pub one-looked : (o : Option O) (m : Option Message) → Some o ≡ option_map (λ n. found key store n.reference) m
+      → option_map (λ (n : Message). record { message = n; object = o }) m ≡ option_map (looked_up key store) m
+  one-looked o None e = absurd (cc)
+  one-looked o (Some m) e = let h : o ≡ found key store m.reference = cc in ap (λ z. Some (record { message = m; object = z })) h
+
+-- What is found beside references is what is found of the objects.
+module _ {O : Type 0} (key : O → Reference) where
+  stored-keyed : (store : List O) (r : Reference) → option_map (λ p. p.1) (stored_under (λ (p : Reference × O). p.0) (all_keyed key store) r) ≡ stored_under key store r
+  stored-keyed [] r = refl
+  stored-keyed (o ∷ store) r = go (same_reference (key o) r) (stored-keyed store r)
+    where
+      go : (b : Bool) → option_map (λ p. p.1) (stored_under (λ (p : Reference × O). p.0) (all_keyed key store) r) ≡ stored_under key store r
+          → option_map (λ p. p.1) (cond b (Some (keyed key o)) (stored_under (λ (p : Reference × O). p.0) (all_keyed key store) r)) ≡ cond b (Some o) (stored_under key store r)
+      go true e = refl
+      go false e = e
+
+  or-keyed : (a b : Option (Reference × O)) (a' b' : Option O) → option_map (λ p. p.1) a ≡ a' → option_map (λ p. p.1) b ≡ b' → option_map (λ p. p.1) (option_or a b) ≡ option_or a' b'
+  or-keyed None b a' b' e f = f ∙ ap (λ o. option_or o b') e
+  or-keyed (Some p) b a' b' e f = ap (λ o. option_or o b') e
+
+  pub found-keyed : (store : List O) (r : Reference) → object_at (all_keyed key store) r ≡ found key store r
+  found-keyed store r = or-keyed _ _ _ _ (stored-keyed store r) (stored-keyed store (without_namespace r))
+
+-- what is found for a candidate
+pub look : {O : Type 0} (key : O → Reference) (store : List O) (cache : List (Reference × O)) (n : Message) (m : Option Message) (got : Option O)
+    → Some n ≡ m → cache ≡ all_keyed key store → got ≡ object_at cache n.reference → Some got ≡ option_map (λ z. found key store z.reference) m
+look key store cache n m got e f h =
+    ap Some (h ∙ (ap (λ ps. object_at ps n.reference) f ∙ found-keyed key store n.reference)) ∙ ap (option_map (λ z. found key store z.reference)) e

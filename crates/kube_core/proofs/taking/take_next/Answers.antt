@@ -1,0 +1,25 @@
+use Rattle.std.proofs.Common.{None, Some, option_map, sym, ap, ◌∙◌}
+use Rattle.std.specs.Arc.{arc_value}
+use Rattle.std.proofs.lemmas.Result.{IfOk-weaker}
+use Rattle.kube_history.specs.CoreEvents.{next_candidate}
+use Rattle.kube_core.proofs.TakenSteps.{none-looked, one-looked}
+use Rattle.kube_core.proofs.taking.take_next.Goals as goal
+
+pub returns-in_default-clause-first : goal.returns-in_default-clause-first
+returns-in_default-clause-first g c core store qs rs s e =
+    none-looked core.key store (next_candidate core qs rs) (ap (option_map (option_map arc_value)) (sym c.in_default.is) ∙ c.in_ok-found.ensures core store qs rs s e)
+
+pub returns-in_default-found-clause-first : goal.returns-in_default-found-clause-first
+returns-in_default-found-clause-first g c core store qs rs s e =
+    c.take_missing.ensures.first core qs rs s
+    ∙ one-looked core.key store None (next_candidate core qs rs)
+    (ap (λ o. Some (option_map arc_value o)) (sym c.in_default-found.is) ∙ (ap (option_map (option_map arc_value)) (sym c.in-Some.is) ∙ c.in_ok-found.ensures core store qs rs s e))
+
+pub returns-clause-first : goal.returns-clause-first
+returns-clause-first g c =
+    IfOk-weaker c.take_found.result _ _
+    (λ t h core store qs rs s e.
+    h core qs rs s
+    ∙ one-looked core.key store (Some (arc_value c.in-Some-found.object)) (next_candidate core qs rs)
+    (ap (λ o. Some (option_map arc_value o)) (sym c.in-Some-found.is) ∙ (ap (option_map (option_map arc_value)) (sym c.in-Some.is) ∙ c.in_ok-found.ensures core store qs rs s e)))
+    c.take_found.ensures.first

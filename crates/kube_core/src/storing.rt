@@ -1,0 +1,58 @@
+//! What an exchange of the root leaves in a writer.
+
+ghost use Rattle.std.specs.Prelude.{◌≡◌, ◌++◌, ◌∷◌, [], List, ℕ, map, OnOk, OnErr};
+ghost use Rattle.std.specs.Arc.{arc_value};
+ghost use Rattle.std.specs.List.{fold};
+ghost use Rattle.kube_meta.specs.Keys.{key_of};
+ghost use Rattle.kube_model.specs.World.{Settings};
+ghost use Rattle.kube_model.specs.SecondForms.{initial_after};
+ghost use Rattle.kube_watch.specs.Table.{table};
+ghost use Rattle.kube_reflect.specs.Cached.{applied};
+ghost use Rattle.kube_turn.specs.Views.{exchange_of};
+
+use kube_meta::{NoMemory, Resource};
+use kube_model::call::{Answer, Call};
+use kube_reflect::Writer;
+use kube_turn::SourceExchange;
+use kube_watch::events_of;
+use std::alloc::Global;
+
+/// Whether a look at the root belongs to a watch that sends what is there first, after one more exchange.
+pub fn initial_after<K: Resource>(initial: bool, exchange: &SourceExchange<K>) -> bool
+    ensures { result ≡ initial_after initial (exchange_of K.type_of exchange.now) }
+{
+    match &exchange.answer {
+        Answer::Opened => matches!(&exchange.call, Call::Watch { initial: true, .. }),
+        Answer::Bookmark { ending, .. } => initial && !*ending,
+        _ => initial,
+    }
+}
+
+/// Applies what an exchange tells: all of it, or nothing.
+///
+/// # Errors
+///
+/// `NoMemory` where there is none for it, and where an object of which it tells has no name; nothing was applied then.
+pub fn store_told<K: Resource>(
+    alloc: Global,
+    writer: &mut Writer<K>,
+    initial: bool,
+    exchange: &SourceExchange<K>,
+) -> Result<(), NoMemory>
+    ensures kept { OnOk result ((settings : Settings) (version : List ℕ)
+        → writer.new.kept ≡ fold (applied (λ o. key_of writer.old.kind (K.meta_of o))) writer.old.kept (table settings version initial exchange.now.call exchange.now.answer (map arc_value exchange.now.items)).events) }
+    ensures kind { writer.new.kind ≡ writer.old.kind }
+    ensures err { OnErr result (writer.new ≡ writer.old) }
+{
+    let events = events_of(
+        alloc,
+        initial,
+        &exchange.call,
+        &exchange.answer,
+        exchange.items.as_slice(),
+    )?;
+    let Ok(()) = writer.apply_watcher_events(alloc, events.as_slice()) else {
+        return Err(NoMemory);
+    };
+    Ok(())
+}
