@@ -1,14 +1,14 @@
 -- The asks of a turn are the next ones of the definitions.
-use Rattle.std.proofs.Common.{◌≡◌, ℕ, Bool, true, false, ◌||◌, List, [], ◌∷◌, ◌++◌, map, Option, Some, None, if◌then◌else◌, refl, sym, ap, subst, ◌∙◌, append_assoc, append-nil}
+use Rattle.std.proofs.Common.{◌≡◌, false, ◌||◌, List, [], ◌∷◌, ◌++◌, None, if◌then◌else◌, sym, ap, subst, ◌∙◌, append_assoc, append-nil}
 use Rattle.std.proofs.lemmas.List.{map-append}
 use Rattle.kube_model.specs.World.{World}
-use Rattle.kube_model.specs.History.{Dated, Exchange, Turn, Step, exchanges, exchanges_with, dated}
+use Rattle.kube_model.specs.History.{Exchange, Turn, Step, exchanges, dated}
 use Rattle.kube_model.specs.Shutdowns.{is_shut, asks_shutdown}
 use Rattle.kube_model.specs.Asks.{next_asked}
 use Rattle.kube_model.specs.Turns.{next_source}
-use Rattle.kube_model.specs.Traces.{EachIsNext, IsNext}
+use Rattle.kube_model.specs.Traces.{EachIsNext}
 use Rattle.kube_watch.specs.Polls.{dated_now}
-use Rattle.kube_asks.specs.Asking.{IsNextAsked, AreNextAsked}
+use Rattle.kube_asks.specs.Asking.{AreNextAsked}
 
 module _ {O B : Type 0} (w : World O B) (h : List (Step O)) (t : Turn) (open_h : is_shut h ≡ false) (open_t : asks_shutdown t.shutdown ≡ false) where
   source-is : (xs : List (Exchange O)) → next_asked w t.budget (exchanges h) (dated t.at xs) t.at ≡ next_source w h t xs

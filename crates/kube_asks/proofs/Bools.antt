@@ -1,5 +1,5 @@
 -- Truth values.
-use Rattle.std.proofs.Common.{◌≡◌, ℕ, zero, suc, ◌+◌, ◌-◌, ◌<◌, ◌≤◌, nat_lt, Bool, true, false, not, ◌&&◌, ◌||◌, cond, Some, List, [], ◌∷◌, ◌++◌, map, Result, Ok, Err, IfOk, refl, sym, ap, ◌∙◌, append_assoc, arith}
+use Rattle.std.proofs.Common.{◌≡◌, ℕ, zero, suc, ◌+◌, ◌-◌, ◌<◌, ◌≤◌, nat_lt, Bool, true, false, ◌&&◌, ◌||◌, cond, Some, List, [], ◌∷◌, ◌++◌, map, Result, Ok, Err, IfOk, OnOk, refl, sym, ap, ◌∙◌, append_assoc, arith}
 use Rattle.std.proofs.lemmas.Bool.{ltb-true}
 use Rattle.std.specs.List.{find, range_with_len}
 
@@ -42,6 +42,11 @@ ok2 (Err e) f p q = tt
 pub ok3 : {T E : Type 0} {P Q S W : T → Type 0} (r : Result T E) → ((x : T) → P x → Q x → S x → W x) → IfOk r P → IfOk r Q → IfOk r S → IfOk r W
 ok3 (Ok x) f p q s = f x p q s
 ok3 (Err e) f p q s = tt
+
+-- two facts of a value that came, and one that there was one
+pub ok3-on : {T E : Type 0} {P Q W : T → Type 0} {S : Type 0} (r : Result T E) → ((x : T) → P x → Q x → S → W x) → IfOk r P → IfOk r Q → OnOk r S → IfOk r W
+ok3-on (Ok x) f p q s = f x p q s
+ok3-on (Err e) f p q s = tt
 
 pub suc-pred : (n : ℕ) → (n ≡ 0 → ⊥) → suc (n - 1) ≡ n
 suc-pred n h = go n refl

@@ -1,8 +1,6 @@
 -- What its own exchanges say of an exchange, among all exchanges of a controller.
-use Rattle.std.proofs.Common.{◌≡◌, ◌≢◌, ℕ, zero, suc, ◌+◌, ◌-◌, ◌<◌, ◌≤◌, ◌==◌, Bool, true, false, not, List, [], ◌∷◌, ◌++◌, map, length, Option, Some, None, is_some, unwrap_or, slice_get, refl, sym, ap, subst, ◌∙◌, arith}
-use Rattle.std.specs.List.{filter}
+use Rattle.std.proofs.Common.{◌≡◌, ◌≢◌, ℕ, zero, suc, ◌+◌, ◌-◌, ◌<◌, ◌≤◌, ◌==◌, List, [], ◌∷◌, ◌++◌, map, length, Option, unwrap_or, slice_get, refl, sym, ap, subst, ◌∙◌, arith}
 use Rattle.std.proofs.lemmas.Bool.{eq-eqb, ne_eqb}
-use Rattle.std.proofs.Math.Dec.{eqb-suc-zero}
 use Rattle.kube_meta.specs.Reference.{ObjectType, Reference}
 use Rattle.kube_meta.specs.declared.metadata.ObjectMeta.{ObjectMeta}
 use Rattle.kube_meta.specs.Keys.{key_of}
@@ -13,7 +11,7 @@ use Rattle.kube_model.specs.History.{Dated, Exchange, dated_of, exchanges_of}
 use Rattle.kube_model.specs.Fits.{IsFitting, IsAnswered, IsOfRelated, IsOfRoot, IsOneOf, WatchItemsFit, requests_of_watch, nonempty}
 use Rattle.kube_model.specs.Reason.{ObjectUpdated}
 use Rattle.kube_model.proofs.Marks.{filter-hit, filter-miss}
-use Rattle.kube_asks.specs.Sources.{IsOwed, IsRelatedNext, IsRootNext, IsSame, fed, feed_at, root_world}
+use Rattle.kube_asks.specs.Sources.{IsRelatedNext, IsRootNext, fed, feed_at, root_world}
 
 module _ {O : Type 0} where
   -- an exchange is answered whatever its source

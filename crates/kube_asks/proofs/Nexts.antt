@@ -1,5 +1,5 @@
 -- The next exchange of a turn, or none.
-use Rattle.std.proofs.Common.{◌≡◌, ℕ, zero, suc, ◌+◌, ◌-◌, ◌<◌, ◌≤◌, ◌==◌, ◌||◌, ◌&&◌, nat_lt, min, Bool, true, false, not, List, [], ◌∷◌, ◌++◌, map, Option, Some, None, length, if◌then◌else◌, refl, sym, ap, subst, ◌∙◌, append_assoc, arith}
+use Rattle.std.proofs.Common.{◌≡◌, ℕ, zero, suc, ◌+◌, ◌-◌, ◌<◌, ◌≤◌, ◌||◌, ◌&&◌, nat_lt, min, Bool, true, false, not, List, [], ◌∷◌, ◌++◌, map, Option, Some, None, length, if◌then◌else◌, refl, sym, ap, subst, ◌∙◌, append_assoc, arith}
 use Rattle.std.specs.List.{find, range_with_len}
 use Rattle.std.specs.Option.{option_or}
 use Rattle.std.proofs.lemmas.List.{length-map}
@@ -7,7 +7,7 @@ use Rattle.std.proofs.lemmas.List.Folds.{find-append}
 use Rattle.std.proofs.Math.Dec.{eqb-suc-zero}
 use Rattle.kube_meta.specs.Reference.{ObjectType}
 use Rattle.kube_meta.specs.declared.metadata.ObjectMeta.{ObjectMeta}
-use Rattle.kube_model.specs.World.{World, Feed, Settings, Streamed, feed_of, is_queue, is_watched}
+use Rattle.kube_model.specs.World.{World, Feed, Settings, feed_of, is_queue, is_watched}
 use Rattle.kube_model.specs.History.{Dated, Exchange}
 use Rattle.kube_model.specs.Fits.{IsFitting}
 use Rattle.kube_model.specs.Asks.{next_asked, stops_of}

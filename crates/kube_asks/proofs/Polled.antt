@@ -1,13 +1,13 @@
 -- What a poll of a source makes of what the sources stand for.
-use Rattle.std.proofs.Common.{◌≡◌, ◌≢◌, ℕ, zero, suc, ◌+◌, ◌<◌, ◌==◌, Bool, true, false, not, List, [], ◌∷◌, ◌++◌, map, Option, Some, None, length, refl, sym, ap, subst, ◌∙◌, arith}
-use Rattle.std.proofs.lemmas.Bool.{eq-eqb, ne_eqb, eqb-true, true≢false}
+use Rattle.std.proofs.Common.{◌≡◌, ◌≢◌, ℕ, suc, ◌<◌, ◌==◌, Bool, true, false, not, List, [], ◌∷◌, ◌++◌, Option, refl, sym, ap, subst, ◌∙◌, arith}
+use Rattle.std.proofs.lemmas.Bool.{eq-eqb, eqb-true, true≢false}
 use Rattle.kube_meta.specs.Reference.{ObjectType}
 use Rattle.kube_meta.specs.declared.metadata.ObjectMeta.{ObjectMeta}
 use Rattle.kube_model.specs.World.{World, Feed, Settings, feed_of, is_watched}
 use Rattle.kube_model.specs.History.{Dated, Exchange, dated_of}
 use Rattle.kube_model.specs.Fits.{IsFitting}
 use Rattle.kube_watch.specs.Polls.{dated_now}
-use Rattle.kube_asks.specs.Sources.{IsRelatedNext, IsRootNext, IsSame, fed, feed_at, is_stream}
+use Rattle.kube_asks.specs.Sources.{IsRelatedNext, IsRootNext, IsSame, feed_at, is_stream}
 use Rattle.kube_asks.specs.Asking.{IsWorldOf, SourcesStand, of_source}
 use Rattle.kube_asks.proofs.FitLemmas.{root-fits, related-fits, feed-root, feed-related, own-push, other-push}
 

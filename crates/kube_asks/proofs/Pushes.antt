@@ -1,24 +1,24 @@
 -- What one more exchange makes of what is kept of the asks.
-use Rattle.std.proofs.Common.{◌≡◌, ◌≢◌, ℕ, zero, suc, ◌+◌, ◌-◌, ◌<◌, ◌==◌, Bool, true, false, not, ◌&&◌, ◌||◌, nat_lt, cond, List, [], ◌∷◌, ◌++◌, map, length, Option, Some, None, is_some, slice_index, slice_set, if◌then◌else◌, refl, sym, ap, subst, ◌∙◌, append_assoc, append-nil, length-append, arith}
-use Rattle.std.specs.List.{find, fold, filter, list_any, range_with_len}
-use Rattle.std.specs.Option.{option_or}
-use Rattle.std.proofs.lemmas.Bool.{eq-eqb, ne_eqb, eqb-true, ltb-true, ltb-false, true≢false}
-use Rattle.std.proofs.lemmas.List.{map-append}
+use Rattle.std.proofs.Common.{◌≡◌, ◌≢◌, ℕ, zero, suc, ◌+◌, ◌-◌, ◌<◌, ◌==◌, Bool, true, false, not, ◌&&◌, ◌||◌, nat_lt, cond, List, [], ◌∷◌, ◌++◌, map, length, Option, None, is_some, slice_index, slice_set, if◌then◌else◌, refl, sym, ap, subst, ◌∙◌, append_assoc, append-nil, length-append, arith}
+use Rattle.std.specs.List.{find, list_any, range_with_len}
+use Rattle.std.proofs.lemmas.Bool.{eq-eqb, eqb-true, ltb-true, ltb-false, true≢false}
 use Rattle.std.proofs.lemmas.List.Sums.{fold-append}
-use Rattle.std.proofs.lemmas.List.Folds.{list_any-append, find-append}
+use Rattle.std.proofs.lemmas.List.Folds.{list_any-append}
 use Rattle.std.proofs.lemmas.List.Elements.{filter-append}
 use Rattle.std.proofs.Math.Bool.{or-false}
 use Rattle.kube_model.specs.World.{World, Feed, Watched, Streamed, Queued, feed_of, is_queue, is_watched}
 use Rattle.kube_model.specs.History.{Dated, Exchange, dated_of}
 use Rattle.kube_model.specs.Owed.{is_not_ready, is_end}
 use Rattle.kube_model.specs.Cuts.{last}
-use Rattle.kube_model.specs.Pause.{Pause, pause_of, pause_after, pause_by, pause_asked, has_requests, gave_up, is_paused}
+use Rattle.kube_model.specs.Pause.{Pause, pause_of, pause_after, pause_by, pause_asked, has_requests, gave_up}
 use Rattle.kube_model.specs.declared.turn.Stop.TheVariants as stops
+use Rattle.std.proofs.Math.Dec.{eqb-suc-zero, eqb-zero-suc, eqb-suc-suc}
+use Rattle.std.proofs.Math.Bool.{or-true}
 use Rattle.kube_model.specs.Asks.{told_not_ready, has_budget, has_run_dry, in_turn, in_turn_after, is_quiet, may_be_asked, next_asked, stop_of, stops_of}
 use Rattle.kube_model.proofs.Lasts.{last-push}
 use Rattle.kube_model.proofs.Alls.{find-same}
 use Rattle.kube_asks.specs.Sources.{is_stream}
-use Rattle.kube_asks.specs.Kept.{AskKept, IsKept, is_in, is_quiet_by, has_budget_by, may_ask_by, stop_by, begun, pause_noted, added_where, is_stream_end, spent_at, noted, total}
+use Rattle.kube_asks.specs.Kept.{AskKept, IsKept, is_marked, with_mark, is_quiet_by, has_budget_by, may_ask_by, stop_by, begun, pause_noted, marked_where, is_stream_end, spent_at, noted, total}
 use Rattle.kube_asks.proofs.Bools.{and-or}
 
 assoc : {A : Type 0} (xs ys : List A) (x : A) → xs ++ (ys ++ x ∷ []) ≡ (xs ++ ys) ++ x ∷ []
@@ -91,13 +91,23 @@ module _ {O : Type 0} where
       ∙ (list_any-append p (dated_of s ds) (cond (d.exchange.source == s) (d ∷ []) [])
       ∙ ap (λ b. list_any p (dated_of s ds) || b) (any-one p (d.exchange.source == s) d))
 
-added-in : (b : Bool) (xs : List ℕ) (source s : ℕ) → is_in (added_where b xs source) s ≡ is_in xs s || (source == s) && b
-added-in true xs source s = list_any-append (λ x. x == s) xs (source ∷ []) ∙ go (source == s)
+marked-in : (marks : List Bool) (source s : ℕ) → is_marked (with_mark marks source) s ≡ is_marked marks s || (source == s)
+marked-in [] zero zero = refl
+marked-in [] zero (suc s) = sym (eqb-zero-suc s)
+marked-in [] (suc source) zero = sym (eqb-suc-zero source)
+marked-in [] (suc source) (suc s) = marked-in [] source s ∙ sym (eqb-suc-suc source s)
+marked-in (m ∷ ms) zero zero = sym (or-true m)
+marked-in (m ∷ ms) zero (suc s) = sym (ap (λ b. is_marked ms s || b) (eqb-zero-suc s) ∙ or-false (is_marked ms s))
+marked-in (m ∷ ms) (suc source) zero = sym (ap (λ b. m || b) (eqb-suc-zero source) ∙ or-false m)
+marked-in (m ∷ ms) (suc source) (suc s) = marked-in ms source s ∙ ap (λ b. is_marked ms s || b) (sym (eqb-suc-suc source s))
+
+added-in : (b : Bool) (marks : List Bool) (source s : ℕ) → is_marked (marked_where b marks source) s ≡ is_marked marks s || (source == s) && b
+added-in true marks source s = marked-in marks source s ∙ go (source == s)
   where
-    go : (c : Bool) → (is_in xs s || (c || false)) ≡ (is_in xs s || c && true)
+    go : (c : Bool) → (is_marked marks s || c) ≡ (is_marked marks s || c && true)
     go true = refl
     go false = refl
-added-in false xs source s = go (is_in xs s) (source == s)
+added-in false marks source s = go (is_marked marks s) (source == s)
   where
     go : (a c : Bool) → a ≡ (a || c && false)
     go true c = refl
@@ -180,7 +190,7 @@ module _ {O B : Type 0} (w : World O B) where
   pub quiet-same : (budget : List ℕ) (before mine : List (Dated O)) (k : AskKept B) → IsKept w budget before mine k → (source : ℕ)
       → is_quiet_by k source ≡ is_quiet w budget before mine source
   quiet-same budget before mine k h source =
-      ap (λ b. b || is_in k.dry source) (h.quiet source) ∙ ap (λ b. told_not_ready source mine || b) (h.dry source)
+      ap (λ b. b || is_marked k.dry source) (h.quiet source) ∙ ap (λ b. told_not_ready source mine || b) (h.dry source)
 
   pub budget-same : (budget : List ℕ) (before mine : List (Dated O)) (k : AskKept B) → IsKept w budget before mine k → (source : ℕ)
       → has_budget_by k source ≡ has_budget budget mine source

@@ -1,6 +1,6 @@
 -- What is kept of the asks, and how it follows the exchanges. B is the type of a backoff's states.
-use Rattle.std.specs.Prelude.{◌≡◌, ℕ, ◌+◌, ◌-◌, ◌≤◌, ◌==◌, nat_lt, Bool, true, false, not, ◌&&◌, ◌||◌, List, [], ◌∷◌, ◌++◌, length, Option, is_some, if◌then◌else◌, slice_index, slice_set}
-use Rattle.std.specs.List.{list_any, range_with_len}
+use Rattle.std.specs.Prelude.{◌≡◌, ℕ, zero, suc, ◌+◌, ◌-◌, ◌≤◌, ◌==◌, nat_lt, Bool, true, false, not, ◌&&◌, ◌||◌, List, [], ◌∷◌, ◌++◌, length, Option, is_some, unwrap_or, if◌then◌else◌, slice_get, slice_index, slice_set}
+use Rattle.std.specs.List.{range_with_len}
 use Rattle.kube_model.specs.declared.turn.Stop.{Stop}
 use Rattle.kube_model.specs.declared.turn.Stop.TheVariants as stops
 use Rattle.kube_model.specs.World.{World, Feed, is_queue}
@@ -10,27 +10,35 @@ use Rattle.kube_model.specs.Owed.{is_not_ready, is_end}
 use Rattle.kube_model.specs.Asks.{told_not_ready, has_run_dry, in_turn}
 use Rattle.kube_asks.specs.Sources.{is_stream}
 
--- the pause, the number after that of the source asked last, what is left of each budget, the sources that told not ready in this turn, and those that have ended
+-- the pause, the number after that of the source asked last, what is left of each budget, and marks of the sources that told not ready in this turn and of those that have ended
 pub record AskKept (B : Type 0) : Type 0 where
   pub pause : Pause B
   pub after : ℕ
   pub left : List ℕ
-  pub quiet : List ℕ
-  pub dry : List ℕ
+  pub quiet : List Bool
+  pub dry : List Bool
 
 -- all that is left of the budgets
 abbrev pub total : List ℕ → ℕ
 total [] = 0
 total (n ∷ ns) = n + total ns
 
-abbrev pub is_in : List ℕ → ℕ → Bool
-is_in xs source = list_any (λ x. x == source) xs
+-- whether this source is marked; one for which there is no mark is not
+abbrev pub is_marked : List Bool → ℕ → Bool
+is_marked marks source = unwrap_or (slice_get marks source) false
+
+-- with this one marked too
+abbrev pub with_mark : List Bool → ℕ → List Bool
+with_mark [] zero = true ∷ []
+with_mark [] (suc source) = false ∷ with_mark [] source
+with_mark (m ∷ ms) zero = true ∷ ms
+with_mark (m ∷ ms) (suc source) = m ∷ with_mark ms source
 
 -- By what is kept.
 
 -- whether this source told not ready in the turn or has ended
 abbrev pub is_quiet_by : {B : Type 0} → AskKept B → ℕ → Bool
-is_quiet_by k source = is_in k.quiet source || is_in k.dry source
+is_quiet_by k source = is_marked k.quiet source || is_marked k.dry source
 
 abbrev pub has_budget_by : {B : Type 0} → AskKept B → ℕ → Bool
 has_budget_by k source = nat_lt 0 (slice_index k.left source)
@@ -52,8 +60,8 @@ pub record IsKept {O B : Type 0} (w : World O B) (budget : List ℕ) (before min
   pub order : in_turn w (before ++ mine) ≡ range_with_len k.after (length w.feeds - k.after) ++ range_with_len 0 k.after
   pub small : k.after ≤ length w.feeds
   pub left : (source : ℕ) → slice_index k.left source ≡ slice_index budget source - length (dated_of source mine)
-  pub quiet : (source : ℕ) → is_in k.quiet source ≡ told_not_ready source mine
-  pub dry : (source : ℕ) → is_in k.dry source ≡ has_run_dry w (before ++ mine) source
+  pub quiet : (source : ℕ) → is_marked k.quiet source ≡ told_not_ready source mine
+  pub dry : (source : ℕ) → is_marked k.dry source ≡ has_run_dry w (before ++ mine) source
 
 -- before the first turn
 abbrev pub at_first : {B : Type 0} → B → AskKept B
@@ -79,8 +87,8 @@ pause_noted delay delayed restarted false p at x = reset_where restarted (has_re
 abbrev pub is_stream_end : {O : Type 0} → Exchange O → Bool
 is_stream_end x = is_stream x.call && is_end x.answer
 
-abbrev pub added_where : Bool → List ℕ → ℕ → List ℕ
-added_where b xs source = if b then xs ++ source ∷ [] else xs
+abbrev pub marked_where : Bool → List Bool → ℕ → List Bool
+marked_where b marks source = if b then with_mark marks source else marks
 
 -- one of this source is used up
 abbrev pub spent_at : List ℕ → ℕ → List ℕ
@@ -92,8 +100,8 @@ noted delay delayed restarted queue k at source x = record {
   pause = pause_noted delay delayed restarted queue k.pause at x;
   after = source + 1;
   left = spent_at k.left source;
-  quiet = added_where (is_not_ready x.answer) k.quiet source;
-  dry = added_where (is_stream_end x) k.dry source;
+  quiet = marked_where (is_not_ready x.answer) k.quiet source;
+  dry = marked_where (is_stream_end x) k.dry source;
 }
 
 -- whether it is a root whose end gives up and which nothing pauses

@@ -3,3 +3,7 @@ pub mod Sources
 pub mod Places
 pub mod Kept
 pub mod Asking
+pub mod Noting
+pub mod Roots
+pub mod Mapped
+pub mod Lending

@@ -11,15 +11,17 @@ ghost use Rattle.kube_model.specs.Asks.{next_asked, stops_of};
 ghost use Rattle.kube_watch.specs.Polls.{dated_now};
 ghost use Rattle.kube_turn.specs.Views.{exchange_of};
 ghost use Rattle.kube_asks.specs.Sources.{is_stream};
-ghost use Rattle.kube_asks.specs.Kept.{is_in, may_ask_by, is_quiet_by, has_budget_by, stop_by, noted, spent_at, pause_noted, added_where, is_stream_end as ended, is_root_queue, total, asked_where, reset_where};
-ghost use Rattle.kube_asks.specs.Asking.{AskStands, IsNextAsked, IsWorldOf, Asking, asking_at_first, asking_begun, with_asked, SourcesStand, of_source, with_pause, IsPolledAt, IsBrokenAt, IfUnnamed};
+ghost use Rattle.kube_asks.specs.Kept.{is_marked, with_mark, may_ask_by, is_quiet_by, has_budget_by, stop_by, noted, spent_at, pause_noted, marked_where, is_stream_end as ended, is_root_queue, total, asked_where, reset_where};
+ghost use Rattle.kube_asks.specs.Asking.{AskStands, IsNextAsked, IsWorldOf, Asking, asking_at_first, asking_begun, with_asked, SourcesStand, of_source, with_pause, IsPolledAt, IsBrokenAt, IsLostAt, IfUnnamed};
 
-use crate::backoff::Backoff;
 use crate::root::RootSource;
 use crate::set::RelatedSet;
+use crate::watch_root::WatchRoot;
+use kube_api::ApiMode;
 use kube_meta::{List, Moment, NoMemory, Resource};
 use kube_model::call::{Answer, Call};
 use kube_model::turn::Stop;
+use kube_streams::Backoff;
 use kube_turn::SourceExchange;
 use kube_watch::StreamFault;
 use std::alloc::Global;
@@ -64,10 +66,10 @@ pub struct Asks<R, S, B> {
     after: u32,
     /// What is left of each source's budget.
     left: Vec<u32>,
-    /// The sources that told not ready in this turn.
-    quiet: Vec<u32>,
-    /// The streams that have ended.
-    dry: Vec<u32>,
+    /// Whether each source told not ready in this turn.
+    quiet: Vec<bool>,
+    /// Whether each source is a stream that has ended.
+    dry: Vec<bool>,
     spent: bool,
 }
 
@@ -90,11 +92,14 @@ impl<R, S, B> Model for Asks<R, S, B> {
     } };
 }
 
-/// Whether a number is among these.
-fn contains(sources: &[u32], source: u32) -> bool
-    ensures { result ≡ is_in sources.now source }
+/// Whether a source is marked.
+fn is_marked(marks: &[bool], source: u32) -> bool
+    ensures { result ≡ is_marked marks.now source }
 {
-    sources.iter().any(|other| *other == source)
+    match marks.get(source as usize) {
+        Some(mark) => *mark,
+        None => false,
+    }
 }
 
 /// Uses up one of a source's budget.
@@ -107,12 +112,24 @@ fn spend(left: &mut Vec<u32>, source: u32)
     }
 }
 
-/// Adds a source, where this holds.
-fn add_where(holds: bool, sources: &mut Vec<u32>, source: u32) -> Result<(), NoMemory>
-    ensures { OnOk result (sources.new.items ≡ added_where holds sources.old.items source) }
+/// Marks a source.
+fn mark(marks: &mut Vec<bool>, source: u32) -> Result<(), NoMemory>
+    ensures { OnOk result (marks.new.items ≡ with_mark marks.old.items source) }
+{
+    let place = source as usize;
+    for _missing in marks.len()..place + 1 {
+        marks.push(false)?;
+    }
+    marks[place] = true;
+    Ok(())
+}
+
+/// Marks a source, where this holds.
+fn mark_where(holds: bool, marks: &mut Vec<bool>, source: u32) -> Result<(), NoMemory>
+    ensures { OnOk result (marks.new.items ≡ marked_where holds marks.old.items source) }
 {
     if holds {
-        sources.push(source)?;
+        mark(marks, source)?;
     }
     Ok(())
 }
@@ -150,7 +167,7 @@ impl<R: RootSource, S: RelatedSet<R::Object>, B: Backoff> Asks<R, S, B> {
     fn is_quiet(&self, source: u32) -> bool
         ensures { result ≡ is_quiet_by self.now.kept source }
     {
-        contains(&self.quiet, source) || contains(&self.dry, source)
+        is_marked(&self.quiet, source) || is_marked(&self.dry, source)
     }
 
     /// Whether a source has budget left.
@@ -314,8 +331,8 @@ impl<R: RootSource, S: RelatedSet<R::Object>, B: Backoff> Asks<R, S, B> {
         self.after = source + 1;
         spend(&mut self.left, source);
         let unready = matches!(&exchange.answer, Answer::NotReady);
-        add_where(unready, &mut self.quiet, source)?;
-        add_where(is_stream_end(exchange), &mut self.dry, source)
+        mark_where(unready, &mut self.quiet, source)?;
+        mark_where(is_stream_end(exchange), &mut self.dry, source)
     }
 
     /// The first source in turn that may be asked.
@@ -354,6 +371,7 @@ impl<R: RootSource, S: RelatedSet<R::Object>, B: Backoff> Asks<R, S, B> {
         ensures polled { IfOk result (λ x. (ds : List (Dated R.Object)) → SourcesStand (R.stands self.old.root) (S.stands self.old.related) (length (S.feeds self.old.related)) ds
             → IsPolledAt R.polls S.polls ds now.0 (of_source source (exchange_of R.Object.type_of x)) self.old.root self.old.related self.new.root self.new.related source) }
         ensures unnamed { IsErrOf result StreamFault.Unnamed → IsBrokenAt R.breaks S.breaks now.0 self.old.root self.old.related self.new.root self.new.related source }
+        ensures lost { IsErrOf result StreamFault.NoMemory → IsBrokenAt R.loses S.loses now.0 self.old.root self.old.related self.new.root self.new.related source }
         ensures kept { self.new.kept ≡ self.old.kept }
         ensures spent { self.new.is_spent ≡ self.old.is_spent }
         ensures feed { R.feed self.new.root ≡ R.feed self.old.root }
@@ -389,6 +407,7 @@ impl<R: RootSource, S: RelatedSet<R::Object>, B: Backoff> Asks<R, S, B> {
         ensures polled { IfOk result (λ x. (ds : List (Dated R.Object)) → SourcesStand (R.stands self.old.root) (S.stands self.old.related) (length (S.feeds self.old.related)) ds
             → IsPolledAt R.polls S.polls ds now.0 (exchange_of R.Object.type_of x) self.old.root self.old.related self.new.root self.new.related source) }
         ensures unnamed { IfErr result (λ f. IfUnnamed f (λ s. (s ≡ source) × IsBrokenAt R.breaks S.breaks now.0 self.old.root self.old.related self.new.root self.new.related source)) }
+        ensures lost { IfErr result (λ f. f ≡ AskFault.NoMemory → IsBrokenAt R.loses S.loses now.0 self.old.root self.old.related self.new.root self.new.related source) }
         ensures fault { IfErr result (λ f. f ≢ AskFault.Spent) }
         ensures kept { self.new.kept ≡ self.old.kept }
         ensures spent { self.new.is_spent ≡ self.old.is_spent }
@@ -420,7 +439,8 @@ impl<R: RootSource, S: RelatedSet<R::Object>, B: Backoff> Asks<R, S, B> {
     /// source may be asked any more.
     ///
     /// The exchange is that of the next source in turn, after the one of the latest exchange, that has budget left, has not
-    /// told not ready in this turn and is no stream that has ended. A call takes no memory but for the exchange.
+    /// told not ready in this turn and is no stream that has ended. A call takes time linear in the number of sources, and no
+    /// memory but for the exchange and, once for each source, its marks.
     ///
     /// # Errors
     ///
@@ -450,6 +470,14 @@ impl<R: RootSource, S: RelatedSet<R::Object>, B: Backoff> Asks<R, S, B> {
             → IsWorldOf w (R.kind self.old.root) R.Object.meta_of (R.feed self.old.root) (S.feeds self.old.related) B.delay B.delayed B.restarted
             → AskStands w (R.stands self.old.root) (S.stands self.old.related) (length (S.feeds self.old.related)) budget before mine self.old.kept
             → next_asked w budget before mine now.0 ≡ Some source))) }
+        // where memory is wanting, the next source alone was asked
+        ensures lost { IfErr result (λ f. f ≡ AskFault.NoMemory → (source : ℕ)
+            × IsLostAt R.polls S.polls R.loses S.loses (SourcesStand (R.stands self.old.root) (S.stands self.old.related) (length (S.feeds self.old.related))) now.0
+            self.old.root self.old.related self.new.root self.new.related source
+            × ((w : World R.Object B) (budget : List ℕ) (before mine : List (Dated R.Object))
+            → IsWorldOf w (R.kind self.old.root) R.Object.meta_of (R.feed self.old.root) (S.feeds self.old.related) B.delay B.delayed B.restarted
+            → AskStands w (R.stands self.old.root) (S.stands self.old.related) (length (S.feeds self.old.related)) budget before mine self.old.kept
+            → next_asked w budget before mine now.0 ≡ Some source)) }
         // each exchange uses up one of a budget, so asking ends
         ensures uses_up { IfOk result (λ o. IfSome o (λ x. total self.new.kept.left < total self.old.kept.left)) }
         ensures feeds { S.feeds self.new.related ≡ S.feeds self.old.related }
@@ -517,5 +545,19 @@ impl<R: RootSource, S: RelatedSet<R::Object>, B: Backoff> Asks<R, S, B> {
             → stops ≡ stops_of w budget before mine shut) }
     {
         self.all_stops(alloc, self.count(), shut)
+    }
+}
+
+impl<A: ApiMode, S, B> Asks<WatchRoot<A>, S, B> {
+    ghost use Rattle.std.specs.Borrow.{sem};
+    ghost use Rattle.kube_watch.specs.Stands.{api_of};
+    ghost use Rattle.kube_asks.specs.Lending.{LendsAskedApi};
+
+    /// The API of the root. All else is as before.
+    pub fn root_api(&mut self) -> &mut A
+        ensures* lends { sem 𝓛 (LendsAskedApi A.row A.Value.row A.Value.DynamicType.row A.ApiMode A.Value.Resource A.Value.DynamicType.Hash S.row B.row self.entry result) }
+        ensures value { result.now ≡ api_of self.old.root.watcher }
+    {
+        self.root.api_mut()
     }
 }

@@ -34,6 +34,9 @@ pub trait Related<K: Resource>: Drop {
     /// What an item without a name at a moment makes of it, where it says so.
     ghost breaks: { Self → ℕ → Self → Type 0 } = { λ _ _ _. ⊤ };
 
+    /// What want of memory at a moment makes of it, where it says so: what it may have asked by then.
+    ghost loses: { Self → ℕ → Self → Type 0 } = { λ _ _ _. ⊤ };
+
     /// Makes the exchange that is next for it, at a moment.
     ///
     /// Errors: `Unnamed` where an item of that exchange must become a reference and has no name; `NoMemory`. After one it
@@ -47,5 +50,6 @@ pub trait Related<K: Resource>: Drop {
             → stands self.new (own ++ dated_now now.0 y ∷ [])) }
         ensures polls { IfOk result (λ x. (own : List (Dated K)) (y : Exchange K) → stands self.old own → IsSame (exchange_of K.type_of x) y
             → polls self.old own now.0 y self.new) }
-        ensures unnamed { IsErrOf result StreamFault.Unnamed → breaks self.old now.0 self.new };
+        ensures unnamed { IsErrOf result StreamFault.Unnamed → breaks self.old now.0 self.new }
+        ensures lost { IsErrOf result StreamFault.NoMemory → loses self.old now.0 self.new };
 }

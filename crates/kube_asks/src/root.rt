@@ -38,6 +38,9 @@ pub trait RootSource: Drop {
     /// What an item without a name at a moment makes of it, where it says so.
     ghost breaks: { Self → ℕ → Self → Type 0 } = { λ _ _ _. ⊤ };
 
+    /// What want of memory at a moment makes of it, where it says so: what it may have asked by then.
+    ghost loses: { Self → ℕ → Self → Type 0 } = { λ _ _ _. ⊤ };
+
     /// Whether its end gives up and nothing pauses it.
     fn is_queue(&self) -> bool
         ensures { result ≡ is_queue (feed self.now) };
@@ -60,5 +63,6 @@ pub trait RootSource: Drop {
         ensures stands { IfOk result (λ x. (own : List (Dated Self.Object)) (y : Exchange Self.Object) → stands self.old own → IsSame (exchange_of Self.Object.type_of x) y
             → stands self.new (own ++ dated_now now.0 y ∷ [])) }
         ensures polls { IfOk result (λ x. (own : List (Dated Self.Object)) → stands self.old own → polls self.old own now.0 (exchange_of Self.Object.type_of x) self.new) }
-        ensures unnamed { IsErrOf result StreamFault.Unnamed → breaks self.old now.0 self.new };
+        ensures unnamed { IsErrOf result StreamFault.Unnamed → breaks self.old now.0 self.new }
+        ensures lost { IsErrOf result StreamFault.NoMemory → loses self.old now.0 self.new };
 }

@@ -34,6 +34,9 @@ pub trait RelatedSet<K: Resource>: Drop {
     /// What an item without a name of the source at a place, at a moment, makes of the set.
     ghost breaks: { Self → ℕ → ℕ → Self → Type 0 };
 
+    /// What want of memory at the source at a place, at a moment, makes of the set.
+    ghost loses: { Self → ℕ → ℕ → Self → Type 0 };
+
     /// How many sources there are.
     fn count(&self) -> u32
         requires { length (feeds self.now) < 2 ^ 32 }
@@ -59,5 +62,6 @@ pub trait RelatedSet<K: Resource>: Drop {
         ensures others { (p : ℕ) (own : List (Dated K)) → p ≢ place → stands self.old p own → stands self.new p own }
         ensures polls { IfOk result (λ x. (own : List (Dated K)) (y : Exchange K) → stands self.old place own → IsSame (exchange_of K.type_of x) y
             → polls self.old place own now.0 y self.new) }
-        ensures unnamed { IsErrOf result StreamFault.Unnamed → breaks self.old place now.0 self.new };
+        ensures unnamed { IsErrOf result StreamFault.Unnamed → breaks self.old place now.0 self.new }
+        ensures lost { IsErrOf result StreamFault.NoMemory → loses self.old place now.0 self.new };
 }

@@ -1,4 +1,4 @@
-//! The sets of related sources: none, one, a list of one type, and two sets beside each other.
+//! The sets of related sources: none, one, and two sets beside each other.
 
 ghost use Rattle.std.specs.Prelude.{◌≡◌, ◌∷◌, [], ◌++◌, ◌+◌, ◌-◌, ◌<◌, ◌^◌, ◌==◌, length, map, nat_lt, Err, ⊤};
 ghost use Rattle.kube_asks.specs.Places.{Either, HoldsAt, ChangesAt};
@@ -27,6 +27,8 @@ impl<K: Resource> RelatedSet<K> for NoRelated {
     ghost polls = { λ s p own now x s'. ⊥ };
 
     ghost breaks = { λ s p now s'. ⊤ };
+
+    ghost loses = { λ s p now s'. ⊤ };
 
     fn count(&self) -> u32 {
         0
@@ -62,6 +64,8 @@ impl<K: Resource, T: Related<K>> RelatedSet<K> for One<T> {
     ghost polls = { λ s p own now x s'. Either (p == 0) (T.polls s.0 own now x s'.0) ⊤ };
 
     ghost breaks = { λ s p now s'. T.breaks s.0 now s'.0 };
+
+    ghost loses = { λ s p now s'. T.loses s.0 now s'.0 };
 
     fn count(&self) -> u32 {
         1
@@ -102,6 +106,10 @@ impl<K: Resource, S: RelatedSet<K>, T: RelatedSet<K>> RelatedSet<K> for Beside<S
         (S.breaks s.first p now s'.first × (s'.rest ≡ s.rest))
         (T.breaks s.rest (p - length (S.feeds s.first)) now s'.rest × (s'.first ≡ s.first)) };
 
+    ghost loses = { λ s p now s'. Either (nat_lt p (length (S.feeds s.first)))
+        (S.loses s.first p now s'.first × (s'.rest ≡ s.rest))
+        (T.loses s.rest (p - length (S.feeds s.first)) now s'.rest × (s'.first ≡ s.first)) };
+
     fn count(&self) -> u32 {
         self.first.count() + self.rest.count()
     }
@@ -118,41 +126,5 @@ impl<K: Resource, S: RelatedSet<K>, T: RelatedSet<K>> RelatedSet<K> for Beside<S
         } else {
             self.rest.poll_at(alloc, place - before, now)
         }
-    }
-}
-
-/// Sources of one type, at their places in the list.
-#[derive(Drop)]
-pub struct RelatedList<T> {
-    pub items: Vec<T>,
-}
-
-impl<K: Resource, T: Related<K>> RelatedSet<K> for RelatedList<T> {
-    ghost use Rattle.std.specs.Prelude.{map};
-    ghost use Rattle.std.specs.List.{AllByRecursion};
-    ghost use Rattle.kube_asks.specs.Places.{HoldsAt, ChangesAt};
-
-    ghost feeds = { λ s. map T.settings s.items.items };
-
-    ghost can_poll = { λ s. AllByRecursion T.can_poll s.items.items };
-
-    ghost stands = { λ s p own. HoldsAt (λ t. T.stands t own) s.items.items p };
-
-    ghost polls = { λ s p own now x s'. ChangesAt (λ t u. T.polls t own now x u) p s.items.items s'.items.items };
-
-    ghost breaks = { λ s p now s'. ChangesAt (λ t u. T.breaks t now u) p s.items.items s'.items.items };
-
-    fn count(&self) -> u32 {
-        self.items.len() as u32
-    }
-
-    fn poll_at(
-        &mut self,
-        alloc: Global,
-        place: u32,
-        now: Moment,
-    ) -> Result<SourceExchange<K>, StreamFault> {
-        let source = &mut self.items[place as usize];
-        source.poll_unit(alloc, now)
     }
 }

@@ -1,5 +1,4 @@
-use Rattle.std.proofs.Common.{◌++◌, [], List, length, sym, subst, append-nil}
-use Rattle.kube_model.specs.History.{Dated}
+use Rattle.std.proofs.Common.{◌++◌, [], length, sym, subst, append-nil}
 use Rattle.kube_asks.specs.Asking.{Asking, AskStands, SourcesStand}
 use Rattle.kube_asks.proofs.Pushes.{kept-begun}
 use Rattle.kube_asks.proofs.asks.Asks.begin.Goals as goal

@@ -1,5 +1,4 @@
-use Rattle.std.proofs.Common.{◌≡◌, [], List, length, refl, sym, ap, subst}
-use Rattle.kube_model.specs.History.{Dated}
+use Rattle.std.proofs.Common.{[], length, sym, ap, subst}
 use Rattle.kube_asks.specs.Kept.{at_first}
 use Rattle.kube_asks.specs.Asking.{Asking, AskStands}
 use Rattle.kube_asks.proofs.Pushes.{kept-first}

@@ -1,14 +1,13 @@
-use Rattle.std.proofs.Common.{◌≡◌, ℕ, ◌<◌, ◌+◌, ◌++◌, [], ◌∷◌, List, Some, None, not, nat_lt, slice_index, length, refl, sym, ap, subst, ◌∙◌, arith}
-use Rattle.kube_model.specs.World.{World, feed_of, is_watched}
-use Rattle.kube_model.specs.History.{Dated}
+use Rattle.std.proofs.Common.{◌≡◌, ℕ, ◌<◌, ◌+◌, ◌++◌, [], ◌∷◌, Some, not, nat_lt, slice_index, length, sym, ap, subst, ◌∙◌}
+use Rattle.kube_model.specs.World.{feed_of, is_watched}
 use Rattle.kube_turn.specs.Views.{exchange_of}
 use Rattle.kube_watch.specs.Polls.{dated_now}
 use Rattle.kube_asks.specs.Kept.{AskKept, noted, is_root_queue, spent_at, total}
-use Rattle.kube_asks.specs.Asking.{Asking, AskStands, SourcesStand, IsWorldOf, IsNextAsked, with_asked, IsPolledAt, IsBrokenAt, IfUnnamed}
+use Rattle.kube_asks.specs.Asking.{Asking, SourcesStand, IsWorldOf, IsPolledAt, IsBrokenAt, InItsPoll, AfterItsPoll, IfUnnamed}
 use Rattle.std.proofs.lemmas.Result.{err_from_is_err_and}
 use Rattle.kube_asks.specs.declared.asks.AskFault.{AskFault}
 use Rattle.kube_asks.specs.declared.asks.AskFault.TheVariants.{NoMemory, Unnamed, Spent}
-use Rattle.kube_asks.proofs.Nexts.{next-is, next-made, chosen}
+use Rattle.kube_asks.proofs.Nexts.{next-is, next-made}
 use Rattle.kube_asks.proofs.Pushes.{total-spent, left-of}
 use Rattle.kube_asks.proofs.asks.Asks.next.Goals as goal
 
@@ -85,3 +84,30 @@ returns-in_err-exchange-clause-unnamed g c =
           next-is w _ _ _ _ _ _ _ world budget before mine _ c.args.now.0 h.kept (sym c.is_held.ensures ∙ c.if-is_held.false) ∙ (sym c.next_source.ensures.found ∙ (c.in-Some.is ∙ ap Some (sym b.0))),
     ))
     c.in_err-exchange.ensures.unnamed)
+
+pub returns-in_err-exchange-clause-lost : goal.returns-in_err-exchange-clause-lost
+returns-in_err-exchange-clause-lost g c =
+    let p = err_from_is_err_and c.from_residual.result c.from_residual.ensures.1 in
+    rw (p.1, p.2) (λ e. (
+      c.in-Some.source,
+      InItsPoll (subst (λ (a : Asking g.row.R.Denot g.row.S.Denot g.row.B.Denot). IsBrokenAt g.R.RootSource.loses g.S.RelatedSet.loses c.args.now.0 a.root a.related c.poll.new.self.root c.poll.new.self.related c.in-Some.source)
+          c.self.view_is (c.in_err-exchange.ensures.lost e)),
+      λ w budget before mine world h.
+          next-is w _ _ _ _ _ _ _ world budget before mine _ c.args.now.0 h.kept (sym c.is_held.ensures ∙ c.if-is_held.false) ∙ (sym c.next_source.ensures.found ∙ c.in-Some.is),
+    ))
+
+pub returns-in_err-note-clause-lost : goal.returns-in_err-note-clause-lost
+returns-in_err-note-clause-lost g c =
+    let p = err_from_is_err_and c.from_residual-in_err-note.result c.from_residual-in_err-note.ensures.1 in
+    let x = exchange_of g.R.Object.Resource.type_of c.in_ok-exchange.exchange in
+    rw (p.1, p.2) (λ e. (
+      c.in-Some.source,
+      AfterItsPoll x (λ ds h.
+          let sources' = subst (λ (a : Asking g.row.R.Denot g.row.S.Denot g.row.B.Denot). SourcesStand (g.R.RootSource.stands a.root) (g.S.RelatedSet.stands a.related) (length (g.S.RelatedSet.feeds a.related)) ds) (sym c.self.view_is) h in
+          subst (λ r. IsPolledAt g.R.RootSource.polls g.S.RelatedSet.polls ds c.args.now.0 x c.args.self.now.root c.args.self.now.related r c.note.new.self.related c.in-Some.source) (sym c.in_err-note.ensures.root)
+          (subst (λ r. IsPolledAt g.R.RootSource.polls g.S.RelatedSet.polls ds c.args.now.0 x c.args.self.now.root c.args.self.now.related c.poll.new.self.root r c.in-Some.source) (sym c.in_err-note.ensures.related)
+          (subst (λ (a : Asking g.row.R.Denot g.row.S.Denot g.row.B.Denot). IsPolledAt g.R.RootSource.polls g.S.RelatedSet.polls ds c.args.now.0 x a.root a.related c.poll.new.self.root c.poll.new.self.related c.in-Some.source) c.self.view_is
+          (c.in_ok-exchange.ensures.polled ds sources')))),
+      λ w budget before mine world h.
+          next-is w _ _ _ _ _ _ _ world budget before mine _ c.args.now.0 h.kept (sym c.is_held.ensures ∙ c.if-is_held.false) ∙ (sym c.next_source.ensures.found ∙ c.in-Some.is),
+    ))

@@ -1,6 +1,6 @@
-use Rattle.std.proofs.Common.{◌≡◌, refl, ◌<◌, ◌-◌, ◌+◌, ◌++◌, [], ◌∷◌, suc, not, List, length, sym, ap, subst, ◌∙◌, arith}
-use Rattle.kube_model.specs.World.{World, feed_of, is_watched}
-use Rattle.kube_model.specs.History.{Dated, dated_of}
+use Rattle.std.proofs.Common.{◌≡◌, refl, ◌<◌, ◌-◌, ◌+◌, ◌++◌, [], ◌∷◌, suc, not, length, sym, ap, subst, arith}
+use Rattle.kube_model.specs.World.{feed_of, is_watched}
+use Rattle.kube_model.specs.History.{dated_of}
 use Rattle.kube_model.specs.Fits.{IsFitting}
 use Rattle.kube_turn.specs.Views.{exchange_of}
 use Rattle.kube_watch.specs.Polls.{dated_now}
@@ -90,3 +90,15 @@ returns-else-source-eq0-clause-unnamed g c e =
     subst (λ (a : Asking g.row.R.Denot g.row.S.Denot g.row.B.Denot). IsBrokenAt g.R.RootSource.breaks g.S.RelatedSet.breaks c.args.now.0 a.root a.related c.self.inside.root c.poll_at.new.self c.args.source) c.self.view_is
     (subst (λ s. IsBrokenAt g.R.RootSource.breaks g.S.RelatedSet.breaks c.args.now.0 c.self.inside.root c.self.inside.related c.self.inside.root c.poll_at.new.self s) (suc-pred c.args.source c.if-source-eq0.false)
     (c.poll_at.ensures.unnamed e, refl))
+
+pub returns-then-source-eq0-clause-lost : goal.returns-then-source-eq0-clause-lost
+returns-then-source-eq0-clause-lost g c e =
+    subst (λ (a : Asking g.row.R.Denot g.row.S.Denot g.row.B.Denot). IsBrokenAt g.R.RootSource.loses g.S.RelatedSet.loses c.args.now.0 a.root a.related c.poll_root.new.self c.self.inside.related c.args.source) c.self.view_is
+    (subst (λ s. IsBrokenAt g.R.RootSource.loses g.S.RelatedSet.loses c.args.now.0 c.self.inside.root c.self.inside.related c.poll_root.new.self c.self.inside.related s) (sym c.if-source-eq0.true)
+    (c.poll_root.ensures.lost e, refl))
+
+pub returns-else-source-eq0-clause-lost : goal.returns-else-source-eq0-clause-lost
+returns-else-source-eq0-clause-lost g c e =
+    subst (λ (a : Asking g.row.R.Denot g.row.S.Denot g.row.B.Denot). IsBrokenAt g.R.RootSource.loses g.S.RelatedSet.loses c.args.now.0 a.root a.related c.self.inside.root c.poll_at.new.self c.args.source) c.self.view_is
+    (subst (λ s. IsBrokenAt g.R.RootSource.loses g.S.RelatedSet.loses c.args.now.0 c.self.inside.root c.self.inside.related c.self.inside.root c.poll_at.new.self s) (suc-pred c.args.source c.if-source-eq0.false)
+    (c.poll_at.ensures.lost e, refl))

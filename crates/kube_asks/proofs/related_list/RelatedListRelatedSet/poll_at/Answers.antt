@@ -1,11 +1,11 @@
-use Rattle.std.proofs.Common.{◌≡◌, ◌<◌, ◌++◌, ◌∷◌, [], length, sym, ap, subst, ◌∙◌, arith}
+use Rattle.std.proofs.Common.{◌<◌, ◌++◌, ◌∷◌, [], length, sym, subst, arith}
 use Rattle.std.proofs.lemmas.List.{length-map}
 use Rattle.std.proofs.lemmas.Result.{IfOk-weaker}
 use Rattle.kube_watch.specs.Polls.{dated_now}
 use Rattle.kube_asks.specs.Sources.{IsRelatedNext}
 use Rattle.kube_turn.specs.Views.{exchange_of}
 use Rattle.kube_asks.proofs.PlaceLemmas.{holds-get, holds-set, holds-other, map-set, changes-set, feed-get}
-use Rattle.kube_asks.proofs.sets.RelatedListRelatedSet.poll_at.Goals as goal
+use Rattle.kube_asks.proofs.related_list.RelatedListRelatedSet.poll_at.Goals as goal
 
 pub returns-clause-feeds : goal.returns-clause-feeds
 returns-clause-feeds g c =
@@ -51,3 +51,9 @@ returns-clause-unnamed g c e =
     let ts = c.args.self.now.items.items in
     let here : c.args.place < length ts = omega (arith, length-map ts g.T.Related.settings) in
     changes-set (λ t u. g.T.Related.breaks t c.args.now.0 u) ts c.args.place c.poll_unit.new.self c.index_mut-source.result.now here c.index_mut-source.ensures.value (c.poll_unit.ensures.unnamed e)
+
+pub returns-clause-lost : goal.returns-clause-lost
+returns-clause-lost g c e =
+    let ts = c.args.self.now.items.items in
+    let here : c.args.place < length ts = omega (arith, length-map ts g.T.Related.settings) in
+    changes-set (λ t u. g.T.Related.loses t c.args.now.0 u) ts c.args.place c.poll_unit.new.self c.index_mut-source.result.now here c.index_mut-source.ensures.value (c.poll_unit.ensures.lost e)

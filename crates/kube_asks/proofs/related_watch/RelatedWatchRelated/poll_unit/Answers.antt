@@ -1,0 +1,124 @@
+use Rattle.std.proofs.Common.{◌≡◌, Some, inr, List, map, [], ◌∷◌, sym, ap, subst, ◌∙◌}
+use Rattle.std.specs.List.{flat_map}
+use Rattle.std.specs.Arc.{arc_value}
+use Rattle.std.proofs.lemmas.List.{map-append}
+use Rattle.kube_meta.specs.Keys.{is_named}
+use Rattle.kube_model.specs.World.{Watched}
+use Rattle.kube_model.specs.History.{Dated}
+use Rattle.kube_model.specs.Mapping.{IsMappedTo}
+use Rattle.kube_model.specs.Recorded.{raw_call}
+use Rattle.kube_model.specs.Shapes.{shape, dated_shapes}
+use Rattle.kube_turn.specs.Views.{message_of, exchange_of}
+use Rattle.kube_watch.specs.Agrees.{objects_of}
+use Rattle.kube_watch.specs.Calls.{IsAskedOnce, version_of}
+use Rattle.kube_watch.specs.Polls.{Api, dated_now}
+use Rattle.kube_watch.specs.Stands.{StandsFor, exchanges_in, settings_in, api_of}
+use Rattle.kube_watch.specs.Units.{events_of}
+use Rattle.kube_asks.specs.Asking.{of_source}
+use Rattle.kube_asks.specs.Sources.{IsRelatedNext}
+use Rattle.kube_asks.specs.Mapped.{MappedWatching, RelatedStands, IsRelatedPoll, IsRelatedBroken, IsRelatedLost}
+use Rattle.kube_asks.proofs.Bools.{ok2, ok3-on}
+use Rattle.kube_asks.proofs.Names.{rose-came}
+use Rattle.kube_asks.proofs.RootFits.{named-now, unnamed-now, owed-form}
+use Rattle.kube_asks.proofs.RelatedFits.{next-too, recorded-too, objects-same, owed-same}
+use Rattle.kube_asks.proofs.related_watch.RelatedWatchRelated.poll_unit.Goals as goal
+
+pub returns-clause-next : goal.returns-clause-next
+returns-clause-next g c =
+    let meta = g.A.Value.Resource.meta_of in
+    let inside = c.self.inside in
+    let t = g.A.Value.Resource.type_of inside.dyntype in
+    let u = c.in_ok-unit.unit in
+    let e = c.in_ok-unit.ensures in
+    ok2 c.map_unit.result
+    (λ x mapped is own. subst (λ (a : MappedWatching g.row.A.Denot g.row.A-Value.Denot g.row.M.Denot). RelatedStands own a.watcher
+    → IsRelatedNext (Watched (settings_in a.watcher)) own c.args.now.0 (exchange_of g.K.Resource.type_of x))
+    c.self.view_is
+    (λ h. let shapes : List (Dated g.row.A-Value.Denot) = dated_shapes own in
+    subst (IsRelatedNext (Watched (settings_in inside.watcher)) own c.args.now.0) (sym is)
+    (next-too t meta own (settings_in inside.watcher) u.call u.answer (map arc_value u.items) u.error (flat_map objects_of (events_of u)) (e.objects shapes h)
+    (g.M.Mapper.answers inside.mapper) (map (message_of g.K.Resource.type_of) x.requests) mapped c.args.now.0 0 (e.owed shapes h) e.asks e.answered e.texts (e.idle shapes h) (e.fails shapes h))))
+    c.map_unit.ensures.mapped c.map_unit.ensures.exchange
+
+pub returns-clause-stands : goal.returns-clause-stands
+returns-clause-stands g c =
+    let inside = c.self.inside in
+    let e = c.in_ok-unit.ensures in
+    ok2 c.map_unit.result
+    (λ x mapped is own y h same.
+    let was : RelatedStands own inside.watcher = subst (λ (a : MappedWatching g.row.A.Denot g.row.A-Value.Denot g.row.M.Denot). RelatedStands own a.watcher) (sym c.self.view_is) h in
+    subst (λ ds. StandsFor ds c.poll_unit.new.self) (sym (map-append (λ (d : Dated g.row.K.Denot). record { at = d.at; exchange = shape {V = g.row.A-Value.Denot} d.exchange }) own (dated_now c.args.now.0 y ∷ [])))
+    (e.stands (dated_shapes own) (shape y) was (ap (λ z. z.call) same ∙ ap (λ z. z.call) is) (ap (λ z. z.answer) same ∙ ap (λ z. z.answer) is)))
+    c.map_unit.ensures.mapped c.map_unit.ensures.exchange
+
+pub returns-clause-polls : goal.returns-clause-polls
+returns-clause-polls g c =
+    let meta = g.A.Value.Resource.meta_of in
+    let inside = c.self.inside in
+    let t = g.A.Value.Resource.type_of inside.dyntype in
+    let api : Api g.row.A.Denot g.row.A-Value.Denot = record { moves = g.A.ApiMode.moves; talk = g.A.ApiMode.talk; faults = g.A.ApiMode.faults; version = version_of meta } in
+    let u = c.in_ok-unit.unit in
+    let e = c.in_ok-unit.ensures in
+    ok3-on c.map_unit.result
+    (λ x mapped is named own y h same.
+    let requests = map (message_of g.K.Resource.type_of) x.requests in
+    subst (λ (a : MappedWatching g.row.A.Denot g.row.A-Value.Denot g.row.M.Denot). RelatedStands own a.watcher
+    → IsRelatedPoll api (IsMappedTo a.kind meta (g.M.Mapper.answers a.mapper)) (λ o. is_named (meta o)) own c.args.now.0 a.watcher y c.poll_unit.new.self)
+    c.self.view_is
+    (λ was. let shapes : List (Dated g.row.A-Value.Denot) = dated_shapes own in
+    subst (λ z. IsRelatedPoll api (IsMappedTo t meta (g.M.Mapper.answers inside.mapper)) (λ o. is_named (meta o)) own c.args.now.0 inside.watcher z c.poll_unit.new.self)
+    (sym (same ∙ ap (of_source y.source) is))
+    (record {
+      raw = e.talk.0;
+      recorded = recorded-too t meta own (settings_in inside.watcher) u.call u.answer (map arc_value u.items) u.error (flat_map objects_of (events_of u)) (e.objects shapes was)
+          (g.M.Mapper.answers inside.mapper) requests mapped y.source e.talk.0 e.talk.1;
+      told = e.talk.2;
+      moved = e.talk.3;
+      rose = rose-came (version_of meta) e.talk.0 u.answer _ _ e.talk.1.answer e.faults;
+      named = named-now meta (exchanges_in own) u.call u.answer (map arc_value u.items) u.error (settings_in inside.watcher) e.talk.0 e.talk.1 (flat_map objects_of (events_of u))
+          (objects-same t meta own (settings_in inside.watcher) u.call u.answer (map arc_value u.items) u.error (flat_map objects_of (events_of u)) (e.objects shapes was)) named;
+    }))
+    h)
+    c.map_unit.ensures.mapped c.map_unit.ensures.exchange c.map_unit.ensures.named
+
+pub returns-clause-unnamed : goal.returns-clause-unnamed
+returns-clause-unnamed g c fault =
+    let meta = g.A.Value.Resource.meta_of in
+    let inside = c.self.inside in
+    let t = g.A.Value.Resource.type_of inside.dyntype in
+    let api : Api g.row.A.Denot g.row.A-Value.Denot = record { moves = g.A.ApiMode.moves; talk = g.A.ApiMode.talk; faults = g.A.ApiMode.faults; version = version_of meta } in
+    let u = c.in_ok-unit.unit in
+    let e = c.in_ok-unit.ensures in
+    subst (λ (a : MappedWatching g.row.A.Denot g.row.A-Value.Denot g.row.M.Denot). IsRelatedBroken g.row.K.Denot api (λ o. is_named (meta o)) c.args.now.0 a.watcher c.poll_unit.new.self) c.self.view_is
+    (record {
+      raw = e.talk.0;
+      told = e.talk.2;
+      moved = e.talk.3;
+      rose = rose-came (version_of meta) e.talk.0 u.answer _ _ e.talk.1.answer e.faults;
+      owes = λ own h. owed-form (λ o. is_named (meta o)) (version_of meta) (settings_in inside.watcher) (exchanges_in own) u.call u.answer e.talk.0
+          (e.owed (dated_shapes own) h ∙ owed-same g.row.A-Value.Denot (settings_in inside.watcher) own) e.answered e.talk.1.call e.talk.1.answer;
+      unnamed = λ own h.
+          unnamed-now meta (exchanges_in own) u.call u.answer (map arc_value u.items) u.error (settings_in inside.watcher) e.talk.0 e.talk.1 (flat_map objects_of (events_of u))
+          (objects-same t meta own (settings_in inside.watcher) u.call u.answer (map arc_value u.items) u.error (flat_map objects_of (events_of u)) (e.objects (dated_shapes own) h))
+          (c.map_unit.ensures.unnamed fault);
+    })
+
+pub returns-clause-lost : goal.returns-clause-lost
+returns-clause-lost g c fault =
+    let inside = c.self.inside in
+    let settings = settings_in inside.watcher in
+    let e = c.in_ok-unit.ensures in
+    subst (λ (a : MappedWatching g.row.A.Denot g.row.A-Value.Denot g.row.M.Denot). IsRelatedLost g.row.K.Denot g.A.ApiMode.talk a.watcher c.poll_unit.new.self) c.self.view_is
+    (λ own h. inr (
+      e.talk.0,
+      subst (λ k. raw_call settings k ≡ Some e.talk.0.call) (e.owed (dated_shapes own) h ∙ owed-same g.row.A-Value.Denot settings own) e.talk.1.call,
+      e.talk.2,
+    ))
+
+pub returns-in_err-unit-clause-lost : goal.returns-in_err-unit-clause-lost
+returns-in_err-unit-clause-lost g c fault =
+    let inside = c.self.inside in
+    let settings = settings_in inside.watcher in
+    subst (λ (a : MappedWatching g.row.A.Denot g.row.A-Value.Denot g.row.M.Denot). IsRelatedLost g.row.K.Denot g.A.ApiMode.talk a.watcher c.poll_unit.new.self) c.self.view_is
+    (λ own h. subst (λ k. IsAskedOnce settings k (g.A.ApiMode.talk (api_of inside.watcher)) (g.A.ApiMode.talk (api_of c.poll_unit.new.self))) (owed-same g.row.A-Value.Denot settings own)
+    (c.in_err-unit.ensures.lost (dated_shapes own) h))

@@ -1,0 +1,50 @@
+-- What a mapped source stands for, and what its exchanges make of it. A is the type of its API, V that of its objects, O that of the root's. (Crate: `trigger_with`.)
+use Rattle.std.specs.Prelude.{◌≡◌, ℕ, Bool, true, List, [], ◌++◌, Option}
+use Rattle.std.specs.List.{flat_map, AllZip}
+use Rattle.kube_meta.specs.Reference.{ObjectType}
+use Rattle.kube_model.specs.History.{Dated, Exchange, Message}
+use Rattle.kube_model.specs.Shapes.{dated_shapes}
+use Rattle.kube_model.specs.Raw.{Raw, grown, is_fault, FaultRose}
+use Rattle.kube_model.specs.Recorded.{IsRecordedMapped}
+use Rattle.kube_model.specs.Named.{OfCall, has_names}
+use Rattle.kube_watch.specs.declared.unit.Unit.{Unit as Made}
+use Rattle.kube_watch.specs.Watching.{Watching}
+use Rattle.kube_watch.specs.Stands.{StandsFor, exchanges_in, settings_in, api_of}
+use Rattle.kube_watch.specs.Polls.{Api}
+use Rattle.kube_asks.specs.Roots.{IsUnnamedCall, IsLostCall}
+
+-- a watcher, the type of its objects in the API, and what maps them
+pub record MappedWatching (A V M : Type 0) : Type 0 where
+  pub watcher : Watching A V
+  pub kind : ObjectType
+  pub mapper : M
+
+-- these requests grew by those of these objects, one part for each, in order
+pub record AreParts {V : Type 0} (is_part : V → List Message → Type 0) (os : List V) (old new : List Message) : Type 0 where
+  pub parts : List (List Message)
+  pub each : AllZip is_part os parts
+  pub are : new ≡ old ++ flat_map (λ part. part) parts
+
+-- the exchange that a unit makes, with these requests and without its objects
+abbrev pub made_of : {V O : Type 0} → Made V → List Message → Exchange O
+made_of u requests = record { source = 0; call = u.call; answer = u.answer; items = []; requests = requests; error = u.error }
+
+-- its watcher stands for these exchanges, but for what it doesn't look at
+abbrev pub RelatedStands : {A O V : Type 0} → List (Dated O) → Watching A V → Type 0
+RelatedStands own w = StandsFor (dated_shapes own) w
+
+module _ {A O V : Type 0} (api : Api A V) (is_part : V → List Message → Type 0) (is_named : V → Bool) where
+  -- the exchange was made by one call of the API; what came was mapped, and each object that must become a reference has a name
+  pub record IsRelatedPoll (own : List (Dated O)) (now : ℕ) (old : Watching A V) (x : Exchange O) (new : Watching A V) : Type 0 where
+    pub raw : Raw V
+    pub recorded : IsRecordedMapped api.version is_part (settings_in old) (exchanges_in own) raw x
+    pub told : api.talk (api_of new) ≡ grown (api.talk (api_of old)) raw
+    pub moved : api.moves (api_of old) now raw (api_of new)
+    pub rose : FaultRose (is_fault raw.answer) (api.faults (api_of old)) (api.faults (api_of new))
+    pub named : has_names is_named api.version (exchanges_in own) (OfCall raw) ≡ true
+
+abbrev pub IsRelatedBroken : {A V : Type 0} → (O : Type 0) → Api A V → (V → Bool) → ℕ → Watching A V → Watching A V → Type 0
+IsRelatedBroken O api is_named now old new = IsUnnamedCall {O = O} api is_named (λ own. RelatedStands own old) (settings_in old) now (api_of old) (api_of new)
+
+abbrev pub IsRelatedLost : {A V : Type 0} → (O : Type 0) → (A → Option (List (Raw V))) → Watching A V → Watching A V → Type 0
+IsRelatedLost O talk old new = IsLostCall {O = O} talk (λ own. RelatedStands own old) (settings_in old) (api_of old) (api_of new)

@@ -1,0 +1,82 @@
+//! Related sources that list and watch.
+
+use crate::mapper::Mapper;
+use crate::mapping::map_unit;
+use crate::related::Related;
+use kube_api::ApiMode;
+use kube_meta::{Moment, Resource};
+use kube_turn::SourceExchange;
+use kube_watch::watcher::watcher;
+use kube_watch::{Config, StreamFault, Watcher};
+use std::alloc::Global;
+use std::marker::Model;
+
+/// A related source whose objects are listed and watched, and mapped: each page's as it comes.
+#[derive(Drop)]
+pub struct RelatedWatch<A: ApiMode, M> {
+    watcher: Watcher<A>,
+    dyntype: <A::Value as Resource>::DynamicType,
+    mapper: M,
+}
+
+impl<A: ApiMode, M> Model for RelatedWatch<A, M> {
+    ghost use Rattle.kube_asks.specs.Mapped.{MappedWatching};
+
+    ghost Value = { MappedWatching A A.Value M };
+
+    ghost view = { λ r. record { watcher = r.watcher; kind = A.Value.type_of r.dyntype; mapper = r.mapper } };
+}
+
+impl<A: ApiMode, M> RelatedWatch<A, M> {
+    ghost use Rattle.std.specs.Prelude.{◌≡◌, []};
+    ghost use Rattle.kube_watch.specs.Stands.{StandsFor, api_of, config_of};
+
+    /// A source that has made no call, of objects of this type.
+    pub fn new(
+        alloc: Global,
+        api: A,
+        config: Config,
+        dyntype: <A::Value as Resource>::DynamicType,
+        mapper: M,
+    ) -> RelatedWatch<A, M>
+        ensures api { api_of result.watcher ≡ api }
+        ensures config { config_of result.watcher ≡ config }
+        ensures kind { result.kind ≡ A.Value.type_of dyntype }
+        ensures mapper { result.mapper ≡ mapper }
+        ensures stands { StandsFor [] result.watcher }
+    {
+        RelatedWatch {
+            watcher: watcher(alloc, api, config),
+            dyntype,
+            mapper,
+        }
+    }
+}
+
+impl<K: Resource, A: ApiMode, M: Mapper<A::Value, K>> Related<K> for RelatedWatch<A, M> {
+    ghost use Rattle.std.specs.Prelude.{Some};
+    ghost use Rattle.kube_meta.specs.Keys.{is_named};
+    ghost use Rattle.kube_model.specs.Mapping.{IsMappedTo};
+    ghost use Rattle.kube_watch.specs.Calls.{version_of};
+    ghost use Rattle.kube_watch.specs.Stands.{settings_in};
+    ghost use Rattle.kube_asks.specs.Mapped.{RelatedStands, IsRelatedPoll, IsRelatedBroken, IsRelatedLost};
+
+    ghost settings = { λ r. Some (settings_in r.watcher) };
+
+    ghost can_poll = { λ r. M.can_map r.mapper };
+
+    ghost stands = { λ r own. RelatedStands own r.watcher };
+
+    ghost polls = { λ old own now x new. IsRelatedPoll (record { moves = A.moves; talk = A.talk; faults = A.faults; version = version_of A.Value.meta_of })
+        (IsMappedTo old.kind A.Value.meta_of (M.answers old.mapper)) (λ o. is_named (A.Value.meta_of o)) own now old.watcher x new.watcher };
+
+    ghost breaks = { λ old now new. IsRelatedBroken K (record { moves = A.moves; talk = A.talk; faults = A.faults; version = version_of A.Value.meta_of })
+        (λ o. is_named (A.Value.meta_of o)) now old.watcher new.watcher };
+
+    ghost loses = { λ old now new. IsRelatedLost K A.talk old.watcher new.watcher };
+
+    fn poll_unit(&mut self, alloc: Global, now: Moment) -> Result<SourceExchange<K>, StreamFault> {
+        let unit = self.watcher.poll_unit(alloc, now)?;
+        map_unit(alloc, &self.mapper, &self.dyntype, unit)
+    }
+}

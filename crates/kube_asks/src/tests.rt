@@ -1,0 +1,5 @@
+//! Sources asked in turn, and each call once with ample memory.
+
+mod mappers;
+mod sources;
+mod turns;
