@@ -6,3 +6,6 @@ pub mod Places
 pub mod Recordings
 pub mod Ready
 pub mod Pages
+pub mod Patches
+pub mod Changes
+pub mod ObjectTalk

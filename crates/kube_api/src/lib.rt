@@ -2,10 +2,14 @@
 #![tactic(auto)]
 
 pub mod api;
+mod change;
 pub mod copies;
 pub mod event;
+pub mod object_api;
 mod open_watch;
+pub mod patch;
 mod place;
+mod pointer;
 mod recording;
 pub mod result_page;
 pub mod sequence;
@@ -15,6 +19,8 @@ pub use api::ApiMode;
 pub use event::{Bookmark, Page, WatchEvent};
 pub use kube_model::error::{ApiError, Status};
 pub use kube_model::params::{ListParams, VersionMatch, WatchParams};
+pub use object_api::{DeleteAnswer, ObjectApi, PatchAnswer};
+pub use patch::{Patch, PatchRefusal, apply_patch};
 pub use recording::Recording;
 pub use result_page::ResultPage;
 pub use sequence::{Sequence, SequenceStep};

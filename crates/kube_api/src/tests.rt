@@ -1,5 +1,7 @@
 //! Each call of a scripted API once, with ample memory.
 
+mod patches;
+
 use crate::{
     ApiError, ApiMode, Bookmark, ListParams, Page, Recording, ResultPage, Sequence, SequenceStep,
     TestMode, WatchEvent, WatchParams,

@@ -1,4 +1,4 @@
-use Rattle.std.proofs.Common.{map, ap, ◌∙◌, sym}
+use Rattle.std.proofs.Common.{map, ap, ◌∙◌}
 use Rattle.kube_model.specs.Raw.{Raw}
 use Rattle.kube_api.specs.Recordings.{call_of}
 use Rattle.kube_api.proofs.TalkLemmas.{call-talk_of}
