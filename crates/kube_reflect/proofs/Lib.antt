@@ -16,3 +16,8 @@ pub mod InitialExchanges
 pub mod LaterExchanges
 pub mod Exchanging
 pub mod Naming
+pub mod Indexing
+pub mod Ordering
+pub mod Halving
+pub mod Indexed
+pub mod Searched

@@ -34,7 +34,7 @@ same-option (Some x) (Some y) h = ap Some ((bytes_eq-Decides x y).0 h)
 abbrev type_of : List ℕ → List ℕ → List ℕ → List ℕ → ObjectType
 type_of g v k p = record { group = g; version = v; kind = k; plural = p }
 
-types-alike : (a b : ObjectType) → a.group ≡ b.group → a.version ≡ b.version → a.kind ≡ b.kind → a.plural ≡ b.plural → a ≡ b
+pub types-alike : (a b : ObjectType) → a.group ≡ b.group → a.version ≡ b.version → a.kind ≡ b.kind → a.plural ≡ b.plural → a ≡ b
 types-alike a b g v k p =
     ap (λ (x : List ℕ). type_of x a.version a.kind a.plural) g
     ∙ (ap (λ (x : List ℕ). type_of b.group x a.kind a.plural) v
@@ -54,7 +54,7 @@ same-types a b h =
 abbrev reference_by : ObjectType → List ℕ → Option (List ℕ) → Reference
 reference_by k n s = record { kind = k; name = n; namespace = s }
 
-references-alike : (a b : Reference) → a.kind ≡ b.kind → a.name ≡ b.name → a.namespace ≡ b.namespace → a ≡ b
+pub references-alike : (a b : Reference) → a.kind ≡ b.kind → a.name ≡ b.name → a.namespace ≡ b.namespace → a ≡ b
 references-alike a b k n s =
     ap (λ (x : ObjectType). reference_by x a.name a.namespace) k
     ∙ (ap (λ (x : List ℕ). reference_by b.kind x a.namespace) n ∙ ap (λ (x : Option (List ℕ)). reference_by b.kind b.name x) s)

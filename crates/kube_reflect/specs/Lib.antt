@@ -1,6 +1,7 @@
 -- the definitions that the contracts cite
 pub mod Views
 pub mod Reads
+pub mod Indexes
 pub mod Cached
 pub mod Relists
 pub mod Exchanged

@@ -1,22 +1,26 @@
 //! The stored objects (kube-runtime's `Store`, where it is read by the one that writes it).
 
-ghost use Rattle.std.specs.Prelude.{◌≡◌, ◌↔◌, [], IfOk, OnOk, OnErr, IsTrue, length, map, option_copied};
+ghost use Rattle.std.specs.Prelude.{◌≡◌, ◌↔◌, ◌<◌, [], IfOk, OnOk, OnErr, IsTrue, length, map, option_copied};
 ghost use Rattle.std.specs.List.{filter, find};
 ghost use Rattle.std.specs.Option.{option_map};
 ghost use Rattle.std.specs.Arc.{arc_value};
 ghost use Rattle.std.specs.Fn.{FnReturnsAt};
 ghost use Rattle.kube_meta.specs.Keys.{reference_of};
-ghost use Rattle.kube_meta.specs.Reference.{same_reference, without_namespace};
+ghost use Rattle.kube_meta.specs.Reference.{same_reference};
 ghost use Rattle.kube_reflect.specs.Reads.{object_at, objects, IsFirst, IsFiltered, is_selected};
 ghost use Rattle.kube_reflect.specs.Cached.{put_under, drop_under};
+ghost use Rattle.kube_reflect.specs.Indexes.{references, sought, IsIndex, IsLookUp, AreTwoLookUps};
 ghost use Rattle.kube_reflect.specs.Views.{all_stored};
 
+use crate::places::look_up;
+use crate::steps::Steps;
 use crate::stored::{Stored, put, remove};
 use kube_meta::{NoMemory, ObjectRef, Resource, Selector, TextMap};
 use std::alloc::Global;
 use std::collections::VecDeque;
-use std::marker::Model;
+use std::marker::{Brand, Model};
 use std::sync::Arc;
+use std::sync::ledger::{Blank, Ledger};
 
 /// The stored objects, each under its reference, in the order in which their references came.
 ///
@@ -24,16 +28,20 @@ use std::sync::Arc;
 #[derive(Drop)]
 pub struct Cache<K: Resource> {
     items: Vec<Stored<K>>,
+    places: Vec<usize>,
 }
 
 impl<K: Resource> Model for Cache<K> {
     ghost use Rattle.std.specs.Prelude.{List};
     ghost use Rattle.kube_meta.specs.Reference.{Reference};
     ghost use Rattle.kube_reflect.specs.Views.{all_stored};
+    ghost use Rattle.kube_reflect.specs.Indexes.{references, IsIndex};
 
     ghost Value = { List (Reference × K) };
 
     ghost view = { λ c. all_stored K.type_of c.items.items };
+
+    ghost invariant = { λ c. IsIndex (references (all_stored K.type_of c.items.items)) c.places.items };
 }
 
 /// Whether an object passes.
@@ -44,46 +52,22 @@ fn lets_pass<K, P: Fn(&K) -> bool>(p: &P, object: &K) -> bool
     p(object)
 }
 
-/// Whether the first is the second without its namespace.
-fn is_without_namespace<K: Resource>(a: &ObjectRef<K>, b: &ObjectRef<K>) -> bool
-    ensures { result ≡ same_reference (reference_of K.type_of a.now) (without_namespace (reference_of K.type_of b.now)) }
-{
-    a.name == b.name
-        && a.namespace == None
-        && K::group(&a.dyntype) == K::group(&b.dyntype)
-        && K::version(&a.dyntype) == K::version(&b.dyntype)
-        && K::kind(&a.dyntype) == K::kind(&b.dyntype)
-        && K::plural(&a.dyntype) == K::plural(&b.dyntype)
-}
-
-/// The object under a reference.
-fn find_equal<'a, K: Resource>(
+/// The object under a reference, `within` its namespace or without it. A step is one place of the index that is looked at.
+fn find_by<'a, K: Resource, L: Ledger>(
     items: &'a [Stored<K>],
+    places: &[usize],
     reference: &ObjectRef<K>,
+    within: bool,
+    steps: &mut Steps<L>,
 ) -> Option<&'a Arc<K>>
-    ensures { option_map arc_value (option_copied result)
-        ≡ option_map (λ s. arc_value s.object) (find (λ s. same_reference (reference_of K.type_of (arc_value s.reference)) (reference_of K.type_of reference.now)) items.now) }
+    requires index { IsIndex (references (all_stored K.type_of items.now)) places.now }
+    ensures found { option_map arc_value (option_copied result)
+        ≡ option_map (λ s. arc_value s.object) (find (λ s. same_reference (reference_of K.type_of (arc_value s.reference)) (sought within (reference_of K.type_of reference.now))) items.now) }
+    ensures cost { IsLookUp (length items.now) steps.old steps.new }
 {
-    match items.iter().find(|s| *s.reference == *reference) {
-        Some(s) => Some(&s.object),
-        None => None,
-    }
-}
-
-/// The object under a reference without its namespace.
-fn find_without_namespace<'a, K: Resource>(
-    items: &'a [Stored<K>],
-    reference: &ObjectRef<K>,
-) -> Option<&'a Arc<K>>
-    ensures { option_map arc_value (option_copied result)
-        ≡ option_map (λ s. arc_value s.object) (find (λ s. same_reference (reference_of K.type_of (arc_value s.reference)) (without_namespace (reference_of K.type_of reference.now))) items.now) }
-{
-    match items
-        .iter()
-        .find(|s| is_without_namespace(&*s.reference, reference))
-    {
-        Some(s) => Some(&s.object),
-        None => None,
+    match look_up(items, places, reference, within, steps) {
+        Ok(position) => Some(&items[places[position]].object),
+        Err(_) => None,
     }
 }
 
@@ -105,6 +89,7 @@ impl<K: Resource> Cache<K> {
     {
         Cache {
             items: Vec::new(alloc),
+            places: Vec::new(alloc),
         }
     }
 
@@ -118,14 +103,14 @@ impl<K: Resource> Cache<K> {
         ensures ok { OnOk result (self.new ≡ put_under self.old (reference_of K.type_of reference, arc_value object)) }
         ensures err { OnErr result (self.new ≡ self.old) }
     {
-        put(alloc, &mut self.items, reference, object)
+        put(alloc, &mut self.items, &mut self.places, reference, object)
     }
 
     // Drops the object under an equal reference.
     pub(crate) fn remove(&mut self, reference: ObjectRef<K>)
         ensures { (object : K) → self.new ≡ drop_under self.old (reference_of K.type_of reference, object) }
     {
-        remove(&mut self.items, &reference);
+        remove(&mut self.items, &mut self.places, &reference);
     }
 
     // The references, in order.
@@ -161,16 +146,42 @@ impl<K: Resource> Cache<K> {
                 object: Arc::try_clone(&stored.object)?,
             })?;
         }
-        Ok(Cache { items: copies })
+        Ok(Cache {
+            items: copies,
+            places: self.places.clone()?,
+        })
     }
 
     /// The object under a reference, or else under it without its namespace, as cluster-scoped objects are stored.
     pub fn get(&self, key: &ObjectRef<K>) -> Option<&Arc<K>>
         ensures { option_map arc_value (option_copied result) ≡ object_at self.now (reference_of K.type_of key.now) }
     {
-        match find_equal(&self.items, key) {
+        self.get_by::<Brand>(Blank::new(1), key)
+    }
+
+    // The same by a counter that is dropped.
+    fn get_by<L: Ledger>(&self, blank: Blank, key: &ObjectRef<K>) -> Option<&Arc<K>>
+        requires name { blank.name ≡ L.name }
+        requires parts { blank.parts ≡ L.parts }
+        requires some { 0 < blank.parts }
+        ensures { option_map arc_value (option_copied result) ≡ object_at self.now (reference_of K.type_of key.now) }
+    {
+        let mut steps: Steps<L> = Steps::new(blank);
+        self.get_counted(key, &mut steps)
+    }
+
+    /// The same in counted steps: a step is one place of the sorted index that is looked at.
+    pub fn get_counted<L: Ledger>(
+        &self,
+        key: &ObjectRef<K>,
+        steps: &mut Steps<L>,
+    ) -> Option<&Arc<K>>
+        ensures found { option_map arc_value (option_copied result) ≡ object_at self.now (reference_of K.type_of key.now) }
+        ensures cost { AreTwoLookUps (length self.now) steps.old steps.new }
+    {
+        match find_by(&self.items, &self.places, key, true, steps) {
             Some(object) => Some(object),
-            None => find_without_namespace(&self.items, key),
+            None => find_by(&self.items, &self.places, key, false, steps),
         }
     }
 

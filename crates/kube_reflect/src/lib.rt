@@ -11,12 +11,14 @@ mod keeper;
 pub mod laws;
 pub mod laws_of_exchanges;
 mod made;
+mod places;
 mod readable;
 pub mod reader;
 pub mod reflecting;
 pub mod reflector;
 mod ring;
 mod sign;
+pub mod steps;
 pub mod store;
 mod stored;
 
@@ -25,6 +27,7 @@ pub use delayed_init::{DelayedInit, InitDropped, InitNote, Initializer};
 pub use dispatcher::ReflectHandle;
 pub use kube_meta::{Lookup, ObjectRef};
 pub use reflecting::Reflector;
+pub use steps::Steps;
 pub use store::{
     Ended, OfferError, Published, Store, WriteError, Writer, WriterDropped, store_shared,
 };

@@ -1,26 +1,53 @@
-use Rattle.std.proofs.Common.{◌≡◌, ◌<◌, ◌∙◌, sym, ap, subst, arith, length, map, set, true}
-use Rattle.std.specs.Prelude.{slice_set, IfSome}
+use Rattle.std.proofs.Common.{◌≡◌, ◌∙◌, ap, sym, subst, map, set, get_or, Ok}
+use Rattle.std.specs.Prelude.{slice_get, slice_set, IfSome}
 use Rattle.std.specs.Arc.{arc_value}
+use Rattle.std.proofs.lemmas.List.{get_or_default}
+use Rattle.kube_meta.specs.Reference.{Reference}
 use Rattle.kube_meta.specs.Keys.{reference_of}
-use Rattle.kube_meta.specs.Reference.{Reference, same_reference}
+use Rattle.kube_reflect.specs.Indexes.{references, IsIndex}
 use Rattle.kube_reflect.specs.Views.{stored_of}
-use Rattle.kube_reflect.proofs.Putting.{put_hit, item-at, same-references}
+use Rattle.kube_reflect.proofs.Indexed.{at-item, put_at, references-written}
+use Rattle.kube_reflect.proofs.Searched.{item_there, carried, position_in, place_in, is_there, none_before}
 use Rattle.kube_reflect.proofs.stored.put.Goals as goal
 
-pub returns-then-eq-clause-ok : goal.returns-then-eq-clause-ok
-returns-then-eq-clause-ok g c =
-    let k = c.loop-i.invariant.kept in
-    let i = c.loop-i.i in
-    let h : c.loop-i.i < length c.args.items.now.items = omega arith in
-    let now : c.loop-i.i < length c.loop-i.items.items = omega arith in
+pub returns-in-Ok-clause-index : goal.returns-in-Ok-clause-index
+returns-in-Ok-clause-index g c =
     let seen = stored_of g.K.Resource.type_of in
-    let ref = reference_of g.K.Resource.type_of in
-    let x = c.index.result.now in
-    let pair : Reference × g.row.K.Denot = (ref c.args.reference, arc_value c.args.object) in
-    let same : same_reference (seen c.index.result.now).0 (ref c.args.reference) ≡ true =
-    ap (λ a. same_reference (ref a) (ref c.args.reference)) (sym c.deref.ensures) ∙ (sym c.eq.ensures ∙ c.if-eq.true) in
+    let items = c.args.items.now.items in
+    let places = c.args.places.now.items in
+    let r = reference_of g.K.Resource.type_of c.args.reference in
+    let k = c.in-Ok.position in
+    let p = get_or places k 0 in
+    let found = carried seen c.deref.result.now items c.deref-2.result.now places r (Ok k) c.deref.ensures.value c.deref-2.ensures.value c.in-Ok.ensures in
+    let place = c.index.ensures ∙ get_or_default places k c.index.result.now 0 (position_in seen items places c.requires.index r k found) in
+    let within = place_in seen items places c.requires.index r k found in
+    let item = item_there items p within in
+    let x = item.0 in
+    let there = subst (λ q. IfSome (slice_get items q) (λ y. c.write.new.items.items ≡ slice_set items q (record y { object = c.args.object }))) place c.write.ensures in
+    let written = subst (λ o. IfSome o (λ y. c.write.new.items.items ≡ slice_set items p (record y { object = c.args.object }))) item.2 there in
     let s = record x { object = c.args.object } in
-    let is = ap (λ r. (r, arc_value c.args.object)) (same-references (seen c.index.result.now).0 (ref c.args.reference) same) in
-    let written = subst (λ o. IfSome o (λ y. c.write.new.items.items ≡ slice_set c.loop-i.items.items i (record y { object = c.args.object }))) (item-at c.loop-i.items.items i x now c.index.ensures) c.write.ensures in
-    ap (map seen) (written ∙ ap (λ xs. set xs i s) k)
-    ∙ put_hit seen c.args.items.now.items s x pair i h (rw k at c.index.ensures) is same c.loop-i.invariant.passed
+    subst (λ keys. IsIndex keys places)
+    (sym (ap (λ ys. references (map seen ys)) written ∙ references-written seen items p s within (sym (at-item seen items p x within item.1))))
+    c.requires.index
+
+pub returns-in-Ok-clause-ok : goal.returns-in-Ok-clause-ok
+returns-in-Ok-clause-ok g c =
+    let seen = stored_of g.K.Resource.type_of in
+    let items = c.args.items.now.items in
+    let places = c.args.places.now.items in
+    let r = reference_of g.K.Resource.type_of c.args.reference in
+    let pair : Reference × g.row.K.Denot = (r, arc_value c.args.object) in
+    let k = c.in-Ok.position in
+    let p = get_or places k 0 in
+    let found = carried seen c.deref.result.now items c.deref-2.result.now places r (Ok k) c.deref.ensures.value c.deref-2.ensures.value c.in-Ok.ensures in
+    let place = c.index.ensures ∙ get_or_default places k c.index.result.now 0 (position_in seen items places c.requires.index r k found) in
+    let within = place_in seen items places c.requires.index r k found in
+    let item = item_there items p within in
+    let x = item.0 in
+    let there = subst (λ q. IfSome (slice_get items q) (λ y. c.write.new.items.items ≡ slice_set items q (record y { object = c.args.object }))) place c.write.ensures in
+    let written = subst (λ o. IfSome o (λ y. c.write.new.items.items ≡ slice_set items p (record y { object = c.args.object }))) item.2 there in
+    let s = record x { object = c.args.object } in
+    let is = is_there seen items places c.requires.index r k found in
+    ap (map seen) written
+    ∙ put_at seen items p s pair within (ap (λ q. (q, arc_value c.args.object)) (sym (at-item seen items p x within item.1) ∙ is)) is
+    (none_before seen items places c.requires.index r k found)

@@ -9,5 +9,5 @@ pub returns : goal.returns
 returns g c = λ object.
     let seen = stored_of g.K.Resource.type_of in
     let r = reference_of g.K.Resource.type_of c.args.reference in
-    ap (map seen) c.remove.ensures
+    ap (map seen) c.remove.ensures.items
     ∙ (dropped seen c.self.inside.items.items r object ∙ ap (λ s. drop_under s (r, object)) c.self.view_is)
