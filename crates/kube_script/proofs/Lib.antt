@@ -1,0 +1,5 @@
+pub mod Escapes
+pub mod Loops
+pub mod Steps
+pub mod Members
+pub mod Utf8

@@ -1,0 +1,49 @@
+//! The script that bytes are.
+
+ghost use Rattle.kube_script.specs.Loaded.{Answers};
+ghost use Rattle.kube_script.specs.Whole.{script_of};
+
+use crate::owned::OwnedRow;
+use crate::script::Script;
+use kube_meta::{ObjectFault, Text};
+use serde_json::Value;
+use std::alloc::Global;
+use std::str;
+
+/// Why bytes are no script. Places are JSON Pointers (RFC 6901).
+#[derive(Debug, Drop)]
+pub enum LoadError {
+    NoMemory,
+    /// They are more than 16,777,216.
+    TooLong,
+    /// They aren't UTF-8, have no reading as JSON, or nest deeper than 127.
+    Syntax,
+    /// What stands there, or is missing there, has not the form of a script.
+    Shape(Text),
+    /// In an object there stands a number that is neither a `u64` nor an `i64`.
+    Fraction(Text),
+}
+
+/// The script that bytes are.
+#[tactic(auto, using(crate::proofs::Utf8::is_text, crate::proofs::Utf8::not_utf8), unfolding(crate::specs::Whole::script_of))]
+pub fn script(alloc: Global, bytes: &[u8]) -> Result<Script, LoadError>
+    ensures { Answers result (script_of bytes.now) }
+{
+    if bytes.len() > 16_777_216 {
+        return Err(LoadError::TooLong);
+    }
+    let Ok(text) = str::from_utf8(bytes) else {
+        return Err(LoadError::Syntax);
+    };
+    let value = match Value::from_str(alloc, text) {
+        Ok(value) => value,
+        Err(error) if error.is_memory() => return Err(LoadError::NoMemory),
+        Err(_) => return Err(LoadError::Syntax),
+    };
+    match Script::read(alloc, value) {
+        Ok(script) => Ok(script),
+        Err(ObjectFault::NoMemory) => Err(LoadError::NoMemory),
+        Err(ObjectFault::Shape(place)) => Err(LoadError::Shape(place)),
+        Err(ObjectFault::Fraction(place)) => Err(LoadError::Fraction(place)),
+    }
+}

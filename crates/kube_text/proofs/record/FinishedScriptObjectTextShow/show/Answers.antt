@@ -1,0 +1,12 @@
+use Rattle.serde_json.specs.Data.{no_members}
+use Rattle.kube_text.specs.TraceText.{finish_data, finish_members}
+use Rattle.kube_text.specs.TraceView.{seen_finish}
+use Rattle.kube_text.proofs.Shown.{object_shown}
+use Rattle.kube_text.proofs.record.FinishedScriptObjectTextShow.show.Goals as goal
+
+pub returns-clause-tokens : goal.returns-clause-tokens
+unfolding finish_data
+returns-clause-tokens c =
+    object_shown c.args.out.now.tokens c.begin_object.new.self.tokens c.show_finish.new.out.tokens c.end_object.new.self.tokens
+    (finish_members (seen_finish c.args.self.now) no_members)
+    c.in_ok-begin_object.ensures.ok (c.in_ok-show_finish.ensures.members no_members) c.in_ok-end_object.ensures.ok
