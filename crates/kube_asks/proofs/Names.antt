@@ -1,17 +1,19 @@
 -- Names of what came, and of what is told of it.
-use Rattle.std.proofs.Common.{◌≡◌, ℕ, Bool, true, false, not, ◌&&◌, ◌||◌, List, [], ◌∷◌, Option, if◌then◌else◌, IsTrue, refl, sym, ap, subst, ◌∙◌}
-use Rattle.std.specs.List.{list_any, list_all}
+use Rattle.std.proofs.Common.{◌≡◌, ℕ, Bool, true, false, not, ◌&&◌, ◌||◌, List, [], ◌∷◌, Option, is_some, if◌then◌else◌, IsTrue, refl, sym, ap, subst, ◌∙◌}
+use Rattle.std.specs.List.{list_any, list_all, AllByRecursion}
 use Rattle.kube_meta.specs.declared.metadata.ObjectMeta.{ObjectMeta}
 use Rattle.kube_meta.specs.Keys.{is_named}
 use Rattle.kube_model.specs.declared.call.Call.{Call}
 use Rattle.kube_model.specs.declared.call.Call.TheVariants.{List as ListCall, Watch, Next, Stream}
 use Rattle.kube_model.specs.declared.call.Answer.{Answer}
-use Rattle.kube_model.specs.History.{Exchange}
-use Rattle.kube_model.specs.Owed.{is_initial}
-use Rattle.kube_model.specs.Fits.{answers, brings_references}
+use Rattle.kube_model.specs.World.{World}
+use Rattle.kube_model.specs.History.{Dated, Exchange}
+use Rattle.kube_model.specs.Owed.{is_initial, mark}
+use Rattle.kube_model.specs.Fits.{answers, brings_references, has_references}
 use Rattle.kube_model.specs.Raw.{Raw, RawAnswer, is_fault, FaultRose, Waits, Fails, GivesPage, Opens, GivesAdded, GivesModified, GivesDeleted, GivesBookmark, GivesError, Ends}
 use Rattle.kube_model.specs.Recorded.{IsAnsweredBy, AsItCame, PastItsWindow, answer_of, items_of}
-use Rattle.kube_model.specs.Named.{OfCall, has_names}
+use Rattle.kube_model.specs.Named.{AreNamed, OfCall, has_names}
+use Rattle.kube_watch.specs.Stands.{exchanges_in}
 use Rattle.kube_watch.specs.Calls.{is_fault_answer}
 use Rattle.kube_asks.specs.Noting.{any_unnamed}
 
@@ -85,6 +87,23 @@ module _ {V : Type 0} (version : V → Option (List ℕ)) where
         ap (any_unnamed meta) e
         ∙ (ap (λ b. any_unnamed meta (if b then items_of raw.answer else [])) (brings-came (is_initial own) failed raw a h)
         ∙ by-case (brings_references (is_initial own) false (answer_of version raw.answer)) (items_of raw.answer))
+
+all-hold : {O : Type 0} (p : O → Bool) (os : List O) → list_all p os ≡ true → AllByRecursion (λ o. IsTrue (p o)) os
+all-hold p [] e = tt
+all-hold p (o ∷ os) e = go (p o) refl e (all-hold p os)
+  where
+    go : (b : Bool) → p o ≡ b → (b && list_all p os) ≡ true → (list_all p os ≡ true → AllByRecursion (λ z. IsTrue (p z)) os) → IsTrue (p o) × AllByRecursion (λ z. IsTrue (p z)) os
+    go true e k rest = (e, rest k)
+    go false e k rest = absurd (let z : false ≡ true = k in cc)
+
+-- what is recorded has its names where what came has them
+pub recorded-named : {V B : Type 0} (version : V → Option (List ℕ)) (meta : V → ObjectMeta) (w : World V B) → w.is_named ≡ (λ o. is_named (meta o)) → (own : List (Dated V)) (x : Exchange V) (raw : Raw V)
+    → IsAnsweredBy version raw x.answer → x.items ≡ items_of raw.answer → has_names (λ o. is_named (meta o)) version (exchanges_in own) (OfCall raw) ≡ true → AreNamed w (exchanges_in own) x
+recorded-named version meta w is own x raw came items named must =
+    let brings : brings_references (is_initial (exchanges_in own)) false (answer_of version raw.answer) ≡ true =
+    sym (brings-came version (is_initial (exchanges_in own)) (is_some x.error) raw x.answer came) ∙ must in
+    let all : list_all (λ o. is_named (meta o)) (items_of raw.answer) ≡ true = ap (λ b. not b || list_all (λ o. is_named (meta o)) (items_of raw.answer)) (sym brings) ∙ named in
+    subst (λ p. AllByRecursion (λ o. IsTrue (p o)) x.items) (sym is) (subst (AllByRecursion (λ o. IsTrue (is_named (meta o)))) (sym items) (all-hold (λ o. is_named (meta o)) (items_of raw.answer) all))
 
 pub not-false : (b : Bool) → not b ≡ false → b ≡ true
 not-false true h = refl

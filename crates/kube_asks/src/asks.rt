@@ -548,6 +548,15 @@ impl<R: RootSource, S: RelatedSet<R::Object>, B: Backoff> Asks<R, S, B> {
     }
 }
 
+impl<R, S, B> Asks<R, S, B> {
+    /// The root, the related sources and the backoff as they are now.
+    pub fn into_sources(self) -> (R, S, B)
+        ensures { result ≡ (self.root, self.related, self.kept.pause.backoff) }
+    {
+        (self.root, self.related, self.backoff)
+    }
+}
+
 impl<A: ApiMode, S, B> Asks<WatchRoot<A>, S, B> {
     ghost use Rattle.std.specs.Borrow.{sem};
     ghost use Rattle.kube_watch.specs.Stands.{api_of};

@@ -1,11 +1,13 @@
 -- One more event of what waits and runs.
-use Rattle.std.proofs.Common.{◌≡◌, ℕ, Bool, true, false, not, ◌||◌, cond, List, [], ◌∷◌, ◌++◌, map, length, Option, Some, None, option_map, is_some, if◌then◌else◌, refl, sym, ap, subst, ◌∙◌}
-use Rattle.std.specs.List.{filter, find}
+use Rattle.std.proofs.Common.{◌≡◌, ℕ, ◌+◌, Bool, true, false, not, ◌||◌, cond, List, [], ◌∷◌, ◌++◌, map, length, Option, Some, None, option_map, is_some, if◌then◌else◌, refl, sym, ap, subst, ◌∙◌}
+use Rattle.std.specs.Prelude.{position}
+use Rattle.std.specs.List.{filter, find, position_from}
 use Rattle.std.specs.Map.{lookup, remove_entry}
 use Rattle.std.specs.Arc.{arc_value}
 use Rattle.std.specs.declared.sync.Arc.{Arc}
 use Rattle.std.specs.declared.alloc.Global.{Global}
 use Rattle.std.proofs.lemmas.List.{map-append, length-map}
+use Rattle.std.proofs.lemmas.Iterator.Adapters.{position_from-zero}
 use Rattle.indexmap.specs.IndexMap.{insert_entry}
 use Rattle.kube_meta.specs.Reference.{ObjectType, Reference, same_reference}
 use Rattle.kube_meta.specs.ReferenceLaws.{same_reference_equiv}
@@ -25,7 +27,7 @@ use Rattle.kube_history.specs.TurnCalls.{with_requests}
 use Rattle.kube_turn.specs.declared.request.ReconcileRequest.{ReconcileRequest}
 use Rattle.kube_turn.specs.Views.{message_of, running_of, same_request}
 use Rattle.kube_core.specs.Images.{event_image, events_image, entry_image, frozen_image}
-use Rattle.kube_core.specs.Pendings.{Parts, Stands, handed_over, FirstIs, TakenFrom, is_idle}
+use Rattle.kube_core.specs.Pendings.{Parts, Stands, handed_over, place_of, FirstIs, TakenFrom, is_idle}
 use Rattle.kube_core.proofs.QueueImages.{waiting-image, entry-image}
 
 -- Events.
@@ -116,6 +118,23 @@ module _ {K D : Type 0} (type_of : D → ObjectType) where
       go false false h t = t
       go true false h t = absurd (cc)
       go false true h t = absurd (cc)
+
+  -- the place of a key is that of what it is seen as
+  place-from : (n : ℕ) (es : List (ObjectRef K D × Arc K Global)) (r : Reference)
+      → position_from (λ k. same_reference r (ref k)) n (map (λ e. e.0) es) ≡ position_from (λ p. same_reference p.reference r) n (map (running_of type_of) es)
+  place-from n [] r = refl
+  place-from n (e ∷ es) r = go (same_reference r (ref e.0)) (same_reference (ref e.0) r) (same_reference_equiv.symm r (ref e.0)) (place-from (n + 1) es r)
+    where
+      go : (a b : Bool) → a ≡ b → position_from (λ k. same_reference r (ref k)) (n + 1) (map (λ x. x.0) es) ≡ position_from (λ p. same_reference p.reference r) (n + 1) (map (running_of type_of) es)
+          → cond a (Some n) (position_from (λ k. same_reference r (ref k)) (n + 1) (map (λ x. x.0) es)) ≡ cond b (Some n) (position_from (λ p. same_reference p.reference r) (n + 1) (map (running_of type_of) es))
+      go true true h t = refl
+      go false false h t = t
+      go true false h t = absurd (cc)
+      go false true h t = absurd (cc)
+
+  pub place-lookup : (es : List (ObjectRef K D × Arc K Global)) (r : Reference)
+      → position (λ k. same_reference r (ref k)) (map (λ e. e.0) es) ≡ place_of (map (running_of type_of) es) r
+  place-lookup es r = position_from-zero (λ k. same_reference r (ref k)) (map (λ e. e.0) es) ∙ place-from 0 es r
 
   put-last : (es : List (ObjectRef K D × Arc K Global)) (k : ObjectRef K D) (v : Arc K Global) → runs (map (running_of type_of) es) (ref k) ≡ false
       → insert_entry (λ a b. same_reference (ref a) (ref b)) es k v ≡ es ++ (k, v) ∷ []

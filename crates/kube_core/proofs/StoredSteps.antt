@@ -17,7 +17,7 @@ use Rattle.kube_reflect.specs.Exchanged.{MayFollow, IsLeftBy}
 use Rattle.kube_reflect.specs.Writers.{Writing, with_event}
 use Rattle.kube_reflect.proofs.Exchanging.{one-more}
 use Rattle.kube_history.specs.CoreWorld.{CoreWorld}
-use Rattle.kube_core.specs.Cores.{IsOfType, of_root}
+use Rattle.kube_core.specs.Cores.{HasSameHandles, IsOfType, of_root}
 
 -- Events that are applied to a writer.
 module _ {O A : Type 0} (value : A → O) (meta : O → ObjectMeta) where
@@ -29,6 +29,10 @@ module _ {O A : Type 0} (value : A → O) (meta : O → ObjectMeta) where
   pub kind-all : (w : Writing O) (events : List (Event A)) → (fold (with_event value meta) w events).kind ≡ w.kind
   kind-all w [] = refl
   kind-all w (e ∷ es) = kind-all (with_event value meta w e) es
+
+  pub handles-all : (w : Writing O) (events : List (Event A)) → HasSameHandles w (fold (with_event value meta) w events)
+  handles-all w [] = record { book = refl; readers = refl }
+  handles-all w (e ∷ es) = let r = handles-all (with_event value meta w e) es in record { book = r.book; readers = r.readers }
 
 module _ {K : Type 0} (meta : K → ObjectMeta) where
   -- one of the root

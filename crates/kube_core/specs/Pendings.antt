@@ -1,7 +1,7 @@
 -- What waits and what runs, and what it stands for. K is the type of objects, D that of their dynamic types.
 use Rattle.std.specs.Prelude.{◌≡◌, ℕ, Bool, not, List, map, Option, is_some}
 use Rattle.std.specs.Option.{option_map}
-use Rattle.std.specs.List.{find}
+use Rattle.std.specs.List.{find, position_from}
 use Rattle.std.specs.Map.{lookup}
 use Rattle.std.specs.declared.sync.Arc.{Arc}
 use Rattle.std.specs.declared.alloc.Global.{Global}
@@ -43,6 +43,10 @@ module _ {K D : Type 0} (type_of : D → ObjectType) where
 -- the object that was handed over with a reference that runs
 abbrev pub handed_over : {O : Type 0} → List (Running O) → Reference → Option O
 handed_over rs r = option_map (λ p. p.object) (find (λ p. same_reference p.reference r) rs)
+
+-- the place of an equal reference among those that run
+abbrev pub place_of : {O : Type 0} → List (Running O) → Reference → Option ℕ
+place_of rs r = position_from (λ p. same_reference p.reference r) 0 rs
 
 -- it has this limit and this debounce, holds what these events leave of the queue, and these run, no two of them equal
 pub record Stands {K D : Type 0} (type_of : D → ObjectType) (core : CoreWorld K) (p : Parts K D) (qs : List (QueueEvent Message)) (rs : List (Running K)) : Type 0 where

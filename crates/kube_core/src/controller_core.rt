@@ -1,7 +1,7 @@
 //! What decides in a controller: what is stored, what waits, and what runs (kube-runtime's `Controller` and `applier`,
 //! without their streams).
 
-ghost use Rattle.std.specs.Prelude.{◌≡◌, ◌≤◌, ◌+◌, ◌++◌, ◌∷◌, ◌&&◌, not, true, false, [], List, Some, None, IfOk, OnOk, OnErr, option_copied, length, map};
+ghost use Rattle.std.specs.Prelude.{◌≡◌, ◌↔◌, ◌≤◌, ◌+◌, ◌-◌, ◌++◌, ◌∷◌, ◌&&◌, not, true, false, [], List, Some, None, IfOk, IfSome, IsNone, OnOk, OnErr, option_copied, length, map};
 ghost use Rattle.std.specs.Option.{option_map};
 ghost use Rattle.std.specs.Arc.{arc_value};
 ghost use Rattle.kube_meta.specs.Keys.{reference_of};
@@ -17,19 +17,19 @@ ghost use Rattle.kube_history.specs.CoreEvents.{CoreEvent, Answered, Requested, 
 ghost use Rattle.kube_history.specs.Legal.{MayBeAnswered};
 ghost use Rattle.kube_history.specs.TurnCalls.{with_requests};
 ghost use Rattle.kube_turn.specs.Views.{exchange_of, message_of, taken_of};
-ghost use Rattle.kube_core.specs.Pendings.{Stands, handed_over};
-ghost use Rattle.kube_core.specs.Cores.{IsOfType, StandsFor, of_root, with_room};
+ghost use Rattle.kube_core.specs.Pendings.{Stands, handed_over, place_of};
+ghost use Rattle.kube_core.specs.Cores.{HasSameHandles, IsOfType, StandsFor, of_root, with_room};
 
 use crate::pending::Pending;
 use crate::requests::{bulk_requests, copy_requests, request_each, requeue};
 use crate::storing::{initial_after, store_told};
 use crate::taking::take_next;
 use kube_meta::{Action, Moment, NoMemory, ObjectRef, Resource};
-use kube_reflect::{Cache, Writer};
+use kube_reflect::{Cache, Published, Store, Writer};
 use kube_turn::{Config, ReconcileRequest, SourceExchange, Taken};
 use std::alloc::Global;
 use std::marker::Model;
-use std::sync::Arc;
+use std::sync::{Arc, Wait};
 
 /// What decides in a controller. It is told what its sources answered, what is asked for, and what has ended, each at a
 /// moment, and says what is to run. No moment may come before the one that it was told last.
@@ -78,6 +78,41 @@ impl<K: Resource> Core<K> {
         })
     }
 
+    /// The same with this debounce and this limit. It must not have been told anything yet.
+    pub fn with_config(self, alloc: Global, config: Config) -> Core<K>
+        ensures stands { (first core : CoreWorld K) → StandsFor K.type_of K.meta_of first [] self → IsOfType self.writer.kind K.meta_of core → core.limit ≡ config.concurrency → core.debounce ≡ config.debounce
+            → StandsFor K.type_of K.meta_of core [] result }
+        ensures writer { result.writer ≡ self.writer }
+    {
+        Core {
+            pending: Pending::new(alloc, config),
+            ..self
+        }
+    }
+
+    /// A handle that reads what was published of what is stored; none where as many were given as were asked for.
+    pub fn as_reader(&mut self) -> Option<Store<K>>
+        ensures none { IsNone result ↔ (self.old.writer.readers ≡ 0) }
+        ensures store { IfSome result (λ s. s.book ≡ self.old.writer.book) }
+        ensures given { self.new ≡ record self.old { writer = record self.old.writer { readers = self.old.writer.readers - 1 } } }
+        ensures stands { (core : CoreWorld K) (es : List (CoreEvent K)) → StandsFor K.type_of K.meta_of core es self.old → StandsFor K.type_of K.meta_of core es self.new }
+    {
+        self.writer.as_reader()
+    }
+
+    /// Makes readable what is stored now: handles then read it.
+    ///
+    /// # Errors
+    ///
+    /// `NoMemory` where there is none for what is read; nothing was published then.
+    pub fn publish<R: Wait>(&mut self, rt: &R, alloc: Global) -> Result<Published<K>, NoMemory>
+        ensures note { IfOk result (λ n. n.book ≡ self.old.writer.book) }
+        ensures events { IfOk result (λ n. n.events ≡ self.old.writer.events) }
+        ensures same { self.new ≡ self.old }
+    {
+        self.writer.publish(rt, alloc)
+    }
+
     // Requests these, each for now, at places that are kept; none after a shutdown.
     fn request_now(&mut self, requests: Vec<ReconcileRequest<K>>, now: Moment)
         requires { length self.old.pending.running + length requests.items ≤ self.old.pending.schedule.spare }
@@ -100,6 +135,7 @@ impl<K: Resource> Core<K> {
             → IsLeftBy core.key (own ++ of_root (exchange_of K.type_of exchange.now)) self.new.writer.kept) }
         ensures initial { OnOk result ((own : List (Exchange K)) → self.old.initial ≡ is_initial own → self.new.initial ≡ is_initial (own ++ of_root (exchange_of K.type_of exchange.now))) }
         ensures kind { self.new.writer.kind ≡ self.old.writer.kind }
+        ensures handles { HasSameHandles self.old.writer self.new.writer }
         ensures rest { self.new ≡ record self.old { writer = self.new.writer; initial = self.new.initial } }
         ensures err { OnErr result (self.new ≡ self.old) }
     {
@@ -129,6 +165,8 @@ impl<K: Resource> Core<K> {
         requires { self.old.clock.0 ≤ now.0 }
         ensures stands { OnOk result ((core : CoreWorld K) (es : List (CoreEvent K)) → StandsFor K.type_of K.meta_of core es self.old → MayBeAnswered core (answers_in es) (exchange_of K.type_of exchange.now)
             → StandsFor K.type_of K.meta_of core (es ++ Answered now.0 (exchange_of K.type_of exchange.now) ∷ []) self.new) }
+        ensures clock { OnOk result (self.new.clock ≡ now) }
+        ensures handles { HasSameHandles self.old.writer self.new.writer }
         ensures err { OnErr result (self.new ≡ with_room self.old self.new.pending.schedule.spare) }
     {
         let requests = copy_requests(alloc, exchange.requests.as_slice())?;
@@ -152,6 +190,8 @@ impl<K: Resource> Core<K> {
         requires { self.old.clock.0 ≤ now.0 }
         ensures stands { OnOk result ((core : CoreWorld K) (es : List (CoreEvent K)) → StandsFor K.type_of K.meta_of core es self.old
             → StandsFor K.type_of K.meta_of core (es ++ Requested now.0 (reference_of K.type_of reference) ∷ []) self.new) }
+        ensures clock { OnOk result (self.new.clock ≡ now) }
+        ensures writer { self.new.writer ≡ self.old.writer }
         ensures err { OnErr result (self.new ≡ self.old) }
     {
         if self.shut {
@@ -173,6 +213,8 @@ impl<K: Resource> Core<K> {
         requires { self.old.clock.0 ≤ now.0 }
         ensures stands { OnOk result ((core : CoreWorld K) (es : List (CoreEvent K)) → StandsFor K.type_of K.meta_of core es self.old
             → StandsFor K.type_of K.meta_of core (es ++ Reloaded now.0 ∷ []) self.new) }
+        ensures clock { OnOk result (self.new.clock ≡ now) }
+        ensures writer { self.new.writer ≡ self.old.writer }
         ensures err { OnErr result (self.new ≡ with_room self.old self.new.pending.schedule.spare) }
     {
         let requests = bulk_requests(alloc, self.writer.cache())?;
@@ -203,6 +245,8 @@ impl<K: Resource> Core<K> {
             → result ≡ runs (running_of es) (reference_of K.type_of reference.now) }
         ensures stands { (core : CoreWorld K) (es : List (CoreEvent K)) → StandsFor K.type_of K.meta_of core es self.old
             → StandsFor K.type_of K.meta_of core (es ++ Finished now.0 (reference_of K.type_of reference.now) ok action result ∷ []) self.new }
+        ensures clock { self.new.clock ≡ now }
+        ensures writer { self.new.writer ≡ self.old.writer }
     {
         self.clock = now;
         let Some(stopped) = self.pending.stop(reference) else {
@@ -220,6 +264,8 @@ impl<K: Resource> Core<K> {
         requires { self.old.clock.0 ≤ now.0 }
         ensures stands { (core : CoreWorld K) (es : List (CoreEvent K)) → StandsFor K.type_of K.meta_of core es self.old
             → StandsFor K.type_of K.meta_of core (es ++ Settled now.0 ∷ []) self.new }
+        ensures clock { self.new.clock ≡ now }
+        ensures writer { self.new.writer ≡ self.old.writer }
     {
         self.clock = now;
         if self.shut {
@@ -247,6 +293,8 @@ impl<K: Resource> Core<K> {
             → taken_of K.type_of t ≡ next_taken core es) }
         ensures stands { IfOk result (λ t. (core : CoreWorld K) (es : List (CoreEvent K)) → StandsFor K.type_of K.meta_of core es self.old
             → StandsFor K.type_of K.meta_of core (es ++ Took now.0 (taken_of K.type_of t) ∷ []) self.new) }
+        ensures clock { OnOk result (self.new.clock ≡ now) }
+        ensures writer { self.new.writer ≡ self.old.writer }
         ensures err { OnErr result (self.new ≡ self.old) }
     {
         if !self.may_take() {
@@ -272,6 +320,14 @@ impl<K: Resource> Core<K> {
         ensures { (core : CoreWorld K) (es : List (CoreEvent K)) → StandsFor K.type_of K.meta_of core es self.now → result ≡ was_shut es }
     {
         self.shut
+    }
+
+    /// The place of a reference among those that run, in the order of their starts.
+    pub fn running_place(&self, reference: &ObjectRef<K>) -> Option<usize>
+        ensures { (core : CoreWorld K) (es : List (CoreEvent K)) → StandsFor K.type_of K.meta_of core es self.now
+            → result ≡ place_of (running_of es) (reference_of K.type_of reference.now) }
+    {
+        self.pending.running_place(reference)
     }
 
     /// How many references run.

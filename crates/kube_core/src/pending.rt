@@ -15,7 +15,7 @@ ghost use Rattle.kube_history.specs.CoreWorld.{CoreWorld};
 ghost use Rattle.kube_history.specs.CoreEvents.{next_candidate};
 ghost use Rattle.kube_history.specs.TurnCalls.{with_requests};
 ghost use Rattle.kube_turn.specs.Views.{message_of};
-ghost use Rattle.kube_core.specs.Pendings.{Stands, handed_over, FirstIs, TakenFrom, is_idle};
+ghost use Rattle.kube_core.specs.Pendings.{Stands, handed_over, place_of, FirstIs, TakenFrom, is_idle};
 
 use indexmap::IndexMap;
 use kube_meta::{Moment, NoMemory, ObjectRef, Resource};
@@ -265,6 +265,14 @@ impl<K: Resource> Pending<K> {
             → option_map arc_value (option_copied result) ≡ handed_over rs (reference_of K.type_of reference.now) }
     {
         self.running.get(reference)
+    }
+
+    /// The place of a reference among those that run, in the order of their starts.
+    pub fn running_place(&self, reference: &ObjectRef<K>) -> Option<usize>
+        ensures { (core : CoreWorld K) (qs : List (QueueEvent Message)) (rs : List (Running K)) → Stands K.type_of core self.now qs rs
+            → result ≡ place_of rs (reference_of K.type_of reference.now) }
+    {
+        self.running.get_index_of(reference)
     }
 
     /// Whether an equal reference runs.

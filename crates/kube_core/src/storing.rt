@@ -9,6 +9,7 @@ ghost use Rattle.kube_model.specs.SecondForms.{initial_after};
 ghost use Rattle.kube_watch.specs.Table.{table};
 ghost use Rattle.kube_reflect.specs.Cached.{applied};
 ghost use Rattle.kube_turn.specs.Views.{exchange_of};
+ghost use Rattle.kube_core.specs.Cores.{HasSameHandles};
 
 use kube_meta::{NoMemory, Resource};
 use kube_model::call::{Answer, Call};
@@ -42,6 +43,7 @@ pub fn store_told<K: Resource>(
     ensures kept { OnOk result ((settings : Settings) (version : List ℕ)
         → writer.new.kept ≡ fold (applied (λ o. key_of writer.old.kind (K.meta_of o))) writer.old.kept (table settings version initial exchange.now.call exchange.now.answer (map arc_value exchange.now.items)).events) }
     ensures kind { writer.new.kind ≡ writer.old.kind }
+    ensures handles { HasSameHandles writer.old writer.new }
     ensures err { OnErr result (writer.new ≡ writer.old) }
 {
     let events = events_of(

@@ -4,23 +4,19 @@ use Rattle.kube_core.specs.Cores.{Parts, StandsFor}
 use Rattle.kube_core.proofs.CoreSteps.{settled-core}
 use Rattle.kube_core.proofs.controller_core.Core.settle.Goals as goal
 
-pub returns-then-self : goal.returns-then-self
-returns-then-self g c = record {
-  stands = λ core es s.
-      let type_of = g.K.Resource.type_of in
-      let meta = g.K.Resource.meta_of in
-      let z = subst (λ (p : Parts g.row.K.Denot g.row.K-DynamicType.Denot). StandsFor g.K.Resource.type_of g.K.Resource.meta_of core es p) (sym c.self.view_is) s in
-      let m = subst (λ (p : Parts g.row.K.Denot g.row.K-DynamicType.Denot). p.clock.0 ≤ c.args.now.0) (sym c.self.view_is) c.requires in
-      settled-core type_of meta core es _ _ z c.args.now m refl refl refl refl (λ o p. p) (λ o. absurd (let e : true ≡ false = sym c.if-self.true ∙ o in cc));
-}
+pub returns-then-self-clause-stands : goal.returns-then-self-clause-stands
+returns-then-self-clause-stands g c core es s =
+    let type_of = g.K.Resource.type_of in
+    let meta = g.K.Resource.meta_of in
+    let z = subst (λ (p : Parts g.row.K.Denot g.row.K-DynamicType.Denot). StandsFor g.K.Resource.type_of g.K.Resource.meta_of core es p) (sym c.self.view_is) s in
+    let m = subst (λ (p : Parts g.row.K.Denot g.row.K-DynamicType.Denot). p.clock.0 ≤ c.args.now.0) (sym c.self.view_is) c.requires in
+    settled-core type_of meta core es _ _ z c.args.now m refl refl refl refl (λ o p. p) (λ o. absurd (let e : true ≡ false = sym c.if-self.true ∙ o in cc))
 
-pub returns : goal.returns
-returns g c = record {
-  stands = λ core es s.
-      let type_of = g.K.Resource.type_of in
-      let meta = g.K.Resource.meta_of in
-      let z = subst (λ (p : Parts g.row.K.Denot g.row.K-DynamicType.Denot). StandsFor g.K.Resource.type_of g.K.Resource.meta_of core es p) (sym c.self.view_is) s in
-      let m = subst (λ (p : Parts g.row.K.Denot g.row.K-DynamicType.Denot). p.clock.0 ≤ c.args.now.0) (sym c.self.view_is) c.requires in
-      settled-core type_of meta core es _ _ z c.args.now m refl refl refl refl (λ o. absurd (let e : false ≡ true = sym c.if-self.false ∙ o in cc))
-      (λ o p. c.settle.ensures.stands core (queue_of core es) (running_of es) p);
-}
+pub returns-clause-stands : goal.returns-clause-stands
+returns-clause-stands g c core es s =
+    let type_of = g.K.Resource.type_of in
+    let meta = g.K.Resource.meta_of in
+    let z = subst (λ (p : Parts g.row.K.Denot g.row.K-DynamicType.Denot). StandsFor g.K.Resource.type_of g.K.Resource.meta_of core es p) (sym c.self.view_is) s in
+    let m = subst (λ (p : Parts g.row.K.Denot g.row.K-DynamicType.Denot). p.clock.0 ≤ c.args.now.0) (sym c.self.view_is) c.requires in
+    settled-core type_of meta core es _ _ z c.args.now m refl refl refl refl (λ o. absurd (let e : false ≡ true = sym c.if-self.false ∙ o in cc))
+    (λ o p. c.settle.ensures.stands core (queue_of core es) (running_of es) p)
