@@ -1,0 +1,246 @@
+-- One more ask of a turn, given to what decides.
+use Rattle.std.proofs.Common.{◌≡◌, ℕ, zero, suc, Bool, true, false, ◌||◌, List, [], ◌∷◌, ◌++◌, map, length, Option, Some, None, if◌then◌else◌, refl, sym, ap, subst, ◌∙◌, append_assoc, append-nil}
+use Rattle.std.proofs.lemmas.List.{map-append}
+use Rattle.kube_meta.specs.declared.resource.Resource as resource
+use Rattle.kube_model.specs.World.{World}
+use Rattle.kube_model.specs.History.{Dated, Exchange, Turn, Step, dated, dated_of, exchanges, exchanges_of, exchanges_with}
+use Rattle.kube_model.specs.Asks.{next_asked}
+use Rattle.kube_model.specs.Pause.{gave_up}
+use Rattle.kube_model.specs.Shutdowns.{is_shut, asks_shutdown, is_closed}
+use Rattle.kube_model.specs.Named.{RootIsNamed}
+use Rattle.kube_model.specs.Turns.{next_source}
+use Rattle.kube_model.specs.Traces.{IsNext}
+use Rattle.kube_history.specs.CoreWorld.{core_world}
+use Rattle.kube_history.specs.CoreEvents.{CoreEvent, Answered, answers_in}
+use Rattle.kube_history.specs.Legal.{MayBeAnswered}
+use Rattle.kube_history.proofs.Answerable.{answerable, shaped}
+use Rattle.kube_history.proofs.Segments.{answers-append}
+use Rattle.kube_history.proofs.TurnParts.{turn-fits}
+use Rattle.kube_streams.specs.declared.backoff.Backoff as backoff
+use Rattle.kube_core.specs.Cores.{Parts, StandsFor as CoreStands}
+use Rattle.kube_asks.specs.Asking.{Asking, AskStands, IsNextAsked, IsPolledAt, IsBrokenAt, IsLostAt, IfUnnamed, IsWorldOf, with_asked}
+use Rattle.kube_asks.specs.declared.asks.AskFault.{AskFault}
+use Rattle.kube_asks.specs.declared.asks.AskFault.TheVariants as faults
+use Rattle.kube_asks.specs.declared.root.RootSource as root_source
+use Rattle.kube_asks.specs.declared.set.RelatedSet as related_set
+use Rattle.kube_step.specs.Asked.{AllStand, MayAsk, IsOneAsk, AreAsked, AreCutOff, AreEndedBy, IsLostNext, IsUnnamedNext, NotAsked, AskedOnce}
+use Rattle.kube_step.specs.Calls.{ArePolled}
+use Rattle.kube_step.specs.Controllers.{IsWorldOfAsks, AsksStand}
+use Rattle.kube_step.proofs.Trails.{next-append, named-append}
+
+module _ {O R S : Type 0} (root_polls : R → List (Dated O) → ℕ → Exchange O → R → Type 0) (related_polls : S → ℕ → List (Dated O) → ℕ → Exchange O → S → Type 0) where
+  pub polled-append : (before : List (Dated O)) (r : R) (s : S) (ds es : List (Dated O)) (r' : R) (s' : S) (r'' : R) (s'' : S) → ArePolled root_polls related_polls before r s ds r' s' → ArePolled root_polls related_polls (before ++ ds) r' s' es r'' s''
+      → ArePolled root_polls related_polls before r s (ds ++ es) r'' s''
+  polled-append before r s [] es r' s' r'' s'' p q =
+      subst (λ b. ArePolled root_polls related_polls b r s es r'' s'') (append-nil before)
+      (subst (λ z. ArePolled root_polls related_polls (before ++ []) z s es r'' s'') p.0 (subst (λ z. ArePolled root_polls related_polls (before ++ []) r' z es r'' s'') p.1 q))
+  polled-append before r s (d ∷ ds) es r' s' r'' s'' p q =
+      (p.0, p.1, p.2, polled-append (before ++ d ∷ []) p.0 p.1 ds es r' s' r'' s'' p.3 (subst (λ b. ArePolled root_polls related_polls b r' s' es r'' s'') (sym (append_assoc before (d ∷ []) ds)) q))
+
+dated-more : {O : Type 0} (at : ℕ) (xs ys : List (Exchange O)) → dated at (xs ++ ys) ≡ dated at xs ++ dated at ys
+dated-more at xs ys = map-append (λ x. record { at = at; exchange = x }) xs ys
+
+pub with-more : {O : Type 0} (h : List (Step O)) (t : Turn) (xs ys : List (Exchange O)) → exchanges_with h t (xs ++ ys) ≡ exchanges_with h t xs ++ dated t.at ys
+with-more h t xs ys = ap (λ ds. exchanges h ++ ds) (dated-more t.at xs ys) ∙ sym (append_assoc (exchanges h) (dated t.at xs) (dated t.at ys))
+
+-- in an open turn the source that is asked next is the next one of its asks
+pub source-is : {O B : Type 0} (w : World O B) (h : List (Step O)) (t : Turn) (xs : List (Exchange O)) → is_closed w h t ≡ false → next_source w h t xs ≡ next_asked w t.budget (exchanges h) (dated t.at xs) t.at
+source-is w h t xs o = go (is_shut h) (asks_shutdown t.shutdown) o
+  where
+    go : (a b : Bool) → (a || b || gave_up w (exchanges h)) ≡ false → (if a || b then None else next_asked w t.budget (exchanges h) (dated t.at xs) t.at) ≡ next_asked w t.budget (exchanges h) (dated t.at xs) t.at
+    go true b e = absurd (cc)
+    go false true e = absurd (cc)
+    go false false e = refl
+
+module _ {R S B O D : Type 0} (root : root_source.Ghosts R O D) (related : related_set.Ghosts S O D) (delays : backoff.Ghosts B) (object : resource.Ghosts O D) (w : World O B) (h : List (Step O)) (t : Turn) where
+  module _ (xs : List (Exchange O)) (es : List (CoreEvent O)) (a : Asking R S B) (core : Parts O D) (may : MayAsk root related delays object w h t xs es a core) (x : Exchange O) (a' : Asking R S B)
+      (asked : IsNextAsked w t.budget (exchanges h) (dated t.at xs) t.at (Some x))
+      (polled : (ds : List (Dated O)) → AllStand root related a.root a.related ds → IsPolledAt root.polls related.polls ds t.at x a.root a.related a'.root a'.related x.source) where
+    all-joined : exchanges h ++ dated t.at xs ≡ exchanges_with h t xs
+    all-joined = refl
+
+    pub poll-is : IsPolledAt root.polls related.polls (exchanges_with h t xs) t.at x a.root a.related a'.root a'.related x.source
+    poll-is = polled (exchanges_with h t xs) may.asks_stand.sources
+
+    pub next-is : IsNext w h t xs x
+    next-is = record { source = source-is w h t xs may.is_open ∙ asked.0; fits = asked.1 }
+
+    pub named-is : RootIsNamed w x.source (exchanges_of x.source (exchanges_with h t xs)) x
+    named-is = go x.source poll-is
+      where
+        go : (s : ℕ) → IsPolledAt root.polls related.polls (exchanges_with h t xs) t.at x a.root a.related a'.root a'.related s → RootIsNamed w s (exchanges_of s (exchanges_with h t xs)) x
+        go zero p = may.names (dated_of 0 (exchanges_with h t xs)) t.at x a.root a'.root p.0
+        go (suc place) p = tt
+
+    pub may-be : MayBeAnswered (core_world w) (answers_in es) x
+    may-be =
+        subst (λ ds. MayBeAnswered (core_world w) ds x) (sym may.answers)
+        (answerable w may.settings may.is_watched (exchanges_with h t xs) t.at x (shaped w (exchanges_with h t xs) may.fits) next-is.fits named-is)
+
+    pub may-go-on : (core' : Parts O D) → IsWorldOfAsks root related delays object w a' → AsksStand root related delays object w t.budget (exchanges h) (with_asked (dated t.at xs) t.at (Some x)) a' → a'.is_spent ≡ false
+        → CoreStands object.type_of object.meta_of (core_world w) (es ++ Answered t.at x ∷ []) core' → MayAsk root related delays object w h t (xs ++ x ∷ []) (es ++ Answered t.at x ∷ []) a' core'
+    may-go-on core' world stands unspent core_stands = record {
+      world = world;
+      asks_stand = subst (λ ds. AsksStand root related delays object w t.budget (exchanges h) ds a') (sym (dated-more t.at xs (x ∷ []))) stands;
+      unspent = unspent;
+      core_stands = core_stands;
+      answers = answers-append es (Answered t.at x ∷ []) ∙ (ap (λ ds. ds ++ dated t.at (x ∷ [])) may.answers ∙ sym (with-more h t xs (x ∷ [])));
+      fits = turn-fits w h t xs (x ∷ []) may.fits (next-is, tt);
+      settings = may.settings;
+      is_watched = may.is_watched;
+      is_open = may.is_open;
+      names = may.names;
+    }
+
+    pub one-ask : (core' : Parts O D) → MayAsk root related delays object w h t (xs ++ x ∷ []) (es ++ Answered t.at x ∷ []) a' core' → IsOneAsk root related delays object w h t xs es a x a' core'
+    one-ask core' m = record { next = next-is; is_named = named-is; polled = poll-is; may = m }
+
+  -- one ask, by what the asks and what decides say of it, at this moment
+  module _ (xs : List (Exchange O)) (es : List (CoreEvent O)) (a : Asking R S B) (core : Parts O D) (may : MayAsk root related delays object w h t xs es a core) (a' : Asking R S B) (at : ℕ) (now : t.at ≡ at) where
+    abbrev Found : Option ℕ → Type 0
+    Found o = (v : World O B) (budget : List ℕ) (before mine : List (Dated O)) → IsWorldOfAsks root related delays object v a → AsksStand root related delays object v budget before mine a → next_asked v budget before mine at ≡ o
+
+    found-is : (o : Option ℕ) → Found o → next_source w h t xs ≡ o
+    found-is o f = source-is w h t xs may.is_open ∙ (ap (next_asked w t.budget (exchanges h) (dated t.at xs)) now ∙ f w t.budget (exchanges h) (dated t.at xs) may.world may.asks_stand)
+
+    pub none-is : next_asked w t.budget (exchanges h) (dated t.at xs) at ≡ None → next_source w h t xs ≡ None
+    none-is e = source-is w h t xs may.is_open ∙ (ap (next_asked w t.budget (exchanges h) (dated t.at xs)) now ∙ e)
+
+    same-world : root.kind a'.root ≡ root.kind a.root → root.feed a'.root ≡ root.feed a.root → related.feeds a'.related ≡ related.feeds a.related → IsWorldOfAsks root related delays object w a'
+    same-world kind feed feeds =
+        subst (λ k. IsWorldOf w k object.meta_of (root.feed a'.root) (related.feeds a'.related) delays.delay delays.delayed delays.restarted) (sym kind)
+        (subst (λ f. IsWorldOf w (root.kind a.root) object.meta_of f (related.feeds a'.related) delays.delay delays.delayed delays.restarted) (sym feed)
+        (subst (λ f. IsWorldOf w (root.kind a.root) object.meta_of (root.feed a.root) f delays.delay delays.delayed delays.restarted) (sym feeds) may.world))
+
+    stand-none : AllStand root related a.root a.related (exchanges_with h t (xs ++ []))
+    stand-none = subst (λ ys. AllStand root related a.root a.related (exchanges_with h t ys)) (sym (append-nil xs)) may.asks_stand.sources
+
+    -- nothing more was asked, or the next source and no more
+    cut-none : (Ends : Option ℕ → ℕ → R → S → R → S → Type 0) → Ends (next_source w h t xs) t.at a.root a.related a'.root a'.related → AreCutOff root related w h t Ends xs a.root a.related a'.root a'.related
+    cut-none Ends e = record {
+      made = [];
+      asked = tt;
+      each_named = tt;
+      reached_root = a.root;
+      reached_related = a.related;
+      polled = (refl, refl);
+      stand = stand-none;
+      rest = subst (λ ys. Ends (next_source w h t ys) t.at a.root a.related a'.root a'.related) (sym (append-nil xs)) e;
+    }
+
+    pub ended-next : (f : AskFault) → (f ≡ faults.NoMemory → (source : ℕ) × IsLostAt root.polls related.polls root.loses related.loses (AllStand root related a.root a.related) at a.root a.related a'.root a'.related source × Found (Some source))
+        → IfUnnamed f (λ source. IsBrokenAt root.breaks related.breaks at a.root a.related a'.root a'.related source × Found (Some source)) → (f ≡ faults.Spent → a.is_spent ≡ true)
+        → AreEndedBy root related w h t f xs a.root a.related a'.root a'.related
+    ended-next faults.NoMemory lost unnamed only =
+        let l = lost refl in
+        cut-none (IsLostNext root related) (AskedOnce l.0 (found-is (Some l.0) l.2) (subst (λ n. IsLostAt root.polls related.polls root.loses related.loses (AllStand root related a.root a.related) n a.root a.related a'.root a'.related l.0) (sym now) l.1))
+    ended-next (faults.Unnamed source) lost unnamed only =
+        cut-none (λ next n p q p' q'. IsUnnamedNext root related next n p q p' q' source)
+        (record { next_is = found-is (Some source) unnamed.1; broken = subst (λ n. IsBrokenAt root.breaks related.breaks n a.root a.related a'.root a'.related source) (sym now) unnamed.0 })
+    ended-next faults.Spent lost unnamed only = absurd (let e : false ≡ true = sym may.unspent ∙ only refl in cc)
+
+    module _ (x : Exchange O) (next : IsNextAsked w t.budget (exchanges h) (dated t.at xs) at (Some x) × AskStands w (root.stands a'.root) (related.stands a'.related) (length (related.feeds a.related)) t.budget (exchanges h) (with_asked (dated t.at xs) at (Some x)) a'.kept)
+        (polled : (ds : List (Dated O)) → AllStand root related a.root a.related ds → IsPolledAt root.polls related.polls ds at x a.root a.related a'.root a'.related x.source)
+        (kind : root.kind a'.root ≡ root.kind a.root) (feed : root.feed a'.root ≡ root.feed a.root) (feeds : related.feeds a'.related ≡ related.feeds a.related) where
+      asked-now : IsNextAsked w t.budget (exchanges h) (dated t.at xs) t.at (Some x)
+      asked-now = subst (λ n. IsNextAsked w t.budget (exchanges h) (dated t.at xs) n (Some x)) (sym now) next.0
+
+      stand-now : AsksStand root related delays object w t.budget (exchanges h) (with_asked (dated t.at xs) t.at (Some x)) a'
+      stand-now =
+          subst (λ n. AskStands w (root.stands a'.root) (related.stands a'.related) n t.budget (exchanges h) (with_asked (dated t.at xs) t.at (Some x)) a'.kept) (ap length (sym feeds))
+          (subst (λ n. AskStands w (root.stands a'.root) (related.stands a'.related) (length (related.feeds a.related)) t.budget (exchanges h) (with_asked (dated t.at xs) n (Some x)) a'.kept) (sym now) next.1)
+
+      polled-now : (ds : List (Dated O)) → AllStand root related a.root a.related ds → IsPolledAt root.polls related.polls ds t.at x a.root a.related a'.root a'.related x.source
+      polled-now ds s = subst (λ n. IsPolledAt root.polls related.polls ds n x a.root a.related a'.root a'.related x.source) (sym now) (polled ds s)
+
+      pub asked-once : (core' : Parts O D) → a'.is_spent ≡ false
+          → (CoreStands object.type_of object.meta_of (core_world w) es core → MayBeAnswered (core_world w) (answers_in es) x → CoreStands object.type_of object.meta_of (core_world w) (es ++ Answered at x ∷ []) core')
+          → IsOneAsk root related delays object w h t xs es a x a' core'
+      asked-once core' unspent stands =
+          one-ask xs es a core may x a' asked-now polled-now core'
+          (may-go-on xs es a core may x a' asked-now polled-now core' (same-world kind feed feeds) stand-now unspent
+          (subst (λ n. CoreStands object.type_of object.meta_of (core_world w) (es ++ Answered n x ∷ []) core') (sym now) (stands may.core_stands (may-be xs es a core may x a' asked-now polled-now))))
+
+      -- the exchange was made, and memory was wanting before it was given to what decides
+      pub lost-after : AreCutOff root related w h t (IsLostNext root related) xs a.root a.related a'.root a'.related
+      lost-after = record {
+        made = x ∷ [];
+        asked = (next-is xs es a core may x a' asked-now polled-now, tt);
+        each_named = (named-is xs es a core may x a' asked-now polled-now, tt);
+        reached_root = a'.root;
+        reached_related = a'.related;
+        polled = (a'.root, a'.related, poll-is xs es a core may x a' asked-now polled-now, (refl, refl));
+        stand = subst (AllStand root related a'.root a'.related) (ap (λ ds. exchanges h ++ ds) (sym (dated-more t.at xs (x ∷ [])))) stand-now.sources;
+        rest = NotAsked refl refl;
+      }
+
+  -- one more of those that are asked one after another
+  pub asked-push : (es : List (CoreEvent O)) (a : Asking R S B) (xs : List (Exchange O)) (b : Asking R S B) (core' : Parts O D) (x : Exchange O) (b' : Asking R S B) (core'' : Parts O D) → AreAsked root related delays object w h t es a xs b core'
+      → IsOneAsk root related delays object w h t xs (es ++ map (Answered t.at) xs) b x b' core'' → AreAsked root related delays object w h t es a (xs ++ x ∷ []) b' core''
+  asked-push es a xs b core' x b' core'' k one = record {
+    asked = next-append w h t [] xs (x ∷ []) k.asked (one.next, tt);
+    each_named = named-append w h t (RootIsNamed w) [] xs (x ∷ []) k.each_named (one.is_named, tt);
+    polled =
+        subst (λ ds. ArePolled root.polls related.polls (exchanges h) a.root a.related ds b'.root b'.related) (sym (dated-more t.at xs (x ∷ [])))
+        (polled-append root.polls related.polls (exchanges h) a.root a.related (dated t.at xs) (dated t.at (x ∷ [])) b.root b.related b'.root b'.related k.polled (b'.root, b'.related, one.polled, (refl, refl)));
+    may =
+        subst (λ us. MayAsk root related delays object w h t (xs ++ x ∷ []) us b' core'')
+        (append_assoc es (map (Answered t.at) xs) (Answered t.at x ∷ []) ∙ ap (λ us. es ++ us) (sym (map-append (Answered t.at) xs (x ∷ [])))) one.may;
+  }
+
+  pub asked-none : (es : List (CoreEvent O)) (a : Asking R S B) (core : Parts O D) → MayAsk root related delays object w h t [] es a core → AreAsked root related delays object w h t es a [] a core
+  asked-none es a core m = record {
+    asked = tt;
+    each_named = tt;
+    polled = (refl, refl);
+    may = subst (λ us. MayAsk root related delays object w h t [] us a core) (sym (append-nil es)) m;
+  }
+
+  -- what was asked, and then ended early
+  pub cut-more : (Ends : Option ℕ → ℕ → R → S → R → S → Type 0) (es : List (CoreEvent O)) (a : Asking R S B) (xs : List (Exchange O)) (b : Asking R S B) (core' : Parts O D) (r : R) (s : S) → AreAsked root related delays object w h t es a xs b core'
+      → AreCutOff root related w h t Ends xs b.root b.related r s → AreCutOff root related w h t Ends [] a.root a.related r s
+  cut-more Ends es a xs b core' r s k cut = record {
+    made = xs ++ cut.made;
+    asked = next-append w h t [] xs cut.made k.asked cut.asked;
+    each_named = named-append w h t (RootIsNamed w) [] xs cut.made k.each_named cut.each_named;
+    reached_root = cut.reached_root;
+    reached_related = cut.reached_related;
+    polled =
+        subst (λ ds. ArePolled root.polls related.polls ds a.root a.related (dated t.at (xs ++ cut.made)) cut.reached_root cut.reached_related) (sym (append-nil (exchanges h)))
+        (subst (λ ds. ArePolled root.polls related.polls (exchanges h) a.root a.related ds cut.reached_root cut.reached_related) (sym (dated-more t.at xs cut.made))
+        (polled-append root.polls related.polls (exchanges h) a.root a.related (dated t.at xs) (dated t.at cut.made) b.root b.related cut.reached_root cut.reached_related k.polled cut.polled));
+    stand = cut.stand;
+    rest = cut.rest;
+  }
+
+  pub ended-more : (f : AskFault) (es : List (CoreEvent O)) (a : Asking R S B) (xs : List (Exchange O)) (b : Asking R S B) (core' : Parts O D) (r : R) (s : S) → AreAsked root related delays object w h t es a xs b core'
+      → AreEndedBy root related w h t f xs b.root b.related r s → AreEndedBy root related w h t f [] a.root a.related r s
+  ended-more faults.NoMemory es a xs b core' r s k e = cut-more (IsLostNext root related) es a xs b core' r s k e
+  ended-more (faults.Unnamed source) es a xs b core' r s k e = cut-more (λ next n p q p' q'. IsUnnamedNext root related next n p q p' q' source) es a xs b core' r s k e
+  ended-more faults.Spent es a xs b core' r s k e = absurd e
+
+  -- nothing more was asked, and memory was wanting
+  pub asked-lost : (es : List (CoreEvent O)) (a : Asking R S B) (xs : List (Exchange O)) (b : Asking R S B) (core' : Parts O D) → AreAsked root related delays object w h t es a xs b core'
+      → AreCutOff root related w h t (IsLostNext root related) [] a.root a.related b.root b.related
+  asked-lost es a xs b core' k = record {
+    made = xs;
+    asked = k.asked;
+    each_named = k.each_named;
+    reached_root = b.root;
+    reached_related = b.related;
+    polled = subst (λ ds. ArePolled root.polls related.polls ds a.root a.related (dated t.at xs) b.root b.related) (sym (append-nil (exchanges h))) k.polled;
+    stand = k.may.asks_stand.sources;
+    rest = NotAsked refl refl;
+  }
+
+  -- none is left to make
+  pub asked-end : (es : List (CoreEvent O)) (a : Asking R S B) (xs : List (Exchange O)) (b : Asking R S B) (core' : Parts O D) (b' : Asking R S B) (core'' : Parts O D) → AreAsked root related delays object w h t es a xs b core'
+      → MayAsk root related delays object w h t xs (es ++ map (Answered t.at) xs) b' core'' → b'.root ≡ b.root → b'.related ≡ b.related → AreAsked root related delays object w h t es a xs b' core''
+  asked-end es a xs b core' b' core'' k may same_root same_related = record {
+    asked = k.asked;
+    each_named = k.each_named;
+    polled =
+        subst (λ r. ArePolled root.polls related.polls (exchanges h) a.root a.related (dated t.at xs) r b'.related) (sym same_root)
+        (subst (λ s. ArePolled root.polls related.polls (exchanges h) a.root a.related (dated t.at xs) b.root s) (sym same_related) k.polled);
+    may = may;
+  }

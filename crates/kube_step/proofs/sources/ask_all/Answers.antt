@@ -1,0 +1,83 @@
+use Rattle.std.proofs.Common.{◌++◌, ◌∷◌, ◌+◌, ◌<◌, ◌^◌, [], ℕ, List, map, length, sym, ap, subst, ◌∙◌}
+use Rattle.std.proofs.lemmas.List.{map-append}
+use Rattle.std.proofs.lemmas.Result.{err_from_is_err_and}
+use Rattle.std.specs.Option.{option_map}
+use Rattle.kube_history.specs.CoreWorld.{core_world}
+use Rattle.kube_history.specs.CoreEvents.{Answered}
+use Rattle.kube_core.specs.Cores.{Parts, StandsFor}
+use Rattle.kube_turn.specs.Views.{exchange_of}
+use Rattle.kube_asks.specs.declared.asks.AskFault.{AskFault}
+use Rattle.kube_asks.specs.declared.asks.AskFault.TheVariants as faults
+use Rattle.kube_step.specs.Asked.{AreAsked, IsAsked}
+use Rattle.kube_step.specs.Errors.{IfUnnamedAsk}
+use Rattle.kube_step.proofs.Asking.{asked-push, asked-end, asked-lost, ended-more}
+use Rattle.kube_step.proofs.sources.ask_all.Goals as goal
+
+unnamed-weaker : (f : AskFault) (P Q : ℕ → Type 0) → ((s : ℕ) → P s → Q s) → IfUnnamedAsk f P → IfUnnamedAsk f Q
+unnamed-weaker (faults.Unnamed s) P Q h p = h s p
+unnamed-weaker faults.NoMemory P Q h p = tt
+unnamed-weaker faults.Spent P Q h p = tt
+
+pub loop-all-preserved : goal.loop-all-preserved
+loop-all-preserved g c =
+    let e = c.in_ok-exchange.ensures in
+    let i = c.loop-all.invariant in
+    let f = exchange_of g.R.Object.Resource.type_of in
+    record {
+      few = subst (λ (z : List _). length z + 1 < 2 ^ 32) (sym e.feeds) i.few;
+      root = e.root;
+      related = e.related;
+      feeds = e.feeds ∙ i.feeds;
+      clock = e.clock;
+      handles = record { book = e.handles.book ∙ i.handles.book; readers = e.handles.readers ∙ i.handles.readers };
+      asked = λ w h t es at may.
+          let k = i.asked w h t es at may in
+          let xs = map f c.loop-all.all in
+          let one = subst (λ o. IsAsked g.R.RootSource g.S.RelatedSet g.B.Backoff g.R.Object.Resource w h t xs (es ++ map (Answered t.at) xs) c.loop-all.asks (option_map f o) c.ask_one.new.asks c.ask_one.new.core) c.in-Some.is
+          (e.asked w h t xs (es ++ map (Answered t.at) xs) at k.may) in
+          subst (λ ys. AreAsked g.R.RootSource g.S.RelatedSet g.B.Backoff g.R.Object.Resource w h t es c.args.asks.now ys c.ask_one.new.asks c.ask_one.new.core)
+          (sym (ap (map f) c.in_ok-push-in-Some.ensures.ok ∙ map-append f c.loop-all.all (c.in-Some.exchange ∷ [])))
+          (asked-push g.R.RootSource g.S.RelatedSet g.B.Backoff g.R.Object.Resource w h t es c.args.asks.now xs c.loop-all.asks c.loop-all.core (f c.in-Some.exchange) c.ask_one.new.asks c.ask_one.new.core k one);
+    }
+
+pub returns-in-None-clause-asked : goal.returns-in-None-clause-asked
+returns-in-None-clause-asked g c w h t es at may =
+    let f = exchange_of g.R.Object.Resource.type_of in
+    let k = c.loop-all.invariant.asked w h t es at may in
+    let xs = map f c.loop-all.all in
+    let one = subst (λ o. IsAsked g.R.RootSource g.S.RelatedSet g.B.Backoff g.R.Object.Resource w h t xs (es ++ map (Answered t.at) xs) c.loop-all.asks (option_map f o) c.ask_one.new.asks c.ask_one.new.core) c.in-None.is
+    (c.in_ok-exchange.ensures.asked w h t xs (es ++ map (Answered t.at) xs) at k.may) in
+    (asked-end g.R.RootSource g.S.RelatedSet g.B.Backoff g.R.Object.Resource w h t es c.args.asks.now xs c.loop-all.asks c.loop-all.core c.ask_one.new.asks c.ask_one.new.core k one.1 one.2 one.3, one.0)
+
+pub returns-in_err-exchange-clause-ended : goal.returns-in_err-exchange-clause-ended
+returns-in_err-exchange-clause-ended g c =
+    let f = exchange_of g.R.Object.Resource.type_of in
+    let p = err_from_is_err_and c.from_residual.result c.from_residual.ensures.1 in
+    rw (p.1, p.2) (λ w h t es at may.
+    let k = c.loop-all.invariant.asked w h t es at may in
+    let xs = map f c.loop-all.all in
+    ended-more g.R.RootSource g.S.RelatedSet g.B.Backoff g.R.Object.Resource w h t c.in_err-exchange.field-0.0 es c.args.asks.now xs c.loop-all.asks c.loop-all.core c.ask_one.new.asks.root c.ask_one.new.asks.related k
+    (c.in_err-exchange.ensures.ended w h t xs (es ++ map (Answered t.at) xs) at k.may))
+
+pub returns-in_err-exchange-clause-unnamed : goal.returns-in_err-exchange-clause-unnamed
+returns-in_err-exchange-clause-unnamed g c =
+    let f = exchange_of g.R.Object.Resource.type_of in
+    let p = err_from_is_err_and c.from_residual.result c.from_residual.ensures.1 in
+    rw (p.1, p.2) (unnamed-weaker c.in_err-exchange.field-0.0 _ _
+    (λ source same w h t es at may.
+    let k = c.loop-all.invariant.asked w h t es at may in
+    let xs = map f c.loop-all.all in
+    (xs, k.asked, subst (λ (q : Parts g.row.R-Object.Denot g.row.R-Object-DynamicType.Denot). StandsFor g.R.Object.Resource.type_of g.R.Object.Resource.meta_of (core_world w) (es ++ map (Answered t.at) xs) q) (sym same) k.may.core_stands))
+    c.in_err-exchange.ensures.unnamed)
+
+pub returns-in_err-push-in-Some-clause-ended : goal.returns-in_err-push-in-Some-clause-ended
+returns-in_err-push-in-Some-clause-ended g c =
+    let f = exchange_of g.R.Object.Resource.type_of in
+    let p = err_from_is_err_and c.from_residual-in_err-push-in-Some.result c.from_residual-in_err-push-in-Some.ensures.1 in
+    rw (p.1, p.2) (λ w h t es at may.
+    let k = c.loop-all.invariant.asked w h t es at may in
+    let xs = map f c.loop-all.all in
+    let one = subst (λ o. IsAsked g.R.RootSource g.S.RelatedSet g.B.Backoff g.R.Object.Resource w h t xs (es ++ map (Answered t.at) xs) c.loop-all.asks (option_map f o) c.ask_one.new.asks c.ask_one.new.core) c.in-Some.is
+    (c.in_ok-exchange.ensures.asked w h t xs (es ++ map (Answered t.at) xs) at k.may) in
+    let q = asked-push g.R.RootSource g.S.RelatedSet g.B.Backoff g.R.Object.Resource w h t es c.args.asks.now xs c.loop-all.asks c.loop-all.core (f c.in-Some.exchange) c.ask_one.new.asks c.ask_one.new.core k one in
+    asked-lost g.R.RootSource g.S.RelatedSet g.B.Backoff g.R.Object.Resource w h t es c.args.asks.now (xs ++ f c.in-Some.exchange ∷ []) c.ask_one.new.asks c.ask_one.new.core q)
