@@ -13,7 +13,7 @@ use Rattle.kube_model.specs.Raw.{Raw, grown, is_fault, FaultRose}
 use Rattle.kube_model.specs.Named.{OfCall, has_names, IsOwedForm}
 use Rattle.kube_watch.specs.Calls.{IsAskedOnce}
 use Rattle.kube_watch.specs.Watching.{Watching}
-use Rattle.kube_watch.specs.Stands.{StandsFor, exchanges_in, settings_in, api_of}
+use Rattle.kube_watch.specs.Stands.{StandsFor, config_of, exchanges_in, settings_in, api_of}
 use Rattle.kube_watch.specs.Polls.{Api, IsCall}
 use Rattle.kube_asks.specs.Noting.{updated_of}
 
@@ -61,10 +61,11 @@ module _ {A V : Type 0} (meta : V → ObjectMeta) where
     pub watcher : StandsFor own r.watcher
     pub list : IsListing (updated_of r.kind meta) (settings_in r.watcher) (exchanges_in own) r.listing
 
-  -- the exchange was made by one call of the API, and each object that must become a reference has a name
+  -- the exchange was made by one call of the API, each object that must become a reference has a name, and the watcher is configured as before
   pub record IsRootPoll (api : Api A V) (own : List (Dated V)) (now : ℕ) (old : RootWatching A V) (x : Exchange V) (new : RootWatching A V) : Type 0 where
     pub call : IsCall api (settings_in old.watcher) now (api_of old.watcher) x (api_of new.watcher)
     pub named : has_names (has_name meta) api.version (exchanges_in own) (OfCall call.raw) ≡ true
+    pub config : config_of new.watcher ≡ config_of old.watcher
 
   abbrev pub IsRootBroken : Api A V → ℕ → RootWatching A V → RootWatching A V → Type 0
   IsRootBroken api now old new = IsUnnamedCall {O = V} api (has_name meta) (λ own. RootStands own old) (settings_in old.watcher) now (api_of old.watcher) (api_of new.watcher)

@@ -26,9 +26,9 @@ impl<K: Resource> RelatedSet<K> for NoRelated {
 
     ghost polls = { λ s p own now x s'. ⊥ };
 
-    ghost breaks = { λ s p now s'. ⊤ };
+    ghost breaks = { λ s p now s'. ⊥ };
 
-    ghost loses = { λ s p now s'. ⊤ };
+    ghost loses = { λ s p now s'. ⊥ };
 
     fn count(&self) -> u32 {
         0

@@ -82,6 +82,7 @@ returns-in-Ok-clause-polls g c own =
       named =
           named-now meta (exchanges_in own) u.call u.answer (map arc_value u.items) u.error (settings_in inside.watcher) e.talk.0 e.talk.1
           (flat_map objects_of (events_of u)) (e.objects own h.watcher) c.in-Ok.ensures.named;
+      config = e.config;
     }))
 
 pub returns-in-Err-clause-unnamed : goal.returns-in-Err-clause-unnamed
