@@ -1,6 +1,7 @@
 -- One more ask of a turn, given to what decides.
-use Rattle.std.proofs.Common.{◌≡◌, ℕ, zero, suc, Bool, true, false, ◌||◌, List, [], ◌∷◌, ◌++◌, map, length, Option, Some, None, if◌then◌else◌, refl, sym, ap, subst, ◌∙◌, append_assoc, append-nil}
+use Rattle.std.proofs.Common.{◌≡◌, ℕ, zero, suc, Bool, true, false, ◌||◌, List, [], ◌∷◌, ◌++◌, map, length, Option, Some, None, if◌then◌else◌, refl, sym, ap, ap₂, subst, ◌∙◌, append_assoc, append-nil}
 use Rattle.std.proofs.lemmas.List.{map-append}
+use Rattle.kube_meta.specs.Reference.{Reference}
 use Rattle.kube_meta.specs.declared.resource.Resource as resource
 use Rattle.kube_model.specs.World.{World}
 use Rattle.kube_model.specs.History.{Dated, Exchange, Turn, Step, dated, dated_of, exchanges, exchanges_of, exchanges_with}
@@ -11,7 +12,8 @@ use Rattle.kube_model.specs.Named.{RootIsNamed}
 use Rattle.kube_model.specs.Turns.{next_source}
 use Rattle.kube_model.specs.Traces.{IsNext}
 use Rattle.kube_history.specs.CoreWorld.{core_world}
-use Rattle.kube_history.specs.CoreEvents.{CoreEvent, Answered, answers_in}
+use Rattle.kube_history.specs.CoreEvents.{CoreEvent, Answered, Requested, answers_in}
+use Rattle.kube_history.specs.TurnEvents.{reload_events}
 use Rattle.kube_history.specs.Legal.{MayBeAnswered}
 use Rattle.kube_history.proofs.Answerable.{answerable, shaped}
 use Rattle.kube_history.proofs.Segments.{answers-append}
@@ -26,7 +28,12 @@ use Rattle.kube_asks.specs.declared.set.RelatedSet as related_set
 use Rattle.kube_step.specs.Asked.{AllStand, MayAsk, IsOneAsk, AreAsked, AreCutOff, AreEndedBy, IsLostNext, IsUnnamedNext, NotAsked, AskedOnce}
 use Rattle.kube_step.specs.Calls.{ArePolled}
 use Rattle.kube_step.specs.Controllers.{IsWorldOfAsks, AsksStand}
+use Rattle.kube_step.specs.Turns.{requests_first}
 use Rattle.kube_step.proofs.Trails.{next-append, named-append}
+
+requests-none : (O : Type 0) (at : ℕ) (rs : List Reference) → answers_in {O = O} (map (Requested at) rs) ≡ []
+requests-none O at [] = refl
+requests-none O at (r ∷ rs) = requests-none O at rs
 
 module _ {O R S : Type 0} (root_polls : R → List (Dated O) → ℕ → Exchange O → R → Type 0) (related_polls : S → ℕ → List (Dated O) → ℕ → Exchange O → S → Type 0) where
   pub polled-append : (before : List (Dated O)) (r : R) (s : S) (ds es : List (Dated O)) (r' : R) (s' : S) (r'' : R) (s'' : S) → ArePolled root_polls related_polls before r s ds r' s' → ArePolled root_polls related_polls (before ++ ds) r' s' es r'' s''
@@ -243,4 +250,30 @@ module _ {R S B O D : Type 0} (root : root_source.Ghosts R O D) (related : relat
         subst (λ r. ArePolled root.polls related.polls (exchanges h) a.root a.related (dated t.at xs) r b'.related) (sym same_root)
         (subst (λ s. ArePolled root.polls related.polls (exchanges h) a.root a.related (dated t.at xs) b.root s) (sym same_related) k.polled);
     may = may;
+  }
+
+  -- what requests before the asks answers nothing
+  none-answered : (at : ℕ) (reload : Bool) (on : List Reference) → answers_in {O = O} (requests_first at reload on) ≡ []
+  none-answered at reload on = answers-append (reload_events at reload) (map (Requested at) on) ∙ ap₂ (λ a b. a ++ b) (none-reloaded reload) (none-named on)
+    where
+      none-reloaded : (b : Bool) → answers_in {O = O} (reload_events at b) ≡ []
+      none-reloaded true = refl
+      none-reloaded false = refl
+
+      none-named : (rs : List Reference) → answers_in {O = O} (map (Requested at) rs) ≡ []
+      none-named rs = requests-none O at rs
+
+  pub may-requested : (es : List (CoreEvent O)) (a : Asking R S B) (core core' : Parts O D) → MayAsk root related delays object w h t [] es a core
+      → CoreStands object.type_of object.meta_of (core_world w) (es ++ requests_first t.at t.reload t.on) core' → MayAsk root related delays object w h t [] (es ++ requests_first t.at t.reload t.on) a core'
+  may-requested es a core core' may stands = record {
+    world = may.world;
+    asks_stand = may.asks_stand;
+    unspent = may.unspent;
+    core_stands = stands;
+    answers = answers-append es (requests_first t.at t.reload t.on) ∙ (ap (λ ds. answers_in es ++ ds) (none-answered t.at t.reload t.on) ∙ (append-nil (answers_in es) ∙ may.answers));
+    fits = may.fits;
+    settings = may.settings;
+    is_watched = may.is_watched;
+    is_open = may.is_open;
+    names = may.names;
   }

@@ -10,3 +10,5 @@ pub mod Asking
 pub mod OneTurn
 pub mod Finishing
 pub mod Taking
+pub mod Turning
+pub mod Turned

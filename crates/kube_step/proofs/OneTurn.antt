@@ -31,15 +31,18 @@ use Rattle.kube_step.specs.Policies.{answered_in}
 use Rattle.kube_step.specs.Turns.{requests_first, MayGoOn, HasGoneOn, IsTaken}
 use Rattle.kube_step.proofs.Records.{record-is, open-made, closed-made, open-shut, closed-shut}
 
--- what happens to what decides in an open turn, in the order of its calls
-pub events-are : {O : Type 0} (es F R X S H T : List (CoreEvent O)) (r o : List (CoreEvent O)) → R ≡ r ++ o
-    → es ++ F ++ R ++ X ++ S ++ H ++ T ≡ es ++ (F ++ r ++ o ++ X ++ S ++ H) ++ T
-events-are es F R X S H T r o e =
-    ap (λ us. us ++ T)
-    (ap (λ z. (((es ++ F) ++ z) ++ X ++ S) ++ H) e
+-- what happens to what decides in an open turn, in the order of its calls, before its takes
+pub events-before : {O : Type 0} (es F R X S H : List (CoreEvent O)) (r o : List (CoreEvent O)) → R ≡ r ++ o → es ++ F ++ R ++ X ++ S ++ H ≡ es ++ (F ++ r ++ o ++ X ++ S ++ H)
+events-before es F R X S H r o e =
+    ap (λ z. (((es ++ F) ++ z) ++ X ++ S) ++ H) e
     ∙ (ap (λ us. ((us ++ X) ++ S) ++ H) (append_assoc es F (r ++ o) ∙ ap (λ us. es ++ us) (sym (append_assoc F r o)))
     ∙ (ap (λ us. (us ++ S) ++ H) (append_assoc es (F ++ r ++ o) X)
-    ∙ (ap (λ us. us ++ H) (append_assoc es (F ++ r ++ o ++ X) S) ∙ append_assoc es (F ++ r ++ o ++ X ++ S) H))))
+    ∙ (ap (λ us. us ++ H) (append_assoc es (F ++ r ++ o ++ X) S) ∙ append_assoc es (F ++ r ++ o ++ X ++ S) H)))
+
+-- and with them
+pub events-are : {O : Type 0} (es F R X S H T : List (CoreEvent O)) (r o : List (CoreEvent O)) → R ≡ r ++ o
+    → es ++ F ++ R ++ X ++ S ++ H ++ T ≡ es ++ (F ++ r ++ o ++ X ++ S ++ H) ++ T
+events-are es F R X S H T r o e = ap (λ us. us ++ T) (events-before es F R X S H r o e)
 
 module _ {O B : Type 0} (w : World O B) (h : List (Step O)) (t : Turn) (q : TurnRecord O) where
   exchanges-after : exchanges (h ++ step t (unread q) ∷ []) ≡ exchanges_with h t q.exchanges
@@ -119,7 +122,7 @@ module _ {R S B O D : Type 0} (root : root_source.Ghosts R O D) (related : relat
         events-are es (map (finish_event t.at) fs) (requests_first t.at t.reload t.on) (map (Answered t.at) xs) (Settled t.at ∷ []) (shut_if (gave_up w (exchanges_with h t xs)) t.at) (takes t.at ts)
         (reload_events t.at t.reload) (map (Requested t.at) t.on) refl
 
-    core-now : CoreStands object.type_of object.meta_of (core_world w) all core'
+    pub core-now : CoreStands object.type_of object.meta_of (core_world w) all core'
     core-now = subst (λ us. CoreStands object.type_of object.meta_of (core_world w) us core') all-are gone.core_stands
 
     open-is : IsRecord w (answered_in fs) h t (unread (made-of xs)) × (taken_in w h t nothing_read fs xs ≡ ts) × Agrees w (h ++ step t (unread (made-of xs)) ∷ []) all

@@ -40,7 +40,8 @@ module _ {R S B O D : Type 0} (root : root_source.Ghosts R O D) (related : relat
   module _ (t : Turn) where
     -- all that an open turn does after its finishes: it requests, asks, settles, shuts down where the backoff gave up, and takes
     pub record HasGoneOn (es : List (CoreEvent O)) (a : Asking R S B) (xs : List (Exchange O)) (ts : List (Taken O)) (a' : Asking R S B) (core' : Parts O D) : Type 0 where
-      pub asked : AreAsked root related delays object w h t (es ++ requests_first t.at t.reload t.on) a xs a' core'
+      pub asked_core : Parts O D
+      pub asked : AreAsked root related delays object w h t (es ++ requests_first t.at t.reload t.on) a xs a' asked_core
       pub done : next_source w h t xs ≡ None
       pub core_stands : CoreStands object.type_of object.meta_of (core_world w)
           (es ++ requests_first t.at t.reload t.on ++ map (Answered t.at) xs ++ Settled t.at ∷ [] ++ shut_if (gave_up w (exchanges_with h t xs)) t.at ++ takes t.at ts) core'

@@ -7,9 +7,11 @@ pub mod reconciler;
 pub mod refusal;
 pub mod sources;
 pub mod takes;
+pub mod turn;
 
 pub use finishes::finish_all;
 pub use reconciler::{Handed, Reconciler, Recorder};
 pub use refusal::{BadTurn, refused};
 pub use sources::ask_all;
 pub use takes::take_all;
+pub use turn::take_turn;
