@@ -7,3 +7,5 @@ pub mod SeenTurn
 pub mod SeenSource
 pub mod SeenScript
 pub mod Loaded
+pub mod Told
+pub mod Pauses

@@ -1,6 +1,7 @@
 //! Scripts that a controller is run by, from bytes.
 #![tactic(auto)]
 
+pub mod backoff;
 pub mod fault;
 pub mod load;
 pub mod owned;
@@ -9,11 +10,14 @@ pub mod script;
 pub mod settings;
 pub mod source;
 pub mod status;
+pub mod told;
 pub mod turn;
 
+pub use backoff::ScriptBackoff;
 pub use load::LoadError;
 pub use script::{Mapped, Related, Script, Source};
-pub use settings::Backoff;
+pub use settings::BackoffRow;
+pub use told::{ScriptFinish, ScriptTurn};
 pub use turn::{FinishRow, Ref, TurnRow};
 
 #[cfg(test)]

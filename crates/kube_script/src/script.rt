@@ -10,7 +10,7 @@ ghost use Rattle.std.specs.Str.{bytes_eq};
 use crate::fault::misshapen;
 use crate::owned::{OwnedRow, list_out, member_out};
 use crate::row::{Row, default_member, is_object, list_member, maybe_member, member};
-use crate::settings::Backoff;
+use crate::settings::BackoffRow;
 use crate::source::Listed;
 use crate::turn::TurnRow;
 use kube_api::Sequence;
@@ -134,7 +134,7 @@ impl OwnedRow for Related {
 pub struct Script {
     pub kind: ApiResource,
     pub config: Config,
-    pub backoff: Backoff,
+    pub backoff: BackoffRow,
     /// The nanoseconds after which a reconcile that failed is asked for again; absent where a change is awaited.
     pub error_requeue: Option<u64>,
     pub root: Source,
@@ -154,7 +154,7 @@ impl OwnedRow for Script {
         is_object(alloc, &value)?;
         let kind = member(alloc, &value, "kind")?;
         let config = default_member(alloc, &value, "config", Config::default())?;
-        let backoff = default_member(alloc, &value, "backoff", Backoff::ByDefault)?;
+        let backoff = default_member(alloc, &value, "backoff", BackoffRow::ByDefault)?;
         let error_requeue = maybe_member(alloc, &value, "error_requeue")?;
 
         // The sources are moved out after them, but their faults come first.

@@ -1,6 +1,6 @@
 //! The kind of objects, and how messages are held, errors paused for and sources watched.
 
-ghost use Rattle.std.specs.Prelude.{◌≡◌};
+ghost use Rattle.std.specs.Prelude.{◌≡◌, ◌≤◌, ◌==◌, Some, None, if◌then◌else◌};
 ghost use Rattle.kube_meta.specs.declared.dynamic.ApiResource.{ApiResource as resource_record};
 ghost use Rattle.kube_meta.specs.Places.{Gives};
 ghost use Rattle.kube_model.specs.World.{Settings as settings_record};
@@ -16,6 +16,7 @@ use kube_turn::Config;
 use kube_watch::{Config as WatcherConfig, InitialListStrategy, ListSemantic};
 use serde_json::Value;
 use std::alloc::Global;
+use std::marker::Model;
 
 impl Row for ApiResource {
     ghost Seen = { resource_record };
@@ -62,8 +63,8 @@ impl Row for Config {
 }
 
 /// How errors are paused for.
-#[derive(Clone, Copy, Debug, PartialEq, Eq)]
-pub enum Backoff {
+#[derive(Debug, Drop)]
+pub enum BackoffRow {
     /// As kube-runtime's `DefaultBackoff` does.
     ByDefault,
     /// Not at all: the first error ends the asking.
@@ -72,12 +73,12 @@ pub enum Backoff {
     Exponential {
         min: u64,
         num: u64,
-        den: u64,
+        den: Divisor,
         cap: u64,
     },
 }
 
-impl Row for Backoff {
+impl Row for BackoffRow {
     ghost Seen = { backoff_data };
 
     ghost seen = { seen_backoff };
@@ -85,10 +86,10 @@ impl Row for Backoff {
     ghost reads = { backoff_at };
 
     #[tactic(auto, unfolding(crate::specs::Script::backoff_at))]
-    fn read(alloc: Global, value: &Value) -> Result<Backoff, ObjectFault> {
+    fn read(alloc: Global, value: &Value) -> Result<BackoffRow, ObjectFault> {
         match value.as_str() {
-            Some("default") => Ok(Backoff::ByDefault),
-            Some("stop") => Ok(Backoff::Stopping),
+            Some("default") => Ok(BackoffRow::ByDefault),
+            Some("stop") => Ok(BackoffRow::Stopping),
             Some(_) => Err(misshapen(alloc)),
             None => exponential(alloc, value),
         }
@@ -96,42 +97,69 @@ impl Row for Backoff {
 }
 
 #[tactic(auto, unfolding(crate::specs::Script::exponential_at))]
-fn exponential(alloc: Global, value: &Value) -> Result<Backoff, ObjectFault>
+fn exponential(alloc: Global, value: &Value) -> Result<BackoffRow, ObjectFault>
     ensures { Gives seen_backoff result (exponential_at (view value.now)) }
 {
     is_object(alloc, value)?;
     let min = member(alloc, value, "min")?;
     let num = member(alloc, value, "num")?;
-    let den: Divisor = member(alloc, value, "den")?;
+    let den = member(alloc, value, "den")?;
     let cap = member(alloc, value, "cap")?;
-    Ok(Backoff::Exponential {
-        min,
-        num,
-        den: den.0,
-        cap,
-    })
+    Ok(BackoffRow::Exponential { min, num, den, cap })
 }
 
-/// A number that is at least 1.
-#[derive(Clone, Copy, Debug)]
-struct Divisor(u64);
+/// A number that is at least 1, which contracts see as that number.
+#[derive(Debug, Drop)]
+pub struct Divisor {
+    number: u64,
+}
+
+impl Model for Divisor {
+    ghost use Rattle.std.specs.Prelude.{ℕ, ◌≤◌};
+
+    ghost Value = { ℕ };
+
+    ghost view = { λ d. d.number };
+
+    ghost invariant = { λ d. 1 ≤ d.number };
+}
+
+impl Divisor {
+    /// The number; none where it is 0.
+    pub fn new(number: u64) -> Option<Divisor>
+        ensures { result ≡ (if number == 0 then None else Some number) }
+    {
+        if number == 0 {
+            return None;
+        }
+        Some(Divisor { number })
+    }
+
+    /// The number.
+    pub fn get(&self) -> u64
+        ensures value { result ≡ self.now }
+        ensures least { 1 ≤ result }
+    {
+        self.number
+    }
+}
 
 impl Row for Divisor {
     ghost use Rattle.std.specs.Prelude.{ℕ};
 
     ghost Seen = { ℕ };
 
-    ghost seen = { λ d. d.0 };
+    ghost seen = { λ d. d };
 
     ghost reads = { divisor_at };
 
     #[tactic(auto, unfolding(crate::specs::Script::divisor_at))]
     fn read(alloc: Global, value: &Value) -> Result<Divisor, ObjectFault> {
         let number: u64 = Row::read(alloc, value)?;
-        if number == 0 {
-            return Err(misshapen(alloc));
+        match Divisor::new(number) {
+            Some(divisor) => Ok(divisor),
+            None => Err(misshapen(alloc)),
         }
-        Ok(Divisor(number))
     }
 }
 

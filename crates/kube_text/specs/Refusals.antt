@@ -29,10 +29,6 @@ abbrev pub unnamed_members : ℕ → ℕ → Members → Members
 unnamed_members source turn rest =
     member (codes "error") (string (codes "unnamed")) (member (codes "source") (number (unsigned source)) (member (codes "turn") (number (unsigned turn)) rest))
 
--- a turn that is not built
-abbrev pub not_built_members : ℕ → Members → Members
-not_built_members turn rest = member (codes "error") (string (codes "not built")) (member (codes "turn") (number (unsigned turn)) rest)
-
 abbrev pub refusal_members : Refusal → Members → Members
 refusal_members refusals.Usage rest = member (codes "error") (string (codes "usage")) rest
 refusal_members refusals.TooLong rest = script_members (codes "too long") rest
@@ -43,7 +39,7 @@ refusal_members (refusals.Moment turn) rest = turn_members turn (codes "moment")
 refusal_members (refusals.NotRunning turn finish) rest = finish_members finish turn (codes "not running") rest
 refusal_members (refusals.Twice turn finish) rest = finish_members finish turn (codes "twice") rest
 refusal_members (refusals.Unnamed source turn) rest = unnamed_members source turn rest
-refusal_members (refusals.NotBuilt turn) rest = not_built_members turn rest
+refusal_members refusals.NotBuilt rest = member (codes "error") (string (codes "not built")) rest
 
 unfoldable pub refusal_data : Refusal → Data
 refusal_data r = object (refusal_members r no_members)

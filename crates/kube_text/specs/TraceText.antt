@@ -195,11 +195,12 @@ line_of turn faults r = record {
   taken = r.taken;
 }
 
--- the lines of records that have no finishes, numbered from here on
-abbrev pub lines_of : ℕ → List (TurnRecord ObjectData) → List Line
-lines_of turn [] = []
-lines_of turn (r ∷ rs) = line_of turn [] r ∷ lines_of (turn + 1) rs
+-- the lines of records, numbered from here on, each with the texts of its finishes' faults
+abbrev pub lines_of : ℕ → List (List (Option (List ℕ))) → List (TurnRecord ObjectData) → List Line
+lines_of turn faults [] = []
+lines_of turn [] (r ∷ rs) = line_of turn [] r ∷ lines_of (turn + 1) [] rs
+lines_of turn (fault ∷ faults) (r ∷ rs) = line_of turn fault r ∷ lines_of (turn + 1) faults rs
 
 -- their text, from turn 0 on
-abbrev pub text_of : List (TurnRecord ObjectData) → List ℕ
-text_of records = lines_text (lines_of 0 records)
+abbrev pub text_of : List (List (Option (List ℕ))) → List (TurnRecord ObjectData) → List ℕ
+text_of faults records = lines_text (lines_of 0 faults records)

@@ -2,25 +2,15 @@
 use Rattle.std.specs.Prelude.{ℕ, ◌+◌, List, [], ◌∷◌, map, option_map, Option, Some, None, Result, Ok, Err}
 use Rattle.std.specs.List.{filter_map}
 use Rattle.std.specs.Arc.{arc_value}
-use Rattle.std.specs.declared.sync.Arc.{Arc}
-use Rattle.std.specs.declared.alloc.Global.{Global}
 use Rattle.kube_meta.specs.Keys.{reference_of}
-use Rattle.kube_meta.specs.Reference.{ObjectType, Reference}
-use Rattle.kube_meta.specs.Resources.{resource_type}
-use Rattle.kube_meta.specs.declared.dynamic.ApiResource.{ApiResource}
+use Rattle.kube_meta.specs.Reference.{Reference}
 use Rattle.kube_meta.specs.Reading.{ObjectData}
 use Rattle.kube_meta.specs.declared.object_ref.ObjectRef.{ObjectRef}
+use Rattle.kube_object.specs.Named.{Named, named_type}
 use Rattle.kube_turn.specs.declared.record.Finished.{Finished}
 use Rattle.kube_turn.specs.declared.record.TurnRecord.{TurnRecord}
 use Rattle.kube_turn.specs.Views.{exchange_of, taken_of}
 use Rattle.kube_text.specs.TraceText.{ShownFinish, Line}
-
--- how the program names a type of objects
-abbrev pub Named : Type 0
-Named = Arc ApiResource Global
-
-abbrev pub named_type : Named → ObjectType
-named_type t = resource_type (arc_value t)
 
 abbrev pub seen_reference : ObjectRef ObjectData Named → Reference
 seen_reference r = reference_of named_type r

@@ -7,7 +7,7 @@ ghost use Rattle.kube_model.specs.History.{Exchange as exchange_record, Message 
 ghost use Rattle.kube_meta.specs.Reading.{ObjectData as object_record};
 ghost use Rattle.kube_text.specs.Shown.{ShowsMembers};
 ghost use Rattle.kube_text.specs.TraceText.{request_data, answer_word as answer_word_of, call_word as call_word_of, error_word as error_word_of, code_members, error_members, from_members, text_members, version_members, exchange_members, exchange_data};
-ghost use Rattle.kube_text.specs.TraceView.{named_type};
+ghost use Rattle.kube_object.specs.Named.{named_type};
 ghost use Rattle.kube_turn.specs.Views.{exchange_of, message_of};
 
 use crate::show::{Show, member, text_member};

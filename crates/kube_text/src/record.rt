@@ -6,7 +6,8 @@ ghost use Rattle.serde_json.specs.Data.{member as data_member};
 ghost use Rattle.kube_model.specs.declared.turn.Stop.{Stop as stop_type};
 ghost use Rattle.kube_text.specs.Shown.{ShowsMembers, tokens_of, array_of};
 ghost use Rattle.kube_text.specs.TraceText.{ShownFinish, text_or_null, finish_members, finish_data, stop_word as stop_word_of, stop_data, taken_data, line_members, line_data, line_text};
-ghost use Rattle.kube_text.specs.TraceView.{error_text, named_type, seen_finish, seen_record};
+ghost use Rattle.kube_object.specs.Named.{named_type};
+ghost use Rattle.kube_text.specs.TraceView.{error_text, seen_finish, seen_record};
 ghost use Rattle.kube_turn.specs.Views.{taken_of};
 
 use crate::show::{Show, member, member_if};

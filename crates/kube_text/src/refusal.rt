@@ -2,7 +2,7 @@
 
 ghost use Rattle.std.specs.Prelude.{◌≡◌, ◌++◌, IfOk, OnOk, codes};
 ghost use Rattle.kube_text.specs.Shown.{ShowsMembers, tokens_of};
-ghost use Rattle.kube_text.specs.Refusals.{script_members, placed_members, turn_members, finish_members, unnamed_members, not_built_members, refusal_members, refusal_data, refusal_text};
+ghost use Rattle.kube_text.specs.Refusals.{script_members, placed_members, turn_members, finish_members, unnamed_members, refusal_members, refusal_data, refusal_text};
 ghost use Rattle.kube_text.specs.declared.refusal.Refusal as refusals;
 
 use crate::show::{Show, member, text_member};
@@ -27,13 +27,13 @@ pub enum Refusal {
     /// The turn's moment falls, or is past the greatest.
     Moment { turn: u32 },
     /// The finish names nothing that runs.
-    NotRunning { turn: u32, finish: u32 },
+    NotRunning { turn: u32, finish: u64 },
     /// The finish names what an earlier one of the turn names.
-    Twice { turn: u32, finish: u32 },
+    Twice { turn: u32, finish: u64 },
     /// An object without a name came from the source.
     Unnamed { source: u32, turn: u32 },
-    /// The turn asks for what is not built.
-    NotBuilt { turn: u32 },
+    /// The script has related sources, which are not built.
+    NotBuilt,
 }
 
 impl Show for Refusal {
@@ -68,7 +68,7 @@ fn show_members(alloc: Global, out: &mut Writer, refusal: &Refusal) -> Result<()
         }
         Refusal::Twice { turn, finish } => show_finish(alloc, out, finish, turn, "twice")?,
         Refusal::Unnamed { source, turn } => show_unnamed(alloc, out, source, turn)?,
-        Refusal::NotBuilt { turn } => show_not_built(alloc, out, turn)?,
+        Refusal::NotBuilt => text_member(out, "error", "not built")?,
     }
     Ok(())
 }
@@ -104,7 +104,7 @@ fn show_turn(alloc: Global, out: &mut Writer, turn: &u32, why: &str) -> Result<(
 fn show_finish(
     alloc: Global,
     out: &mut Writer,
-    finish: &u32,
+    finish: &u64,
     turn: &u32,
     why: &str,
 ) -> Result<(), AllocError>
@@ -124,15 +124,6 @@ fn show_unnamed(alloc: Global, out: &mut Writer, source: &u32, turn: &u32) -> Re
 {
     text_member(out, "error", "unnamed")?;
     member(alloc, out, "source", source)?;
-    member(alloc, out, "turn", turn)?;
-    Ok(())
-}
-
-fn show_not_built(alloc: Global, out: &mut Writer, turn: &u32) -> Result<(), AllocError>
-    ensures before { OnOk result (out.new.before ≡ out.old.before) }
-    ensures members { ShowsMembers result out.old out.new (not_built_members turn.now) }
-{
-    text_member(out, "error", "not built")?;
     member(alloc, out, "turn", turn)?;
     Ok(())
 }

@@ -7,7 +7,8 @@ ghost use Rattle.kube_meta.specs.Writing.{object_data};
 ghost use Rattle.kube_model.specs.ReasonView.{reason_of};
 ghost use Rattle.kube_text.specs.Shown.{ShowsMembers, tokens_of, item_tokens, array_of, member_if as data_member_if};
 ghost use Rattle.kube_text.specs.TraceText.{taken_members, taken_data, taken_tokens};
-ghost use Rattle.kube_text.specs.TraceView.{named_type, seen_reference};
+ghost use Rattle.kube_object.specs.Named.{named_type};
+ghost use Rattle.kube_text.specs.TraceView.{seen_reference};
 ghost use Rattle.kube_turn.specs.Views.{taken_of};
 
 use crate::show::{Show, member};

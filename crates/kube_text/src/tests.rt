@@ -123,7 +123,7 @@ const REFUSED: [(Why, &str); 10] = [
         r#"{"error":"turn","finish":2,"turn":1,"why":"twice"}"#,
     ),
     (Why::Unnamed, r#"{"error":"unnamed","source":3,"turn":1}"#),
-    (Why::NotBuilt, r#"{"error":"not built","turn":1}"#),
+    (Why::NotBuilt, r#"{"error":"not built"}"#),
 ];
 
 fn refusal(alloc: Global, why: Why) -> Result<Refusal, NoMemory> {
@@ -141,7 +141,7 @@ fn refusal(alloc: Global, why: Why) -> Result<Refusal, NoMemory> {
         Why::NotRunning => Ok(Refusal::NotRunning { turn: 1, finish: 2 }),
         Why::Twice => Ok(Refusal::Twice { turn: 1, finish: 2 }),
         Why::Unnamed => Ok(Refusal::Unnamed { source: 3, turn: 1 }),
-        Why::NotBuilt => Ok(Refusal::NotBuilt { turn: 1 }),
+        Why::NotBuilt => Ok(Refusal::NotBuilt),
     }
 }
 

@@ -4,7 +4,7 @@ use Rattle.kube_text.specs.Shown.{array_of}
 use Rattle.kube_meta.specs.Writing.{object_data}
 use Rattle.kube_text.specs.TraceText.{request_data, code_members, error_members, from_members, text_members, version_members, exchange_members}
 use Rattle.kube_turn.specs.Views.{exchange_of}
-use Rattle.kube_text.specs.TraceView.{named_type}
+use Rattle.kube_object.specs.Named.{named_type}
 use Rattle.kube_text.proofs.exchange.show_members.Goals as goal
 
 pub returns-clause-members : goal.returns-clause-members

@@ -2,7 +2,7 @@ use Rattle.std.proofs.Common.{◌≡◌, ◌++◌, map, drop}
 use Rattle.std.specs.List.{filter_map}
 use Rattle.kube_text.specs.Shown.{item_tokens}
 use Rattle.kube_text.specs.TraceText.{taken_data}
-use Rattle.kube_text.specs.TraceView.{named_type}
+use Rattle.kube_object.specs.Named.{named_type}
 use Rattle.kube_turn.specs.Views.{taken_of}
 use Rattle.kube_text.proofs.taken.show_takes.Given as goal
 

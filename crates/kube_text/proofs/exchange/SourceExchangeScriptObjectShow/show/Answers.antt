@@ -1,7 +1,7 @@
 use Rattle.serde_json.specs.Data.{no_members}
 use Rattle.kube_text.specs.TraceText.{exchange_data, exchange_members}
 use Rattle.kube_turn.specs.Views.{exchange_of}
-use Rattle.kube_text.specs.TraceView.{named_type}
+use Rattle.kube_object.specs.Named.{named_type}
 use Rattle.kube_text.proofs.Shown.{object_shown}
 use Rattle.kube_text.proofs.exchange.SourceExchangeScriptObjectShow.show.Goals as goal
 
