@@ -1,6 +1,7 @@
 //! Why a run ends early.
 
 use kube_meta::Resource;
+use kube_step::BadTurn;
 use kube_turn::Trace;
 use std::fmt;
 use thiserror::Error;
@@ -12,12 +13,27 @@ use thiserror::Error;
 pub enum RunError<K: Resource, E: Drop> {
     /// Memory could not be had. The controller is spent.
     #[error("out of memory")]
-    NoMemory { trace: Trace<K, E> },
-    /// The turn of this number, counted from 0 in this run, asks for what is not built yet, or an API answered so
-    /// in it. The controller is spent.
-    #[error("turn {turn} is not built")]
-    NotBuilt { turn: u32, trace: Trace<K, E> },
-    /// An earlier run failed. The trace is empty.
+    NoMemory {
+        trace: Trace<K, E>,
+    },
+    /// In the turn of this number, counted from 0 in this run, an item of this source, of which the root is 0, must become a
+    /// reference and has no name. The controller is spent; its store is as before that exchange.
+    #[error("source {source} gave an object without a name in turn {turn}")]
+    UnnamedObject {
+        turn: u32,
+        source: u32,
+        trace: Trace<K, E>,
+    },
+    /// The turn of this number, counted from 0 in this run, is refused. It changed nothing, and the controller goes on.
+    #[error("turn {turn} is refused: {why}")]
+    BadTurn {
+        turn: u32,
+        why: BadTurn,
+        trace: Trace<K, E>,
+    },
+    /// An earlier run had no memory, or met an object without a name. The trace is empty.
     #[error("an earlier run failed")]
-    Spent { trace: Trace<K, E> },
+    Spent {
+        trace: Trace<K, E>,
+    },
 }

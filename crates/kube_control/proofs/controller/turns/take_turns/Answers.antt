@@ -1,127 +1,109 @@
-use Rattle.std.proofs.Common.{◌≡◌, ◌++◌, map, ◌+◌, ◌<◌, [], ◌∷◌, length, take, slice_get, option_map, false, refl, sym, ap, subst, ◌∙◌, append-nil, length-append, arith}
-use Rattle.std.specs.List.{filter_map, AllByRecursion, AllZip}
-use Rattle.std.proofs.lemmas.List.{map-append, length-map, length-take-le, take-map, take_more}
-use Rattle.std.proofs.lemmas.List.Elements.{filter_map-append}
-use Rattle.kube_model.specs.Raw.{grown_by}
-use Rattle.kube_model.specs.Traces.{has_ended}
-use Rattle.kube_model.specs.Traces.{unread}
-use Rattle.kube_control.specs.PlainTraces.{IsRecord, steps}
-use Rattle.kube_control.specs.Built.{IsBuilt, TakesSomething}
-use Rattle.kube_control.specs.Calls.{AreMadeBy, dated_in}
-use Rattle.kube_control.specs.Controllers.{api_of, dyntype_of}
-use Rattle.kube_control.specs.Messages.{handed}
-use Rattle.kube_turn.specs.Records.{record_of, records_of, turn_of, turns_of}
-use Rattle.kube_control.specs.StandsFor.{StandsFor, taken_in, world}
-use Rattle.kube_control.specs.Worlds.{world_of}
-use Rattle.std.proofs.lemmas.Option.{slice_get_read, slice_get-map}
+use Rattle.std.proofs.Common.{◌≡◌, ◌≤◌, ◌++◌, List, length, map, sym, ap, subst, ◌∙◌}
+use Rattle.std.specs.Arc.{arc_value}
+use Rattle.std.specs.List.{AllByRecursion}
+use Rattle.std.proofs.lemmas.List.{map-id}
 use Rattle.std.proofs.lemmas.Result.{err_from_is_err_and}
-use Rattle.kube_control.specs.NotBuilt.{IsNotBuilt}
-use Rattle.kube_control.proofs.Causes.{cause-weaker}
-use Rattle.kube_control.proofs.Grows.{all-push, grown-nil, grown-append, zip-append}
-use Rattle.kube_control.proofs.TurnSteps.{trace-goes-on, dated-push, taken-push}
-use Rattle.kube_control.proofs.Moves.{made-none, made-append}
-use Rattle.kube_model.specs.History.{dated}
+use Rattle.std.proofs.lemmas.Iterator.Adapters.{YieldsList-from_vec}
+use Rattle.std.proofs.lemmas.Iterator.Consumers.{YieldsList-end, YieldsList-so_far, YieldsList-turn}
+use Rattle.kube_model.specs.Raw.{grown_by}
+use Rattle.kube_model.specs.Traces.{steps, unread}
+use Rattle.kube_turn.specs.Records.{record_of, turn_of}
+use Rattle.kube_turn.specs.declared.record.TurnRecord.{TurnRecord}
+use Rattle.kube_step.specs.HandOvers.{handed_by, taken_by}
+use Rattle.kube_step.specs.Policies.{Answers}
+use Rattle.kube_step.specs.Takes.{IsSomething}
+use Rattle.kube_control.specs.Runs.{AreFinishedIn, HaveRun}
+use Rattle.kube_control.proofs.Stops.{faulted-map, refused-map, unnamed-map}
+use Rattle.kube_control.proofs.Turns.{broken-end, done-at, done-more, finished-end, handed-more, refused-end, short-more, something-more, split-turns}
 use Rattle.kube_control.proofs.controller.turns.take_turns.Goals as goal
-
-pub loop-turn-init : goal.loop-turn-init
-loop-turn-init g c =
-    let type_of = g.A.Value.Resource.type_of in
-    let none : records_of type_of c.args.records.now ≡ [] = ap (records_of type_of) c.requires in
-    record {
-      count = ap length c.requires;
-      spent = refl;
-      trace = λ h s. (ap (map unread) none, subst (λ z. StandsFor type_of g.A.Value.Resource.meta_of z c.args.controller.now) (sym (append-nil h)) s);
-      talk =
-          subst (λ rs. AreMadeBy g.A.ApiMode.moves g.A.ApiMode.talk (world type_of g.A.Value.Resource.meta_of c.args.controller.now).version (dated_in rs) (api_of c.args.controller.now) (api_of c.args.controller.now)) (sym none)
-          (made-none g.A.ApiMode.moves g.A.ApiMode.talk (world type_of g.A.Value.Resource.meta_of c.args.controller.now).version (api_of c.args.controller.now));
-      handed =
-          sym (ap (λ rs. grown_by (g.Rc.Reconciler.handed c.args.reconciler.now) (filter_map handed (taken_in rs))) none ∙ grown-nil (g.Rc.Reconciler.handed c.args.reconciler.now));
-      built = subst (λ rs. AllZip (IsBuilt g.A.Value.Resource.meta_of) [] rs) (sym none) tt;
-      something = subst (AllByRecursion (TakesSomething type_of)) (sym c.requires) tt;
-      dyntype = refl;
-    }
 
 pub loop-turn-preserved : goal.loop-turn-preserved
 loop-turn-preserved g c =
-    let type_of = g.A.Value.Resource.type_of in
-    let meta = g.A.Value.Resource.meta_of in
-    let i = c.loop-turn.invariant in
-    let e = c.in_ok-record.ensures in
-    let turns = c.args.turns.now in
-    let n = c.loop-turn.turn-index in
-    let below = c.loop-turn-test.true in
-    let more : take (n + 1) turns ≡ take n turns ++ c.turn-item.result ∷ [] =
-    take_more turns n c.turn-item.result below ∙ ap (λ t. take n turns ++ t ∷ []) (sym c.turn-item.is) in
-    let ts : turns_of type_of (take (n + 1) turns) ≡ turns_of type_of (take n turns) ++ turn_of type_of c.turn-item.result ∷ [] =
-    ap (turns_of type_of) more ∙ map-append (turn_of type_of) (take n turns) (c.turn-item.result ∷ []) in
-    let rs : records_of type_of c.push.new.self ≡ records_of type_of c.loop-turn.records ++ record_of type_of c.in_ok-record.record ∷ [] =
-    ap (records_of type_of) c.in_ok-push.ensures.ok ∙ map-append (record_of type_of) c.loop-turn.records (c.in_ok-record.record ∷ []) in
-    let same : length (turns_of type_of (take n turns)) ≡ length (records_of type_of c.loop-turn.records) =
-    length-map (take n turns) (turn_of type_of) ∙ length-take-le n turns (omega (arith, below)) ∙ sym i.count ∙ sym (length-map c.loop-turn.records (record_of type_of)) in
+    let e = c.in_ok-add_turn.ensures in
+    let now = c.loop-turn.invariant in
     record {
-      count = ap length c.in_ok-push.ensures.ok ∙ length-append c.loop-turn.records (c.in_ok-record.record ∷ []) ∙ ap (λ m. m + 1) i.count;
-      spent = e.spent ∙ i.spent;
-      trace = λ h s.
-          let k = i.trace h s in
-          let m = e.made (h ++ steps (turns_of type_of (take n turns)) (records_of type_of c.loop-turn.records)) k.1 in
-          let p =
-          trace-goes-on (world type_of meta c.args.controller.now) h (turns_of type_of (take n turns)) (turns_of type_of (take (n + 1) turns))
-          (records_of type_of c.loop-turn.records) (records_of type_of c.push.new.self) (turn_of type_of c.turn-item.result) (record_of type_of c.in_ok-record.record)
-          ts rs same k.0 k.1.stands.going
-          (subst (λ d. IsRecord (world_of (type_of d) meta) (h ++ steps (turns_of type_of (take n turns)) (records_of type_of c.loop-turn.records)) (turn_of type_of c.turn-item.result) (record_of type_of c.in_ok-record.record))
-          i.dyntype m.0) in
-          (p.0, subst (λ z. StandsFor type_of meta z c.next_turn.new.controller) p.1 m.1);
-      talk =
-          let version = (world type_of meta c.args.controller.now).version in
-          let r = record_of type_of c.in_ok-record.record in
-          subst (λ ds. AreMadeBy g.A.ApiMode.moves g.A.ApiMode.talk version ds (api_of c.args.controller.now) (api_of c.next_turn.new.controller))
-          (sym (dated-push (records_of type_of c.loop-turn.records) (records_of type_of c.push.new.self) r rs))
-          (made-append g.A.ApiMode.moves g.A.ApiMode.talk version (dated_in (records_of type_of c.loop-turn.records)) (dated r.at r.exchanges)
-          (api_of c.args.controller.now) (api_of c.loop-turn.controller) (api_of c.next_turn.new.controller) i.talk e.talk);
-      handed =
-          e.handed ∙ ap (λ o. grown_by o (filter_map handed (record_of type_of c.in_ok-record.record).taken)) i.handed
-          ∙ grown-append (g.Rc.Reconciler.handed c.args.reconciler.now) (filter_map handed (taken_in (records_of type_of c.loop-turn.records))) (filter_map handed (record_of type_of c.in_ok-record.record).taken)
-          ∙ ap (grown_by (g.Rc.Reconciler.handed c.args.reconciler.now))
-          (sym (ap (filter_map handed) (taken-push (records_of type_of c.loop-turn.records) (records_of type_of c.push.new.self) (record_of type_of c.in_ok-record.record) rs)
-          ∙ filter_map-append handed (taken_in (records_of type_of c.loop-turn.records)) (record_of type_of c.in_ok-record.record).taken));
-      built =
-          subst (λ us. AllZip (IsBuilt meta) us (records_of type_of c.push.new.self)) (sym ts)
-          (subst (AllZip (IsBuilt meta) (turns_of type_of (take n turns) ++ turn_of type_of c.turn-item.result ∷ [])) (sym rs)
-          (zip-append (IsBuilt meta) (turns_of type_of (take n turns)) (records_of type_of c.loop-turn.records) (turn_of type_of c.turn-item.result ∷ []) (record_of type_of c.in_ok-record.record ∷ []) i.built (e.built, tt)));
-      something = subst (AllByRecursion (TakesSomething type_of)) (sym c.in_ok-push.ensures.ok) (all-push (TakesSomething type_of) c.loop-turn.records c.in_ok-record.record i.something e.something);
-      dyntype = e.dyntype ∙ i.dyntype;
+      feeds = e.feeds ∙ now.feeds;
+      root = e.root;
+      related = e.related;
+      handles = record { book = e.handles.book ∙ now.handles.book; readers = e.handles.readers ∙ now.handles.readers };
+      spent = e.spent ∙ now.spent;
+      short = short-more g.R.RootSource g.S.RelatedSet g.B.Backoff g.R.Object.Resource (Answers g.P.Fn c.args.error_policy.now (arc_value c.args.context.now)) c.in-Some.turn c.loop-turn.yielded c.loop-turn.records.items c.args.controller.now c.loop-turn.controller c.add_turn.new.controller (g.Rc.Reconciler.handed c.args.reconciler.now) (g.Rc.Reconciler.handed c.loop-turn.reconciler) (g.Rc.Reconciler.handed c.add_turn.new.reconciler) c.add_turn.new.records.items e.ended e.next now.short;
+      done = λ w h k. done-more g.R.RootSource g.S.RelatedSet g.B.Backoff g.R.Object.Resource (Answers g.P.Fn c.args.error_policy.now (arc_value c.args.context.now)) c.in-Some.turn c.loop-turn.yielded c.loop-turn.records.items c.args.controller.now c.loop-turn.controller c.add_turn.new.controller (g.Rc.Reconciler.handed c.args.reconciler.now) (g.Rc.Reconciler.handed c.loop-turn.reconciler) (g.Rc.Reconciler.handed c.add_turn.new.reconciler) c.add_turn.new.records.items e.ended e.next w h now.short (now.done w h k);
+      handed = handed-more g.R.RootSource g.S.RelatedSet g.B.Backoff g.R.Object.Resource (Answers g.P.Fn c.args.error_policy.now (arc_value c.args.context.now)) c.in-Some.turn c.loop-turn.yielded c.loop-turn.records.items c.args.controller.now c.loop-turn.controller c.add_turn.new.controller (g.Rc.Reconciler.handed c.args.reconciler.now) (g.Rc.Reconciler.handed c.loop-turn.reconciler) (g.Rc.Reconciler.handed c.add_turn.new.reconciler) c.add_turn.new.records.items e.ended e.next now.handed;
+      something = something-more g.R.RootSource g.S.RelatedSet g.B.Backoff g.R.Object.Resource (Answers g.P.Fn c.args.error_policy.now (arc_value c.args.context.now)) c.in-Some.turn c.loop-turn.yielded c.loop-turn.records.items c.args.controller.now c.loop-turn.controller c.add_turn.new.controller (g.Rc.Reconciler.handed c.args.reconciler.now) (g.Rc.Reconciler.handed c.loop-turn.reconciler) (g.Rc.Reconciler.handed c.add_turn.new.reconciler) c.add_turn.new.records.items e.ended e.next now.something;
     }
 
-pub returns-in_err-record-clause-cause : goal.returns-in_err-record-clause-cause
-returns-in_err-record-clause-cause g c h s =
-    let type_of = g.A.Value.Resource.type_of in
-    let meta = g.A.Value.Resource.meta_of in
-    let i = c.loop-turn.invariant in
-    let n = c.loop-turn.turn-index in
-    let turns = c.args.turns.now in
-    let rs = records_of type_of c.loop-turn.records in
-    let here : n < length turns = omega arith in
-    let many : length rs ≡ n = length-map c.loop-turn.records (record_of type_of) ∙ i.count in
-    let first : take (length rs) (turns_of type_of turns) ≡ turns_of type_of (take n turns) = ap (λ m. take m (turns_of type_of turns)) many ∙ take-map (turn_of type_of) n turns in
-    let k = i.trace h s in
-    let p = err_from_is_err_and c.from_residual.result c.from_residual.ensures.1 in
-    rw (p.1, p.2) (cause-weaker c.in_err-record.field-0.0
-    (λ nb. record {
-      turn = turn_of type_of c.turn-item.result;
-      there = ap (slice_get (turns_of type_of turns)) many ∙ slice_get-map (turn_of type_of) turns n ∙ ap (option_map (turn_of type_of)) (slice_get_read turns (length turns) n c.turn-item.result refl here c.turn-item.is);
-      going = subst (λ us. has_ended (h ++ steps us rs) ≡ false) (sym first) k.1.stands.going;
-      middle = api_of c.loop-turn.controller;
-      before = i.talk;
-      cause =
-          subst (λ us. IsNotBuilt g.A.ApiMode.moves g.A.ApiMode.talk (type_of (dyntype_of c.args.controller.now)) meta (h ++ steps us rs) (turn_of type_of c.turn-item.result)
-          (api_of c.loop-turn.controller) (api_of c.next_turn.new.controller)) (sym first)
-          (subst (λ d. IsNotBuilt g.A.ApiMode.moves g.A.ApiMode.talk (type_of d) meta (h ++ steps (turns_of type_of (take n turns)) rs) (turn_of type_of c.turn-item.result)
-          (api_of c.loop-turn.controller) (api_of c.next_turn.new.controller)) i.dyntype nb);
-    })
-    (c.in_err-record.ensures.cause (h ++ steps (turns_of type_of (take n turns)) rs) (i.trace h s).1))
+pub returns-in_err-add_turn-clause-finished : goal.returns-in_err-add_turn-clause-finished
+returns-in_err-add_turn-clause-finished g c w h k =
+    let gives = c.into_iter-turn-iterator.ensures.into_iter_gives in
+    let road = YieldsList-from_vec {s = c.into_iter-turn-iterator.result} c.args.turns.items gives.0 (gives.1 ∙ c.args.turns.ok.0) in
+    let split =
+    split-turns c.args.turns.items c.loop-turn.yielded c.in-Some.turn (YieldsList-so_far road c.loop-turn.yielded c.loop-turn.turn-iterator c.loop-turn.yielded_by)
+    (YieldsList-turn road c.loop-turn.yielded c.loop-turn.turn-iterator c.loop-turn.yielded_by _ c.next.new.self c.in-Some.turn c.in-Some.is c.next.ensures.steps) in
+    let err = c.in_err-add_turn.ensures.err in
+    let short = subst (λ rs. length rs ≤ length c.loop-turn.yielded) (sym err.0) c.loop-turn.invariant.short in
+    finished-end g.R.RootSource g.S.RelatedSet g.B.Backoff g.R.Object.Resource (Answers g.P.Fn c.args.error_policy.now (arc_value c.args.context.now)) c.in-Some.turn c.loop-turn.yielded c.add_turn.new.records.items c.args.controller.now c.loop-turn.controller c.add_turn.new.controller (g.Rc.Reconciler.handed c.args.reconciler.now) (g.Rc.Reconciler.handed c.loop-turn.reconciler) (g.Rc.Reconciler.handed c.add_turn.new.reconciler) c.args.turns.items split.0 split.1 w h (done-at g.R.RootSource g.S.RelatedSet g.B.Backoff g.R.Object.Resource (Answers g.P.Fn c.args.error_policy.now (arc_value c.args.context.now)) c.in-Some.turn c.loop-turn.yielded c.loop-turn.records.items c.args.controller.now c.loop-turn.controller c.add_turn.new.controller (g.Rc.Reconciler.handed c.args.reconciler.now) (g.Rc.Reconciler.handed c.loop-turn.reconciler) (g.Rc.Reconciler.handed c.add_turn.new.reconciler) w h c.add_turn.new.records.items err.0 (c.loop-turn.invariant.done w h k)) short
 
-pub returns-in_err-record-clause-handed_before : goal.returns-in_err-record-clause-handed_before
-returns-in_err-record-clause-handed_before g c =
-    let i = c.loop-turn.invariant in
+pub returns-in_err-add_turn-clause-something : goal.returns-in_err-add_turn-clause-something
+returns-in_err-add_turn-clause-something g c =
+    subst (AllByRecursion (λ (r : TurnRecord _ _ _). AllByRecursion (IsSomething g.R.Object.Resource.type_of) r.taken)) (sym c.in_err-add_turn.ensures.err.0) c.loop-turn.invariant.something
+
+pub returns-in_err-add_turn-clause-refused : goal.returns-in_err-add_turn-clause-refused
+returns-in_err-add_turn-clause-refused g c =
+    let gives = c.into_iter-turn-iterator.ensures.into_iter_gives in
+    let road = YieldsList-from_vec {s = c.into_iter-turn-iterator.result} c.args.turns.items gives.0 (gives.1 ∙ c.args.turns.ok.0) in
+    let split =
+    split-turns c.args.turns.items c.loop-turn.yielded c.in-Some.turn (YieldsList-so_far road c.loop-turn.yielded c.loop-turn.turn-iterator c.loop-turn.yielded_by)
+    (YieldsList-turn road c.loop-turn.yielded c.loop-turn.turn-iterator c.loop-turn.yielded_by _ c.next.new.self c.in-Some.turn c.in-Some.is c.next.ensures.steps) in
+    let err = c.in_err-add_turn.ensures.err in
+    let type_of = g.R.Object.Resource.type_of in
+    let handed = c.loop-turn.invariant.handed ∙ ap (λ (rs : List (TurnRecord _ _ _)). grown_by (g.Rc.Reconciler.handed c.args.reconciler.now) (handed_by (taken_by (map (record_of type_of) rs)))) (sym err.0) in
     let p = err_from_is_err_and c.from_residual.result c.from_residual.ensures.1 in
-    rw (p.1, p.2) (cause-weaker c.in_err-record.field-0.0 (λ same. same ∙ i.handed) c.in_err-record.ensures.starts_nothing)
+    rw (p.1, p.2) (refused-map c.in_err-add_turn.field-0.0 _ _
+    (λ why r. (
+      r.1 ∙ handed,
+      λ w h k.
+          let now = done-at g.R.RootSource g.S.RelatedSet g.B.Backoff g.R.Object.Resource (Answers g.P.Fn c.args.error_policy.now (arc_value c.args.context.now)) c.in-Some.turn c.loop-turn.yielded c.loop-turn.records.items c.args.controller.now c.loop-turn.controller c.add_turn.new.controller (g.Rc.Reconciler.handed c.args.reconciler.now) (g.Rc.Reconciler.handed c.loop-turn.reconciler) (g.Rc.Reconciler.handed c.add_turn.new.reconciler) w h c.add_turn.new.records.items err.0 (c.loop-turn.invariant.done w h k) in
+          refused-end g.R.RootSource g.S.RelatedSet g.B.Backoff g.R.Object.Resource (Answers g.P.Fn c.args.error_policy.now (arc_value c.args.context.now)) c.in-Some.turn c.loop-turn.yielded c.add_turn.new.records.items c.args.controller.now c.loop-turn.controller c.add_turn.new.controller (g.Rc.Reconciler.handed c.args.reconciler.now) (g.Rc.Reconciler.handed c.loop-turn.reconciler) (g.Rc.Reconciler.handed c.add_turn.new.reconciler) c.args.turns.items split.0 split.1 w h now err.1 why r.0 (r.2 w (h ++ steps (map (turn_of type_of) c.loop-turn.yielded) (map unread (map (record_of type_of) c.add_turn.new.records.items))) now.0.watching),
+    )) c.in_err-add_turn.ensures.refused)
+
+pub returns-in_err-add_turn-clause-broken : goal.returns-in_err-add_turn-clause-broken
+returns-in_err-add_turn-clause-broken g c =
+    let gives = c.into_iter-turn-iterator.ensures.into_iter_gives in
+    let road = YieldsList-from_vec {s = c.into_iter-turn-iterator.result} c.args.turns.items gives.0 (gives.1 ∙ c.args.turns.ok.0) in
+    let split =
+    split-turns c.args.turns.items c.loop-turn.yielded c.in-Some.turn (YieldsList-so_far road c.loop-turn.yielded c.loop-turn.turn-iterator c.loop-turn.yielded_by)
+    (YieldsList-turn road c.loop-turn.yielded c.loop-turn.turn-iterator c.loop-turn.yielded_by _ c.next.new.self c.in-Some.turn c.in-Some.is c.next.ensures.steps) in
+    let err = c.in_err-add_turn.ensures.err in
+    let type_of = g.R.Object.Resource.type_of in
+    let handed = c.loop-turn.invariant.handed ∙ ap (λ (rs : List (TurnRecord _ _ _)). grown_by (g.Rc.Reconciler.handed c.args.reconciler.now) (handed_by (taken_by (map (record_of type_of) rs)))) (sym err.0) in
+    let p = err_from_is_err_and c.from_residual.result c.from_residual.ensures.1 in
+    rw (p.1, p.2) (faulted-map c.in_err-add_turn.field-0.0 _ _
+    (λ f b w h k.
+    let now = done-at g.R.RootSource g.S.RelatedSet g.B.Backoff g.R.Object.Resource (Answers g.P.Fn c.args.error_policy.now (arc_value c.args.context.now)) c.in-Some.turn c.loop-turn.yielded c.loop-turn.records.items c.args.controller.now c.loop-turn.controller c.add_turn.new.controller (g.Rc.Reconciler.handed c.args.reconciler.now) (g.Rc.Reconciler.handed c.loop-turn.reconciler) (g.Rc.Reconciler.handed c.add_turn.new.reconciler) w h c.add_turn.new.records.items err.0 (c.loop-turn.invariant.done w h k) in
+    broken-end g.R.RootSource g.S.RelatedSet g.B.Backoff g.R.Object.Resource (Answers g.P.Fn c.args.error_policy.now (arc_value c.args.context.now)) c.in-Some.turn c.loop-turn.yielded c.add_turn.new.records.items c.args.controller.now c.loop-turn.controller c.add_turn.new.controller (g.Rc.Reconciler.handed c.args.reconciler.now) (g.Rc.Reconciler.handed c.loop-turn.reconciler) (g.Rc.Reconciler.handed c.add_turn.new.reconciler) c.args.turns.items split.0 split.1 w h now err.1 f handed (b w (h ++ steps (map (turn_of type_of) c.loop-turn.yielded) (map unread (map (record_of type_of) c.add_turn.new.records.items))) now.0.watching)
+    ) c.in_err-add_turn.ensures.broken)
+
+pub returns-in_err-add_turn-clause-starts_nothing : goal.returns-in_err-add_turn-clause-starts_nothing
+returns-in_err-add_turn-clause-starts_nothing g c =
+    let err = c.in_err-add_turn.ensures.err in
+    let type_of = g.R.Object.Resource.type_of in
+    let handed = c.loop-turn.invariant.handed ∙ ap (λ (rs : List (TurnRecord _ _ _)). grown_by (g.Rc.Reconciler.handed c.args.reconciler.now) (handed_by (taken_by (map (record_of type_of) rs)))) (sym err.0) in
+    let p = err_from_is_err_and c.from_residual.result c.from_residual.ensures.1 in
+    rw (p.1, p.2) (faulted-map c.in_err-add_turn.field-0.0 _ _ (λ f b. unnamed-map f _ _ (λ source e. e ∙ handed) b) c.in_err-add_turn.ensures.starts_nothing)
+
+pub returns-clause-ran : goal.returns-clause-ran
+returns-clause-ran g c w h k =
+    let gives = c.into_iter-turn-iterator.ensures.into_iter_gives in
+    let road = YieldsList-from_vec {s = c.into_iter-turn-iterator.result} c.args.turns.items gives.0 (gives.1 ∙ c.args.turns.ok.0) in
+    let whole = YieldsList-end road c.loop-turn.yielded c.loop-turn.turn-iterator c.loop-turn.yielded_by _ c.next.new.self c.in-None.is c.next.ensures.steps in
+    let is : c.loop-turn.yielded ≡ c.args.turns.items = sym (map-id c.loop-turn.yielded) ∙ whole.0 in
+    subst (λ ts. HaveRun g.R.RootSource g.S.RelatedSet g.B.Backoff g.R.Object.Resource w h (map (turn_of g.R.Object.Resource.type_of) ts) c.args.controller.now (map (record_of g.R.Object.Resource.type_of) c.loop-turn.records.items) c.loop-turn.controller) is (c.loop-turn.invariant.done w h k).0
+
+pub returns-clause-finished : goal.returns-clause-finished
+returns-clause-finished g c w h k =
+    let gives = c.into_iter-turn-iterator.ensures.into_iter_gives in
+    let road = YieldsList-from_vec {s = c.into_iter-turn-iterator.result} c.args.turns.items gives.0 (gives.1 ∙ c.args.turns.ok.0) in
+    let whole = YieldsList-end road c.loop-turn.yielded c.loop-turn.turn-iterator c.loop-turn.yielded_by _ c.next.new.self c.in-None.is c.next.ensures.steps in
+    let is : c.loop-turn.yielded ≡ c.args.turns.items = sym (map-id c.loop-turn.yielded) ∙ whole.0 in
+    subst (λ ts. AreFinishedIn g.R.Object.Resource.type_of (Answers g.P.Fn c.args.error_policy.now (arc_value c.args.context.now)) h ts c.loop-turn.records.items) is (c.loop-turn.invariant.done w h k).1

@@ -1,0 +1,122 @@
+-- Controllers before their first turn.
+use Rattle.std.proofs.Common.{◌≡◌, ℕ, ◌-◌, ◌≤◌, Bool, true, false, ◌&&◌, not, List, [], ◌++◌, length, refl, sym, ap, subst, ◌∙◌, arith}
+use Rattle.std.specs.List.{range_with_len}
+use Rattle.kube_meta.specs.Keys.{key_of}
+use Rattle.kube_meta.specs.declared.resource.Resource as resource
+use Rattle.kube_model.specs.World.{World, feed_of, is_watched}
+use Rattle.kube_model.specs.History.{Dated, exchanges_of}
+use Rattle.kube_model.specs.Owed.{is_initial}
+use Rattle.kube_model.specs.Pause.{pause_of}
+use Rattle.kube_model.specs.Asks.{has_run_dry, in_turn}
+use Rattle.kube_history.specs.CoreWorld.{CoreWorld, core_world}
+use Rattle.kube_history.specs.CoreEvents.{CoreEvent, running_of}
+use Rattle.kube_history.specs.Agrees.{Agrees}
+use Rattle.kube_streams.specs.declared.backoff.Backoff as backoff
+use Rattle.kube_reflect.specs.Exchanged.{IsLeftBy}
+use Rattle.kube_core.specs.Cores.{IsOfType, Parts, StandsFor as CoreStands}
+use Rattle.kube_core.specs.Pendings.{Stands}
+use Rattle.kube_asks.specs.Asking.{Asking, IsWorldOf, SourcesStand}
+use Rattle.kube_asks.specs.Kept.{AskKept, IsKept}
+use Rattle.kube_asks.specs.declared.root.RootSource as root_source
+use Rattle.kube_asks.specs.declared.set.RelatedSet as related_set
+use Rattle.kube_step.specs.Controllers.{IsWorldOfAsks, AsksStand, PartsStand}
+
+-- what no event leaves agrees with no history
+agrees-first : {O B : Type 0} (w : World O B) → Agrees w [] []
+agrees-first w = record { queue = refl; running = refl; shut = refl; answers = refl; store = refl; fits = tt; legal = tt; behind = omega arith; clock = λ e. refl }
+
+-- events that leave what no history leaves, leave what no event does
+pub untold : {O B D : Type 0} (object : resource.Ghosts O D) (w : World O B) (es : List (CoreEvent O)) (core : Parts O D) → Agrees w [] es → CoreStands object.type_of object.meta_of (core_world w) es core
+    → CoreStands object.type_of object.meta_of (core_world w) [] core
+untold object w es core a s = record {
+  world = s.world;
+  legal = tt;
+  stored = subst (λ ds. IsLeftBy w.key (exchanges_of 0 ds) core.writer.kept) a.answers s.stored;
+  pending = subst (λ rs. Stands object.type_of (core_world w) core.pending [] rs) a.running (subst (λ qs. Stands object.type_of (core_world w) core.pending qs (running_of es)) a.queue s.pending);
+  initial = s.initial ∙ ap (λ ds. is_initial (exchanges_of 0 ds)) a.answers;
+  clock = s.clock ∙ omega (arith, a.behind);
+  shut = s.shut ∙ a.shut;
+}
+
+-- what is kept before the first turn is kept in each world with these sources and this state of its backoff
+pub kept-alike : {O B : Type 0} (v w : World O B) (budget : List ℕ) (before mine : List (Dated O)) (k : AskKept B) → before ++ mine ≡ [] → v.feeds ≡ w.feeds → v.backoff ≡ w.backoff
+    → IsKept v budget before mine k → IsKept w budget before mine k
+kept-alike v w budget before mine k none feeds backoff is = record {
+  pause = is.pause ∙ ap (pause_of v) none ∙ ap (λ b. record { backoff = b; over_at = 0; given_up = false }) backoff ∙ sym (ap (pause_of w) none);
+  order = ap (in_turn w) none ∙ ap (λ feeds. range_with_len 0 (length feeds)) (sym feeds) ∙ sym (ap (in_turn v) none) ∙ is.order ∙ ap (λ feeds. range_with_len k.after (length feeds - k.after) ++ range_with_len 0 k.after) feeds;
+  small = subst (λ feeds. k.after ≤ length feeds) feeds is.small;
+  left = is.left;
+  quiet = is.quiet;
+  dry = λ source. is.dry source ∙ ap (λ ds. has_run_dry v ds source) none ∙ never (not (is_watched (feed_of v source))) ∙ sym (never (not (is_watched (feed_of w source)))) ∙ sym (ap (λ ds. has_run_dry w ds source) none);
+}
+  where
+    never : (b : Bool) → (b && false) ≡ false
+    never true = refl
+    never false = refl
+
+module _ {R S B O D : Type 0} (root : root_source.Ghosts R O D) (related : related_set.Ghosts S O D) (delays : backoff.Ghosts B) (object : resource.Ghosts O D) where
+  -- parts that were told nothing, and that no turn has asked
+  pub parts-first : (w : World O B) (a : Asking R S B) (core : Parts O D) (budget : List ℕ) (before mine : List (Dated O)) → before ++ mine ≡ [] → IsWorldOfAsks root related delays object w a
+      → CoreStands object.type_of object.meta_of (core_world w) [] core → AsksStand root related delays object w budget before mine a → a.is_spent ≡ false
+      → PartsStand root related delays object w [] a core
+  parts-first w a core budget before mine none world core_stands asks_stand unspent = record {
+    world = world;
+    events = [];
+    core_stands = core_stands;
+    agrees = agrees-first w;
+    budget = budget;
+    before = before;
+    mine = mine;
+    joined = none;
+    asks_stand = asks_stand;
+    unspent = unspent;
+  }
+
+  -- they are so under another limit and debounce, once what decides has these
+  pub configured : (v w : World O B) (a : Asking R S B) (core core' : Parts O D) → PartsStand root related delays object v [] a core → IsWorldOfAsks root related delays object w a → w.backoff ≡ v.backoff
+      → (CoreStands object.type_of object.meta_of (core_world v) [] core → IsOfType core.writer.kind object.meta_of (core_world w) → CoreStands object.type_of object.meta_of (core_world w) [] core')
+      → PartsStand root related delays object w [] a core'
+  configured v w a core core' p is backoff told =
+      let s = untold object v p.events core p.agrees p.core_stands in
+      parts-first w a core' p.budget p.before p.mine p.joined is
+      (told s (record { key = is.key ∙ (sym p.world.key ∙ s.world.key); named = is.named; version = is.version }))
+      (record { sources = p.asks_stand.sources; kept = kept-alike v w p.budget p.before p.mine a.kept p.joined (p.world.fed_so ∙ sym is.fed_so) (sym backoff) p.asks_stand.kept })
+      p.unspent
+
+module _ {R S B C O D : Type 0} (root : root_source.Ghosts R O D) (related : related_set.Ghosts S O D) (delays : backoff.Ghosts B) (others : backoff.Ghosts C) (object : resource.Ghosts O D) where
+  -- and under another backoff, once the sources r and s are asked anew
+  pub triggered : (v : World O B) (w : World O C) (a : Asking R S B) (core : Parts O D) (r : R) (s : S) (a' : Asking R S C) (start : C) → PartsStand root related delays object v [] a core
+      → r ≡ a.root → s ≡ a.related → a'.root ≡ r → a'.related ≡ s → a'.is_spent ≡ false → IsWorldOfAsks root related others object w a' → w.backoff ≡ start → w.limit ≡ v.limit → w.debounce ≡ v.debounce
+      → (IsWorldOf w (root.kind r) object.meta_of (root.feed r) (related.feeds s) others.delay others.delayed others.restarted → w.backoff ≡ start
+      → SourcesStand (root.stands r) (related.stands s) (length (related.feeds s)) [] → AsksStand root related others object w [] [] [] a')
+      → PartsStand root related others object w [] a' core
+  triggered v w a core r s a' start p of-root of-related same-root same-related unspent is backoff limit debounce asked =
+      let own = subst (λ x. IsWorldOf w (root.kind x) object.meta_of (root.feed x) (related.feeds s) others.delay others.delayed others.restarted) same-root
+      (subst (λ x. IsWorldOf w (root.kind a'.root) object.meta_of (root.feed a'.root) (related.feeds x) others.delay others.delayed others.restarted) same-related is) in
+      let key : v.key ≡ w.key = p.world.key ∙ (ap (λ x o. key_of (root.kind x) (object.meta_of o)) (sym of-root) ∙ sym own.key) in
+      let alike : core_world v ≡ core_world w = λ i. record {
+        key = key i;
+        is_named = (p.world.named ∙ sym own.named) i;
+        version = (p.world.version ∙ sym own.version) i;
+        limit = sym limit i;
+        debounce = sym debounce i;
+      } in
+      let sources = subst (SourcesStand (root.stands a.root) (related.stands a.related) (length (related.feeds a.related))) p.joined p.asks_stand.sources in
+      parts-first root related others object w a' core [] [] [] refl is
+      (subst (λ (world : CoreWorld O). CoreStands object.type_of object.meta_of world [] core) alike (untold object v p.events core p.agrees p.core_stands))
+      (asked own backoff (subst (λ x. SourcesStand (root.stands x) (related.stands s) (length (related.feeds s)) []) (sym of-root)
+      (subst (λ x. SourcesStand (root.stands a.root) (related.stands x) (length (related.feeds x)) []) (sym of-related) sources)))
+      unspent
+
+module _ {R S B O D : Type 0} (root : root_source.Ghosts R O D) (related : related_set.Ghosts S O D) (delays : backoff.Ghosts B) (object : resource.Ghosts O D) where
+  -- parts that were made of the sources r and s, in each world whose backoff begins as theirs
+  pub started : (w : World O B) (a : Asking R S B) (core : Parts O D) (r : R) (s : S) (start : B) → a.root ≡ r → a.related ≡ s → a.is_spent ≡ false → IsWorldOfAsks root related delays object w a → w.backoff ≡ start
+      → CoreStands object.type_of object.meta_of (core_world w) [] core → SourcesStand (root.stands r) (related.stands s) (length (related.feeds s)) []
+      → ((v : World O B) → IsWorldOf v (root.kind r) object.meta_of (root.feed r) (related.feeds s) delays.delay delays.delayed delays.restarted → v.backoff ≡ start
+      → SourcesStand (root.stands r) (related.stands s) (length (related.feeds s)) [] → AsksStand root related delays object v [] [] [] a)
+      → PartsStand root related delays object w [] a core
+  started w a core r s start same-root same-related unspent is backoff core_stands sources asked =
+      let own = subst (λ x. IsWorldOf w (root.kind x) object.meta_of (root.feed x) (related.feeds s) delays.delay delays.delayed delays.restarted) same-root
+      (subst (λ x. IsWorldOf w (root.kind a.root) object.meta_of (root.feed a.root) (related.feeds x) delays.delay delays.delayed delays.restarted) same-related is) in
+      parts-first root related delays object w a core [] [] [] refl is core_stands
+      (asked w own backoff sources) unspent

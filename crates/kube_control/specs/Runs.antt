@@ -1,0 +1,78 @@
+-- Runs of a controller: turns, one after another. R is the type of its root, S that of its related sources, B that of its backoff's states, O that of objects, D that of their dynamic types and E that of faults.
+use Rattle.std.specs.Prelude.{◌≡◌, false, List, [], ◌∷◌, ◌++◌, map, length, slice_get, take, Option, Some}
+use Rattle.kube_meta.specs.declared.action.Action.{Action}
+use Rattle.kube_meta.specs.Reference.{ObjectType, Reference}
+use Rattle.kube_meta.specs.declared.resource.Resource as resource
+use Rattle.kube_model.specs.World.{World}
+use Rattle.kube_model.specs.History.{Taken, Turn, TurnRecord, Step, dated, exchanges}
+use Rattle.kube_model.specs.Named.{RootIsNamed, EachIsNamed, AreNamedTurns}
+use Rattle.kube_model.specs.Raw.{grown_by}
+use Rattle.kube_model.specs.Takes.{running}
+use Rattle.kube_model.specs.Traces.{IsRecord, IsTrace, IsValid, has_ended, last_moment, step, steps, unread}
+use Rattle.kube_streams.specs.declared.backoff.Backoff as backoff
+use Rattle.kube_asks.specs.declared.asks.AskFault.{AskFault}
+use Rattle.kube_asks.specs.declared.root.RootSource as root_source
+use Rattle.kube_asks.specs.declared.set.RelatedSet as related_set
+use Rattle.kube_turn.specs.declared.turn.Turn.{Turn as HeldTurn}
+use Rattle.kube_turn.specs.declared.record.TurnRecord.{TurnRecord as HeldRecord}
+use Rattle.kube_turn.specs.Records.{record_of, turn_of}
+use Rattle.kube_step.specs.Asked.{AreEndedBy}
+use Rattle.kube_step.specs.Calls.{ArePolled, dated_in}
+use Rattle.kube_step.specs.Errors.{IfUnnamedAsk}
+use Rattle.kube_step.specs.Finishes.{AreFinished}
+use Rattle.kube_step.specs.HandOvers.{handed_by, taken_by}
+use Rattle.kube_step.specs.Policies.{answered_in, answered_by}
+use Rattle.kube_step.specs.Turns.{AreFirstTakes, MayGoOn}
+use Rattle.kube_control.specs.Controllers.{Controlling}
+use Rattle.kube_control.specs.Histories.{IsOfTrace}
+
+-- what was done with the finishes of each turn that has a record, after a history. policy says what the error policy answered of an object and a fault
+module _ {O E D : Type 0} (type_of : D → ObjectType) (policy : O → E → Action → Type 0) where
+  abbrev pub AreFinishedIn : List (Step O) → List (HeldTurn O E D) → List (HeldRecord O E D) → Type 0
+  AreFinishedIn h [] rs = Unit {0}
+  AreFinishedIn h (t ∷ ts) [] = Unit {0}
+  AreFinishedIn h (t ∷ ts) (r ∷ rs) =
+      AreFinished type_of policy (running h) t.finishes r.finished × AreFinishedIn (h ++ step (turn_of type_of t) (unread (record_of type_of r)) ∷ []) ts rs
+
+module _ {R S B O D : Type 0} (root : root_source.Ghosts R O D) (related : related_set.Ghosts S O D) (delays : backoff.Ghosts B) (object : resource.Ghosts O D) (w : World O B) where
+  -- the controller stands for this history, and turns may follow: its root lists and watches
+  pub record IsWatching (h : List (Step O)) (c : Controlling R S B O D) : Type 0 where
+    pub may : MayGoOn root related delays object w h c.asks c.core
+    pub last : c.last.0 ≡ last_moment h
+    pub ended : c.has_ended ≡ has_ended h
+    pub of_trace : IsOfTrace w h
+    pub unspent : c.is_spent ≡ false
+
+  -- the turn's record was made after this history, and nothing else was asked
+  pub record IsNextTurn (h : List (Step O)) (t : Turn) (c : Controlling R S B O D) (r : TurnRecord O) (c' : Controlling R S B O D) : Type 0 where
+    pub recorded : IsRecord w (answered_in r.finished) h t (unread r)
+    pub each_named : EachIsNamed w (RootIsNamed w) h t [] r.exchanges
+    pub polled : ArePolled root.polls related.polls (exchanges h) c.asks.root c.asks.related (dated r.at r.exchanges) c'.asks.root c'.asks.related
+    pub watching : IsWatching (h ++ step t (unread r) ∷ []) c'
+
+  -- these records are the trace of these turns, with what the error policy answered; all exchanges came with their names, and nothing else was asked
+  pub record HaveRun (h : List (Step O)) (ts : List Turn) (c : Controlling R S B O D) (rs : List (TurnRecord O)) (c' : Controlling R S B O D) : Type 0 where
+    pub traced : IsTrace w (answered_by rs) h ts (map unread rs)
+    pub all_named : AreNamedTurns w (RootIsNamed w) h (steps ts (map unread rs))
+    pub polled : ArePolled root.polls related.polls (exchanges h) c.asks.root c.asks.related (dated_in rs) c'.asks.root c'.asks.related
+    pub watching : IsWatching (h ++ steps ts (map unread rs)) c'
+
+  -- a fault broke a turn off after this history; where an object has no name the turn is valid. What is told of the sources is what was asked until then, and had and has are what the reconciler tells that it was handed: the turn's first takes, at most
+  pub record IsBrokenOff (f : AskFault) (h : List (Step O)) (t : Turn) (r : R) (s : S) (r' : R) (s' : S) (had has : Option (List (Reference × O))) : Type 0 where
+    pub valid : IfUnnamedAsk f (λ source. IsValid h t)
+    pub ended : AreEndedBy root related w h t f [] r s r' s'
+    pub taken : List (Taken O)
+    pub first : AreFirstTakes w h t taken
+    pub handed : has ≡ grown_by had (handed_by taken)
+
+  -- these records are the trace of the first turns, all of which were done; the next turn was broken off by a fault, and nothing else was asked and handed over
+  pub record WereBrokenOff (f : AskFault) (h : List (Step O)) (ts : List Turn) (c : Controlling R S B O D) (rs : List (TurnRecord O)) (c' : Controlling R S B O D) (had has : Option (List (Reference × O))) : Type 0 where
+    pub traced : IsTrace w (answered_by rs) h (take (length rs) ts) (map unread rs)
+    pub all_named : AreNamedTurns w (RootIsNamed w) h (steps (take (length rs) ts) (map unread rs))
+    pub reached_root : R
+    pub reached_related : S
+    pub polled : ArePolled root.polls related.polls (exchanges h) c.asks.root c.asks.related (dated_in rs) reached_root reached_related
+    pub turn : Turn
+    pub next : slice_get ts (length rs) ≡ Some turn
+    pub going : has_ended (h ++ steps (take (length rs) ts) (map unread rs)) ≡ false
+    pub broken : IsBrokenOff f (h ++ steps (take (length rs) ts) (map unread rs)) turn reached_root reached_related c'.asks.root c'.asks.related (grown_by had (handed_by (taken_by rs))) has
