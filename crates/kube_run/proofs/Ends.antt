@@ -1,58 +1,34 @@
 -- An input has one end, and what may be written of it before begins its text.
-use Rattle.std.proofs.Common.{◌≡◌, ◌<◌, ◌≤◌, ◌+◌, ◌⊎◌, inl, inr, ℕ, zero, suc, List, [], ◌∷◌, ◌++◌, Some, Result, Ok, Err, false, length, take, drop, slice_get, refl, sym, ap, subst, ◌∙◌, append-nil, append_assoc, length-append, arith}
-use Rattle.std.specs.List.{AllZip}
+use Rattle.std.proofs.Common.{◌≡◌, ◌<◌, ◌≤◌, ◌+◌, ◌⊎◌, ◌||◌, inl, inr, ℕ, zero, suc, Bool, true, false, not, IsTrue, List, [], ◌∷◌, ◌++◌, map, Option, Some, None, Result, Ok, Err, length, take, drop, slice_get, refl, sym, ap, ap₂, subst, ◌∙◌, append-nil, append_assoc, length-append, arith}
+use Rattle.std.specs.List.{AllByRecursion, list_all}
 use Rattle.kube_meta.specs.Reading.{ObjectData}
-use Rattle.kube_meta.specs.Reference.{ObjectType}
-use Rattle.kube_meta.specs.Resources.{resource_type}
-use Rattle.kube_model.specs.History.{Step, Turn, TurnRecord}
-use Rattle.kube_model.specs.Traces.{has_ended}
-use Rattle.kube_control.specs.PlainTraces.{IsTrace, steps}
-use Rattle.kube_api.specs.TestScript as api
-use Rattle.kube_control.specs.Built.{IsBuilt}
-use Rattle.kube_control.specs.Calls.{AreMadeBy, IsOneWay, dated_in}
-use Rattle.kube_control.specs.NotBuilt.{IsNotBuilt, IsNotBuiltAfter}
-use Rattle.kube_control.specs.Worlds.{world_of}
-use Rattle.kube_run.specs.Lines.{not_built_line}
-use Rattle.kube_run.specs.Played.{IsCutOff, IsFront, IsPlayed, IsPlayedFront, IsPlayedUntil, IsWhole, first_api, meta_of, script_world, tells}
-use Rattle.kube_run.specs.Script.{Script}
-use Rattle.kube_run.specs.Served.{Ends, refusal_line}
-use Rattle.kube_run.specs.TraceText.{Line, line_of, lines_of, line_text, lines_text, text_of}
-use Rattle.kube_run.specs.Whole.{Cause, too_long, syntax_fault, shape}
+use Rattle.kube_model.specs.declared.call.Answer.{Answer}
+use Rattle.kube_model.specs.declared.call.Answer.TheVariants.{Page, Opened, Added, Modified, Deleted, Bookmark, ErrorItem, Fault, End, NotReady, Idle, Item, Spent}
+use Rattle.kube_model.specs.Fits.{brings_references, has_references}
+use Rattle.kube_model.specs.History.{Exchange, Step, Turn, TurnRecord, dated, exchanges_of, exchanges_with}
+use Rattle.kube_model.specs.Named.{AreNamed, AreNamedTurns, EachIsNamed, IsOwedForm, OfCall, RootIsNamed, has_names}
+use Rattle.kube_model.specs.Owed.{is_initial, mark, owed}
+use Rattle.kube_model.specs.Raw.{Raw}
+use Rattle.kube_model.specs.Recorded.{AsItCame, IsAnsweredBy, IsRecorded, PastItsWindow, answer_of, items_of, raw_call}
+use Rattle.kube_model.specs.Traces.{EachIsNext, IsRecord, IsRefusedAfter, IsTrace, Refusal as TurnRefusal, has_ended, refusal, step, steps, unread}
+use Rattle.kube_model.specs.Turns.{next_source}
+use Rattle.kube_model.specs.World.{Watched, feed_of}
+use Rattle.kube_step.specs.Calls.{dated_in}
+use Rattle.kube_script.specs.Script.{Related, Script}
+use Rattle.kube_script.specs.Told.{api_at_first}
+use Rattle.kube_script.specs.Whole.{Cause}
+use Rattle.kube_text.specs.Refusals.{refusal_text}
+use Rattle.kube_text.specs.TraceText.{Line, line_of, line_text, lines_of, lines_text}
+use Rattle.kube_text.specs.declared.refusal.Refusal.{Refusal}
+use Rattle.kube_text.specs.declared.refusal.Refusal.TheVariants as refusals
+use Rattle.kube_run.specs.Played.{AreAnswered, IsCutBy, IsCutOff, IsFront, IsPlayed, IsPlayedFront, IsPlayedTo, IsRefusedNext, IsUnnamedNext, IsWhole, all_faults, first_turns, has_name, made_by, policies_in, refusal_at, script_world, trace_text, turns_in, version_of}
+use Rattle.kube_run.specs.Served.{Ends, IsBadRun, IsBegun, IsDone, IsRunBegun, refusal_of}
 use Rattle.kube_run.specs.declared.status.Status.{Status}
 use Rattle.kube_run.specs.declared.status.Status.TheVariants as status
-use Rattle.kube_run.proofs.Played.{take-twice}
-
-abbrev Api : Type 0
-Api = api.Script ObjectData
+use Rattle.kube_run.proofs.Once.{Api, answered-at, answered-split, asks-begin, feed-past, none-is-some, not-item, one-way, some-same, traces-begin}
 
 abbrev Records : Type 0
 Records = List (TurnRecord ObjectData)
-
--- a script answers one way
-pub one-way : IsOneWay (api.IsMove {V = ObjectData})
-one-way a at r q b c f g call =
-    let answer : r.answer ≡ q.answer = f.answer ∙ (ap (λ k. api.answered k at a) call ∙ sym g.answer) in (
-      λ i. record { call = call i; answer = answer i },
-      f.left ∙ (ap (λ k. api.left_by k at a) call ∙ sym g.left),
-    )
-
--- what the controller's laws say of scripts
-abbrev pub OneTrace : Type 0
-OneTrace = (t : ObjectType) (h : List (Step ObjectData)) (ts us : List Turn) (rs qs : Records) (a b c : Api)
-    → IsOneWay (api.IsMove {V = ObjectData}) → IsTrace (world_of t meta_of) h ts rs → IsTrace (world_of t meta_of) h (ts ++ us) qs
-    → AllZip (IsBuilt meta_of) (take (length rs) ts) rs
-    → AreMadeBy api.IsMove tells (world_of t meta_of).version (dated_in rs) a b
-    → AreMadeBy api.IsMove tells (world_of t meta_of).version (dated_in qs) a c
-    → (rest : Records) × (qs ≡ rs ++ rest)
-
-abbrev pub Apart : Type 0
-Apart = (t : ObjectType) (h : List (Step ObjectData)) (ts : List Turn) (rs qs : Records) (a c d : Api)
-    → IsOneWay (api.IsMove {V = ObjectData}) → IsTrace (world_of t meta_of) h (take (length rs) ts) rs
-    → AllZip (IsBuilt meta_of) (take (length rs) ts) rs
-    → IsNotBuiltAfter api.IsMove tells t meta_of h ts rs a d
-    → IsTrace (world_of t meta_of) h ts qs
-    → AllZip (IsBuilt meta_of) (take (length qs) ts) qs
-    → AreMadeBy api.IsMove tells (world_of t meta_of).version (dated_in qs) a c → ⊥
 
 -- ---- lists
 
@@ -77,12 +53,27 @@ get-take (suc m) (suc n) (y ∷ xs) x h e = get-take m n xs x (omega (arith, h))
 take-more : {A : Type 0} (m n : ℕ) (xs : List A) → m ≤ n → take m xs ++ drop m (take n xs) ≡ take n xs
 take-more m n xs h = ap (λ ys. ys ++ drop m (take n xs)) (sym (take-less m n xs h)) ∙ take-drop m (take n xs)
 
+drop-there : {A : Type 0} (n : ℕ) (xs : List A) (x : A) → slice_get xs n ≡ Some x → (rest : List A) × (drop n xs ≡ x ∷ rest)
+drop-there zero [] x e = absurd (cc)
+drop-there zero (y ∷ xs) x e = (xs, ap (λ z. z ∷ xs) (some-same y x e))
+drop-there (suc n) [] x e = absurd (cc)
+drop-there (suc n) (y ∷ xs) x e = drop-there n xs x e
+
+length-there : {A : Type 0} (n : ℕ) (xs : List A) (x : A) → slice_get xs n ≡ Some x → length (take n xs) ≡ n
+length-there zero xs x e = refl
+length-there (suc n) [] x e = absurd (cc)
+length-there (suc n) (y ∷ xs) x e = ap suc (length-there n xs x e)
+
+drop-none : {A : Type 0} (n : ℕ) → drop {A = A} n [] ≡ []
+drop-none zero = refl
+drop-none (suc n) = refl
+
 none-follow : {A : Type 0} (xs ys : List A) → length (xs ++ ys) ≡ length xs → ys ≡ []
 none-follow xs [] e = refl
 none-follow xs (y ∷ ys) e = let l = length-append xs (y ∷ ys) in absurd (omega (arith, l, e))
 
 -- two lists that each begin with the other
-pub same-both : {A : Type 0} (xs ys us vs : List A) → ys ≡ xs ++ us → xs ≡ ys ++ vs → xs ≡ ys
+same-both : {A : Type 0} (xs ys us vs : List A) → ys ≡ xs ++ us → xs ≡ ys ++ vs → xs ≡ ys
 same-both xs ys us vs e f =
     let l = length-append xs us in
     let k = length-append ys vs in
@@ -100,149 +91,382 @@ either-less (suc m) (suc n) = go (either-less m n)
     go (inl h) = inl (omega (arith, h))
     go (inr h) = inr (omega (arith, h))
 
+-- ---- steps
+
+steps-append : (ts us : List Turn) (rs qs : Records) → length ts ≡ length rs → steps (ts ++ us) (map unread (rs ++ qs)) ≡ steps ts (map unread rs) ++ steps us (map unread qs)
+steps-append [] us [] qs e = refl
+steps-append [] us (r ∷ rs) qs e = absurd (omega (arith, e))
+steps-append (t ∷ ts) us [] qs e = absurd (omega (arith, e))
+steps-append (t ∷ ts) us (r ∷ rs) qs e = ap (λ ss. step t (unread r) ∷ ss) (steps-append ts us rs qs (omega (arith, e)))
+
+module _ (s : Script) where
+  named-after : (before h k : List (Step ObjectData)) → AreNamedTurns (script_world s) (RootIsNamed (script_world s)) before (h ++ k) → AreNamedTurns (script_world s) (RootIsNamed (script_world s)) (before ++ h) k
+  named-after before [] k n = subst (λ b. AreNamedTurns (script_world s) (RootIsNamed (script_world s)) b k) (sym (append-nil before)) n
+  named-after before (x ∷ h) k n =
+      subst (λ b. AreNamedTurns (script_world s) (RootIsNamed (script_world s)) b k) (append_assoc before (x ∷ []) h) (named-after (before ++ x ∷ []) h k n.1)
+
+  named-at : (h : List (Step ObjectData)) (t : Turn) (before xs : List (Exchange ObjectData)) (z : Exchange ObjectData) (zs : List (Exchange ObjectData)) → EachIsNamed (script_world s) (RootIsNamed (script_world s)) h t before (xs ++ z ∷ zs)
+      → RootIsNamed (script_world s) z.source (exchanges_of z.source (exchanges_with h t (before ++ xs))) z
+  named-at h t before [] z zs n = subst (λ b. RootIsNamed (script_world s) z.source (exchanges_of z.source (exchanges_with h t b)) z) (sym (append-nil before)) n.0
+  named-at h t before (x ∷ xs) z zs n =
+      subst (λ b. RootIsNamed (script_world s) z.source (exchanges_of z.source (exchanges_with h t b)) z) (append_assoc before (x ∷ []) xs) (named-at h t (before ++ x ∷ []) xs z zs n.1)
+
+-- ---- names
+
+-- whether it failed tells only of an item of a stream
+brings-any : (initial f g : Bool) (a : Answer) → (a ≡ Item → ⊥) → brings_references initial f a ≡ brings_references initial g a
+brings-any initial f g (Page token version) n = refl
+brings-any initial f g Opened n = refl
+brings-any initial f g (Added version) n = refl
+brings-any initial f g (Modified version) n = refl
+brings-any initial f g (Deleted version) n = refl
+brings-any initial f g (Bookmark version ending) n = refl
+brings-any initial f g (ErrorItem e) n = refl
+brings-any initial f g (Fault error) n = refl
+brings-any initial f g End n = refl
+brings-any initial f g NotReady n = refl
+brings-any initial f g Idle n = refl
+brings-any initial f g Item n = absurd (n refl)
+brings-any initial f g Spent n = refl
+
+all-named : (xs : List ObjectData) → AllByRecursion (λ o. IsTrue (has_name o)) xs → list_all has_name xs ≡ true
+all-named [] h = refl
+all-named (x ∷ xs) h = rw (h.0) (all-named xs h.1)
+
+names-hold : (b : Bool) (all : Bool) → (b ≡ true → all ≡ true) → not b || all ≡ false → ⊥
+names-hold true all h e = let f = h refl in absurd (cc)
+names-hold false all h e = absurd (cc)
+
+module _ (s : Script) where
+  -- what is recorded of an answer is named where what came is
+  names-apart : (own : List (Exchange ObjectData)) (z : Exchange ObjectData) (raw : Raw ObjectData) → IsRecorded version_of s.root.watcher raw z → AreNamed (script_world s) own z → has_names has_name version_of own (OfCall raw) ≡ false → ⊥
+  names-apart own z raw r n e = go r.answer
+    where
+      go : IsAnsweredBy version_of raw z.answer → ⊥
+      go (AsItCame f) =
+          let b = brings_references (is_initial own) false (answer_of version_of raw.answer) in
+          let apart : z.answer ≡ Item → ⊥ = not-item raw z.answer r.answer in
+          let same : has_references (mark own z) ≡ b =
+          brings-any (is_initial own) _ false z.answer apart ∙ ap (brings_references (is_initial own) false) f in
+          names-hold b (list_all has_name (items_of raw.answer)) (λ h. ap (list_all has_name) (sym r.items) ∙ all-named z.items (n (same ∙ h))) e
+      go (PastItsWindow c w f) =
+          names-hold (brings_references (is_initial own) false (answer_of version_of raw.answer)) (list_all has_name (items_of raw.answer))
+          (λ h. absurd (unready (ap (λ a. brings_references (is_initial own) false (answer_of version_of a)) (sym w) ∙ h))) e
+        where
+          unready : false ≡ true → ⊥
+          unready x = absurd (cc)
+
+  root-form : (own : List (Exchange ObjectData)) (source : ℕ) (raw : Raw ObjectData) → IsOwedForm has_name version_of (feed_of (script_world s) source) own (OfCall raw) → source ≡ 0
+  root-form own zero raw h = refl
+  root-form own (suc n) raw h = absurd (subst (λ feed. IsOwedForm has_name version_of feed own (OfCall raw)) (feed-past s n) h)
+
+-- ---- turns that end a run
+
+-- a turn after these records is there, and has no record that goes on from them
+record IsStop (s : Script) (rs : Records) : Type 0 where
+  pub left : Api
+  pub played : IsPlayedTo s (first_turns s rs) rs left
+  pub turn : Turn
+  pub there : slice_get (turns_in s) (length rs) ≡ Some turn
+  pub going : has_ended (made_by (first_turns s rs) rs) ≡ false
+  pub apart : (r : TurnRecord ObjectData) (c : Api) → IsRecord (script_world s) (policies_in s 0) (made_by (first_turns s rs) rs) turn (unread r)
+      → EachIsNamed (script_world s) (RootIsNamed (script_world s)) (made_by (first_turns s rs) rs) turn [] r.exchanges → AreAnswered s.root.watcher left (dated r.at r.exchanges) c → ⊥
+
+module _ (s : Script) where
+  -- the refused turn
+  record IsRefusedHere (h : List (Step ObjectData)) (ts : List Turn) (rs : Records) (why : TurnRefusal) : Type 0 where
+    pub turn : Turn
+    pub there : slice_get ts (length rs) ≡ Some turn
+    pub going : has_ended (h ++ steps (take (length rs) ts) (map unread rs)) ≡ false
+    pub cause : refusal (h ++ steps (take (length rs) ts) (map unread rs)) turn ≡ Some why
+
+  refused-here : (h : List (Step ObjectData)) (ts : List Turn) (rs : Records) (why : TurnRefusal) → IsRefusedAfter (script_world s) (policies_in s) h ts (map unread rs) why → IsRefusedHere h ts rs why
+  refused-here h [] rs why k = absurd k
+  refused-here h (t ∷ ts) [] why k = record {
+    turn = t;
+    there = refl;
+    going = subst (λ g. has_ended g ≡ false) (sym (append-nil h)) k.0;
+    cause = subst (λ g. refusal g t ≡ Some why) (sym (append-nil h)) k.1;
+  }
+  refused-here h (t ∷ ts) (r ∷ rs) why k =
+      let rest = refused-here (h ++ step t (unread r) ∷ []) ts rs why k.2 in
+      let joined = append_assoc h (step t (unread r) ∷ []) (steps (take (length rs) ts) (map unread rs)) in
+      record {
+        turn = rest.turn;
+        there = rest.there;
+        going = subst (λ g. has_ended g ≡ false) joined rest.going;
+        cause = subst (λ g. refusal g rest.turn ≡ Some why) joined rest.cause;
+      }
+
+  refused-stop : (rs : Records) (why : TurnRefusal) → IsRefusedNext s rs why → IsStop s rs
+  refused-stop rs why k =
+      let here = refused-here [] (turns_in s) rs why k.refused in
+      record {
+        left = k.played.0;
+        played = k.played.1;
+        turn = here.turn;
+        there = here.there;
+        going = here.going;
+        apart = λ r c made names answered. none-is-some (refusal (made_by (first_turns s rs) rs) here.turn) why made.valid here.cause;
+      }
+
+  unnamed-apart : (rs : Records) (source : ℕ) (u : IsUnnamedNext s rs source) (r : TurnRecord ObjectData) (c : Api) → IsRecord (script_world s) (policies_in s 0) (made_by (first_turns s rs) rs) u.turn (unread r)
+      → EachIsNamed (script_world s) (RootIsNamed (script_world s)) (made_by (first_turns s rs) rs) u.turn [] r.exchanges → AreAnswered s.root.watcher u.left (dated r.at r.exchanges) c → ⊥
+  unnamed-apart rs source u r c k names answered =
+      let h = made_by (first_turns s rs) rs in
+      let p = asks-begin s h u.turn [] u.before r.exchanges u.left u.reached c u.unnamed.made k.asked k.done u.answered (answered-at s h u.turn r u.left c k answered) in
+      go p.0 p.1 p.2 p.3
+    where
+      go : (rest : List (Exchange ObjectData)) → r.exchanges ≡ u.before ++ rest → EachIsNext (script_world s) (made_by (first_turns s rs) rs) u.turn u.before rest → AreAnswered s.root.watcher u.reached (dated u.turn.at rest) c → ⊥
+      go [] same each made =
+          none-is-some (next_source (script_world s) (made_by (first_turns s rs) rs) u.turn u.before) source
+          (subst (λ xs. next_source (script_world s) (made_by (first_turns s rs) rs) u.turn xs ≡ None) (same ∙ append-nil u.before) k.done) u.unnamed.next
+      go (z ∷ zs) same each made =
+          let ds = exchanges_with (made_by (first_turns s rs) rs) u.turn u.before in
+          let root : source ≡ 0 = root-form s (exchanges_of source ds) source u.raw u.unnamed.owes in
+          let mine : z.source ≡ 0 = some-same z.source source (sym each.0.source ∙ u.unnamed.next) ∙ root in
+          let owes : z.call ≡ owed (Watched s.root.watcher) (exchanges_of 0 ds) = subst (λ n. z.call ≡ owed (feed_of (script_world s) n) (exchanges_of n ds)) mine each.0.fits.owes in
+          let form = subst (λ n. IsOwedForm has_name version_of (feed_of (script_world s) n) (exchanges_of n ds) (OfCall u.raw)) root u.unnamed.owes in
+          let call : made.1.raw.call ≡ u.raw.call = some-same made.1.raw.call u.raw.call (sym made.1.recorded.call ∙ ap (raw_call s.root.watcher) owes ∙ form.0) in
+          let one = one-way u.reached u.turn.at made.1.raw u.raw made.0 u.after made.1.moved u.moved call in
+          let all = subst (λ xs. EachIsNamed (script_world s) (RootIsNamed (script_world s)) (made_by (first_turns s rs) rs) u.turn [] xs) same names in
+          let name = subst (λ n. RootIsNamed (script_world s) n (exchanges_of n ds) z) mine (named-at s (made_by (first_turns s rs) rs) u.turn [] u.before z zs all) in
+          names-apart s (exchanges_of 0 ds) z u.raw (subst (λ raw. IsRecorded version_of s.root.watcher raw z) one.0 made.1.recorded) name
+          (subst (λ n. has_names has_name version_of (exchanges_of n ds) (OfCall u.raw) ≡ false) root u.unnamed.unnamed)
+
+  unnamed-stop : (rs : Records) (source : ℕ) → IsUnnamedNext s rs source → IsStop s rs
+  unnamed-stop rs source u = record { left = u.left; played = u.played; turn = u.turn; there = u.there; going = u.going; apart = unnamed-apart rs source u }
+
+  cut-stop : (rs : Records) (r : Refusal) → IsCutBy s rs r → IsStop s rs
+  cut-stop rs r (inl c) = refused-stop rs c.0 c.1
+  cut-stop rs r (inr c) = unnamed-stop rs c.0 c.1
+
+  stop-front : (rs : Records) → IsStop s rs → IsPlayedFront s rs
+  stop-front rs st = (st.left, st.played)
+
+  -- no trace goes past such a turn
+  past-stop : (rs : Records) (st : IsStop s rs) (ts : List Turn) (qs : Records) (c : Api) → slice_get ts (length rs) ≡ Some st.turn → take (length rs) ts ≡ first_turns s rs → IsPlayedTo s ts qs c → ⊥
+  past-stop rs st ts qs c there front q =
+      let n = length rs in
+      let d = drop-there n ts st.turn there in
+      let split : first_turns s rs ++ st.turn ∷ d.0 ≡ ts = ap₂ (λ us vs. us ++ vs) (sym front) (sym d.1) ∙ take-drop n ts in
+      let p =
+      traces-begin s [] (first_turns s rs) (st.turn ∷ d.0) rs qs (api_at_first s.root) st.left c st.played.trace
+      (subst (λ us. IsTrace (script_world s) (policies_in s) [] us (map unread qs)) (sym split) q.trace) st.played.answered q.answered in
+      go d.0 split p.0 p.1 p.2 p.3
+    where
+      go : (more : List Turn) → first_turns s rs ++ st.turn ∷ more ≡ ts → (rest : Records) → qs ≡ rs ++ rest → IsTrace (script_world s) (policies_in s) (made_by (first_turns s rs) rs) (st.turn ∷ more) (map unread rest)
+          → AreAnswered s.root.watcher st.left (dated_in rest) c → ⊥
+      go more split [] same trace answered = absurd (ended-apart trace st.going)
+        where
+          ended-apart : has_ended (made_by (first_turns s rs) rs) ≡ true → has_ended (made_by (first_turns s rs) rs) ≡ false → ⊥
+          ended-apart e f = absurd (cc)
+      go more split (r ∷ rest) same trace answered =
+          let long : length (first_turns s rs) ≡ length rs = length-there (length rs) (turns_in s) st.turn st.there in
+          let all = steps-append (first_turns s rs) (st.turn ∷ more) rs (r ∷ rest) long in
+          let whole : made_by ts qs ≡ made_by (first_turns s rs) rs ++ steps (st.turn ∷ more) (map unread (r ∷ rest)) = ap₂ (λ us vs. steps us (map unread vs)) (sym split) same ∙ all in
+          let names = named-after s [] (made_by (first_turns s rs) rs) (steps (st.turn ∷ more) (map unread (r ∷ rest)))
+          (subst (λ ss. AreNamedTurns (script_world s) (RootIsNamed (script_world s)) [] ss) whole q.named) in
+          let made = answered-split s.root.watcher (dated r.at r.exchanges) (dated_in rest) st.left c answered in
+          st.apart r made.0 trace.1 names.0 made.1
+
+-- ---- fronts
+
+module _ (s : Script) where
+  -- a longer front begins with a shorter one
+  fronts : (rs qs : Records) → length rs ≤ length qs → IsPlayedFront s rs → IsPlayedFront s qs → (rest : Records) × (qs ≡ rs ++ rest)
+  fronts rs qs h p q =
+      let b =
+      traces-begin s [] (first_turns s rs) (drop (length rs) (first_turns s qs)) rs qs (api_at_first s.root) p.0 q.0 p.1.trace
+      (subst (λ us. IsTrace (script_world s) (policies_in s) [] us (map unread qs)) (sym (take-more (length rs) (length qs) (turns_in s) h)) q.1.trace) p.1.answered q.1.answered in
+      (b.0, b.1)
+
+  no-further : (rs qs : Records) → length rs < length qs → IsStop s rs → IsPlayedFront s qs → ⊥
+  no-further rs qs h st q =
+      past-stop s rs st (first_turns s qs) qs q.0 (get-take (length rs) (length qs) (turns_in s) st.turn h st.there) (take-less (length rs) (length qs) (turns_in s) (omega (arith, h))) q.1
+
+  not-whole : (rs qs : Records) → IsStop s rs → IsPlayed s qs → ⊥
+  not-whole rs qs st q = past-stop s rs st (turns_in s) qs q.0 st.there refl q.1
+
+  whole-goes-on : (rs qs : Records) → IsPlayed s rs → IsPlayed s qs → (rest : Records) × (qs ≡ rs ++ rest)
+  whole-goes-on rs qs p q =
+      let b =
+      traces-begin s [] (turns_in s) [] rs qs (api_at_first s.root) p.0 q.0 p.1.trace
+      (subst (λ us. IsTrace (script_world s) (policies_in s) [] us (map unread qs)) (sym (append-nil (turns_in s))) q.1.trace) p.1.answered q.1.answered in
+      (b.0, b.1)
+
+  same-whole : (rs qs : Records) → IsPlayed s rs → IsPlayed s qs → rs ≡ qs
+  same-whole rs qs p q =
+      let a = whole-goes-on rs qs p q in
+      let b = whole-goes-on qs rs q p in
+      same-both rs qs a.0 b.0 a.1 b.1
+
+  same-stop : (rs qs : Records) → IsStop s rs → IsStop s qs → rs ≡ qs
+  same-stop rs qs u v = go (either-less (length rs) (length qs)) (either-less (length qs) (length rs))
+    where
+      go : (length rs ≤ length qs) ⊎ (length qs < length rs) → (length qs ≤ length rs) ⊎ (length rs < length qs) → rs ≡ qs
+      go (inl h) (inl k) =
+          let p = fronts rs qs h (stop-front s rs u) (stop-front s qs v) in
+          let q = fronts qs rs k (stop-front s qs v) (stop-front s rs u) in
+          same-both rs qs p.0 q.0 p.1 q.1
+      go (inr h) k = absurd (no-further qs rs h v (stop-front s rs u))
+      go (inl h) (inr k) = absurd (no-further rs qs k u (stop-front s qs v))
+
+  refused-or-not : (rs : Records) (why : TurnRefusal) (source : ℕ) → IsRefusedNext s rs why → IsUnnamedNext s rs source → ⊥
+  refused-or-not rs why source p u =
+      let x = refused-here s [] (turns_in s) rs why p.refused in
+      let turn : x.turn ≡ u.turn = some-same x.turn u.turn (sym x.there ∙ u.there) in
+      none-is-some (refusal (made_by (first_turns s rs) rs) u.turn) why u.unnamed.valid (ap (refusal (made_by (first_turns s rs) rs)) (sym turn) ∙ x.cause)
+
+  -- and it ends for one cause
+  same-cause : (rs : Records) (a b : Refusal) → IsCutBy s rs a → IsCutBy s rs b → a ≡ b
+  same-cause rs a b (inl p) (inl q) =
+      let x = refused-here s [] (turns_in s) rs p.0 p.1.refused in
+      let y = refused-here s [] (turns_in s) rs q.0 q.1.refused in
+      let turn : x.turn ≡ y.turn = some-same x.turn y.turn (sym x.there ∙ y.there) in
+      let why : p.0 ≡ q.0 = some-same p.0 q.0 (sym x.cause ∙ ap (refusal (made_by (first_turns s rs) rs)) turn ∙ y.cause) in
+      p.2 ∙ ap (refusal_at (length rs)) why ∙ sym q.2
+  same-cause rs a b (inl p) (inr q) = absurd (refused-or-not rs p.0 q.0 p.1 q.1)
+  same-cause rs a b (inr p) (inl q) = absurd (refused-or-not rs q.0 p.0 q.1 p.1)
+  same-cause rs a b (inr p) (inr q) =
+      let x : p.0 ≡ 0 = root-form s _ p.0 p.1.raw p.1.unnamed.owes in
+      let y : q.0 ≡ 0 = root-form s _ q.0 q.1.raw q.1.unnamed.owes in
+      p.2 ∙ ap (λ source. refusals.Unnamed source (length rs)) (x ∙ sym y) ∙ sym q.2
+
 -- ---- texts
 
-lines-append : (n : ℕ) (rs qs : Records) → lines_of n (rs ++ qs) ≡ lines_of n rs ++ lines_of (n + length rs) qs
-lines-append n [] qs = ap (λ k. lines_of k qs) (omega arith)
-lines-append n (r ∷ rs) qs =
+abbrev Faults : Type 0
+Faults = List (List (Option (List ℕ)))
+
+lines-append : (n : ℕ) (fs : Faults) (rs qs : Records) → lines_of n fs (rs ++ qs) ≡ lines_of n fs rs ++ lines_of (n + length rs) (drop (length rs) fs) qs
+lines-append n fs [] qs = ap (λ k. lines_of k fs qs) (omega arith)
+lines-append n [] (r ∷ rs) qs =
     let same : n + 1 + length rs ≡ n + length (r ∷ rs) = omega arith in
-    ap (λ ls. line_of n [] r ∷ ls) (lines-append (n + 1) rs qs ∙ ap (λ k. lines_of (n + 1) rs ++ lines_of k qs) same)
+    ap (λ ls. line_of n [] r ∷ ls)
+    (lines-append (n + 1) [] rs qs ∙ ap₂ (λ k fs. lines_of (n + 1) [] rs ++ lines_of k fs qs) same (drop-none (length rs)))
+lines-append n (f ∷ fs) (r ∷ rs) qs =
+    let same : n + 1 + length rs ≡ n + length (r ∷ rs) = omega arith in
+    ap (λ ls. line_of n f r ∷ ls) (lines-append (n + 1) fs rs qs ∙ ap (λ k. lines_of (n + 1) fs rs ++ lines_of k (drop (length rs) fs) qs) same)
 
 text-append : (ls ms : List Line) → lines_text (ls ++ ms) ≡ lines_text ls ++ lines_text ms
 text-append [] ms = refl
 text-append (l ∷ ls) ms = ap (λ text. line_text l ++ text) (text-append ls ms) ∙ sym (append_assoc (line_text l) (lines_text ls) (lines_text ms))
 
-text-begins : (rs qs rest : Records) → qs ≡ rs ++ rest → text_of qs ≡ text_of rs ++ lines_text (lines_of (length rs) rest)
-text-begins rs qs rest e =
-    let from : 0 + length rs ≡ length rs = omega arith in
-    ap text_of e ∙ (ap lines_text (lines-append 0 rs rest ∙ ap (λ n. lines_of 0 rs ++ lines_of n rest) from) ∙ text-append (lines_of 0 rs) (lines_of (length rs) rest))
+module _ (s : Script) where
+  -- the text of records after these
+  abbrev text_after : Records → Records → List ℕ
+  text_after rs rest = lines_text (lines_of (length rs) (drop (length rs) (all_faults s)) rest)
 
--- ---- fronts
+  text-begins : (rs qs rest : Records) → qs ≡ rs ++ rest → trace_text s qs ≡ trace_text s rs ++ text_after rs rest
+  text-begins rs qs rest e =
+      let from : 0 + length rs ≡ length rs = omega arith in
+      ap (trace_text s) e
+      ∙ (ap lines_text (lines-append 0 (all_faults s) rs rest ∙ ap (λ n. lines_of 0 (all_faults s) rs ++ lines_of n (drop (length rs) (all_faults s)) rest) from)
+      ∙ text-append (lines_of 0 (all_faults s) rs) (lines_of (length rs) (drop (length rs) (all_faults s)) rest))
 
-module _ (one : OneTrace) (apart : Apart) (s : Script) where
-  -- a longer front begins with a shorter one
-  fronts : (rs qs : Records) → length rs ≤ length qs → IsPlayedFront s rs → IsPlayedFront s qs → (rest : Records) × (qs ≡ rs ++ rest)
-  fronts rs qs h p q =
-      one (resource_type s.kind) [] (take (length rs) s.turns) (drop (length rs) (take (length qs) s.turns)) rs qs (first_api s) p.0 q.0 one-way p.1.trace
-      (subst (λ us. IsTrace (script_world s) [] us qs) (sym (take-more (length rs) (length qs) s.turns h)) q.1.trace) p.1.built p.1.answered q.1.answered
+  front-of-whole : (xs ys : List ℕ) → IsFront s xs → IsWhole s ys → (rest : List ℕ) × (ys ≡ xs ++ rest)
+  front-of-whole xs ys f w =
+      let b =
+      traces-begin s [] (first_turns s f.0) (drop (length f.0) (turns_in s)) f.0 w.0 (api_at_first s.root) f.1.0 w.1.0 f.1.1.trace
+      (subst (λ us. IsTrace (script_world s) (policies_in s) [] us (map unread w.0)) (sym (take-drop (length f.0) (turns_in s))) w.1.1.trace) f.1.1.answered w.1.1.answered in
+      (text_after f.0 b.0, w.2 ∙ (text-begins f.0 w.0 b.0 b.1 ∙ ap (λ text. text ++ text_after f.0 b.0) (sym f.2)))
 
-  -- no front goes past a turn that is not built
-  no-further : (rs qs : Records) → length rs < length qs → IsPlayedUntil s rs → IsPlayedFront s qs → ⊥
-  no-further rs qs h u q =
-      let ts = take (length qs) s.turns in
-      let less : take (length rs) ts ≡ take (length rs) s.turns = take-less (length rs) (length qs) s.turns (omega (arith, h)) in
-      apart (resource_type s.kind) [] ts rs qs (first_api s) q.0 u.after one-way
-      (subst (λ us. IsTrace (script_world s) [] us rs) (sym less) u.played.trace)
-      (subst (λ us. AllZip (IsBuilt meta_of) us rs) (take-twice (length rs) s.turns ∙ sym less) u.played.built)
-      (record {
-        turn = u.turn;
-        there = get-take (length rs) (length qs) s.turns u.turn h u.there;
-        going = subst (λ us. has_ended (steps us rs) ≡ false) (sym less) u.going;
-        middle = u.left;
-        before = u.played.answered;
-        cause = subst (λ us. IsNotBuilt api.IsMove tells (resource_type s.kind) meta_of (steps us rs) u.turn u.left u.after) (sym less) u.cause;
-      })
-      q.1.trace
-      (subst (λ us. AllZip (IsBuilt meta_of) us qs) (take-twice (length qs) s.turns ∙ sym (take-twice (length qs) s.turns)) q.1.built)
-      q.1.answered
-
-  -- nor has a script of which one is not built a trace whose turns are all built
-  not-whole : (rs qs : Records) → IsPlayedUntil s rs → IsPlayed s qs → ⊥
-  not-whole rs qs u q =
-      apart (resource_type s.kind) [] s.turns rs qs (first_api s) q.0 u.after one-way u.played.trace
-      (subst (λ us. AllZip (IsBuilt meta_of) us rs) (take-twice (length rs) s.turns) u.played.built)
-      (record { turn = u.turn; there = u.there; going = u.going; middle = u.left; before = u.played.answered; cause = u.cause })
-      q.1.trace q.1.built q.1.answered
-
-  until-front : (rs : Records) → IsPlayedUntil s rs → IsPlayedFront s rs
-  until-front rs u = (u.left, u.played)
-
-  same-whole : (rs qs : Records) → IsPlayed s rs → IsPlayed s qs → rs ≡ qs
-  same-whole rs qs p q = same-both rs qs (one-way-on rs qs p q).0 (one-way-on qs rs q p).0 (one-way-on rs qs p q).1 (one-way-on qs rs q p).1
+  front-of-cut : (xs ys : List ℕ) → IsFront s xs → IsCutOff s ys → (rest : List ℕ) × (ys ≡ xs ++ rest)
+  front-of-cut xs ys f w = go (either-less (length f.0) (length w.0))
     where
-      one-way-on : (rs qs : Records) → IsPlayed s rs → IsPlayed s qs → (rest : Records) × (qs ≡ rs ++ rest)
-      one-way-on rs qs p q =
-          one (resource_type s.kind) [] s.turns [] rs qs (first_api s) p.0 q.0 one-way p.1.trace
-          (subst (λ us. IsTrace (script_world s) [] us qs) (sym (append-nil s.turns)) q.1.trace) p.1.built p.1.answered q.1.answered
+      stop : IsStop s w.0
+      stop = cut-stop s w.0 w.1 w.2
 
-  same-cut : (rs qs : Records) → IsPlayedUntil s rs → IsPlayedUntil s qs → rs ≡ qs
-  same-cut rs qs u v = go (either-less (length rs) (length qs)) (either-less (length qs) (length rs))
-    where
-      go : (length rs ≤ length qs) ⊎ (length qs < length rs) → (length qs ≤ length rs) ⊎ (length rs < length qs) → rs ≡ qs
-      go (inl h) (inl k) =
-          let p = fronts rs qs h (until-front rs u) (until-front qs v) in
-          let q = fronts qs rs k (until-front qs v) (until-front rs u) in
-          same-both rs qs p.0 q.0 p.1 q.1
-      go (inr h) k = absurd (no-further qs rs h v (until-front rs u))
-      go (inl h) (inr k) = absurd (no-further rs qs k u (until-front qs v))
-
-  pub text-goes-on : (xs ys : List ℕ) → IsFront s xs → IsWhole s ys ⊎ IsCutOff s ys → (rest : List ℕ) × (ys ≡ xs ++ rest)
-  text-goes-on xs ys f (inl w) = go (one (resource_type s.kind) [] (take (length f.0) s.turns) (drop (length f.0) s.turns) f.0 w.0 (first_api s) f.1.0 w.1.0 one-way f.1.1.trace
-      (subst (λ us. IsTrace (script_world s) [] us w.0) (sym (take-drop (length f.0) s.turns)) w.1.1.trace) f.1.1.built f.1.1.answered w.1.1.answered)
-    where
-      go : (rest : Records) × (w.0 ≡ f.0 ++ rest) → (rest : List ℕ) × (ys ≡ xs ++ rest)
-      go p = (lines_text (lines_of (length f.0) p.0), w.2 ∙ (text-begins f.0 w.0 p.0 p.1 ∙ ap (λ text. text ++ lines_text (lines_of (length f.0) p.0)) (sym f.2)))
-  text-goes-on xs ys f (inr w) = go (either-less (length f.0) (length w.0))
-    where
       go : (length f.0 ≤ length w.0) ⊎ (length w.0 < length f.0) → (rest : List ℕ) × (ys ≡ xs ++ rest)
       go (inl h) =
-          let p = fronts f.0 w.0 h f.1 (until-front w.0 w.1) in
-          let after = lines_text (lines_of (length f.0) p.0) in
-          let last = not_built_line (length w.0) in (
+          let p = fronts s f.0 w.0 h f.1 (stop-front s w.0 (cut-stop s w.0 w.1 w.2)) in
+          let after = text_after f.0 p.0 in
+          let last = refusal_text w.1 in (
             after ++ last,
-            w.2 ∙ (ap (λ text. text ++ last) (text-begins f.0 w.0 p.0 p.1) ∙ (append_assoc (text_of f.0) after last ∙ ap (λ text. text ++ (after ++ last)) (sym f.2))),
+            w.3 ∙ (ap (λ text. text ++ last) (text-begins f.0 w.0 p.0 p.1) ∙ (append_assoc (trace_text s f.0) after last ∙ ap (λ text. text ++ (after ++ last)) (sym f.2))),
           )
-      go (inr h) = absurd (no-further w.0 f.0 h w.1 f.1)
+      go (inr h) = absurd (no-further s w.0 f.0 h (cut-stop s w.0 w.1 w.2) f.1)
+
+  same-cut-text : (xs ys : List ℕ) → IsCutOff s xs → IsCutOff s ys → xs ≡ ys
+  same-cut-text xs ys p q =
+      let records : p.0 ≡ q.0 = same-stop s p.0 q.0 (cut-stop s p.0 p.1 p.2) (cut-stop s q.0 q.1 q.2) in
+      let why : p.1 ≡ q.1 = same-cause s q.0 p.1 q.1 (subst (λ rs. IsCutBy s rs p.1) records p.2) q.2 in
+      p.3 ∙ (ap₂ (λ rs r. trace_text s rs ++ refusal_text r) records why ∙ sym q.3)
+
+  same-whole-text : (xs ys : List ℕ) → IsWhole s xs → IsWhole s ys → xs ≡ ys
+  same-whole-text xs ys p q = p.2 ∙ (ap (trace_text s) (same-whole s p.0 q.0 p.1 q.1) ∙ sym q.2)
+
+  cut-or-whole : (xs ys : List ℕ) → IsCutOff s xs → IsWhole s ys → ⊥
+  cut-or-whole xs ys p q = not-whole s p.0 q.0 (cut-stop s p.0 p.1 p.2) q.1
 
 -- ---- ends
 
-ends-ok : (e : Status) (s : Script) (xs : List ℕ) → Ends e (Ok s) xs → ((e ≡ status.Done) × IsWhole s xs) ⊎ ((e ≡ status.BadRun) × IsCutOff s xs)
-ends-ok status.Done s xs h = inl (refl, h)
-ends-ok status.BadRun s xs h = inr (refl, h)
+-- how a run of a script ends
+abbrev RunEnds : List Related → Status → Script → List ℕ → Type 0
+RunEnds rs status.Done s xs = IsDone rs s xs
+RunEnds rs status.BadRun s xs = IsBadRun rs s xs
+RunEnds rs _ s xs = ⊥
+
+run-once : (rs : List Related) (s : Script) (d e : Status) (xs ys : List ℕ) → RunEnds rs d s xs → RunEnds rs e s ys → (d ≡ e) × (xs ≡ ys)
+run-once [] s status.Done status.Done xs ys h k = (refl, same-whole-text s xs ys h k)
+run-once [] s status.Done status.BadRun xs ys h k = absurd (cut-or-whole s ys xs k h)
+run-once [] s status.BadRun status.Done xs ys h k = absurd (cut-or-whole s xs ys h k)
+run-once [] s status.BadRun status.BadRun xs ys h k = (refl, same-cut-text s xs ys h k)
+run-once (r ∷ rs) s status.Done e xs ys h k = absurd h
+run-once (r ∷ rs) s status.BadRun status.Done xs ys h k = absurd k
+run-once (r ∷ rs) s status.BadRun status.BadRun xs ys h k = (refl, h ∙ sym k)
+run-once rs s status.Usage e xs ys h k = absurd h
+run-once rs s status.BadScript e xs ys h k = absurd h
+run-once rs s status.ReadFault e xs ys h k = absurd h
+run-once rs s status.WriteFault e xs ys h k = absurd h
+run-once rs s status.NoMemory e xs ys h k = absurd h
+run-once rs s d status.Usage xs ys h k = absurd k
+run-once rs s d status.BadScript xs ys h k = absurd k
+run-once rs s d status.ReadFault xs ys h k = absurd k
+run-once rs s d status.WriteFault xs ys h k = absurd k
+run-once rs s d status.NoMemory xs ys h k = absurd k
+
+ends-ok : (e : Status) (s : Script) (xs : List ℕ) → Ends e (Ok s) xs → RunEnds s.related e s xs
+ends-ok status.Done s xs h = h
+ends-ok status.BadRun s xs h = h
 ends-ok status.Usage s xs h = absurd h
 ends-ok status.BadScript s xs h = absurd h
 ends-ok status.ReadFault s xs h = absurd h
 ends-ok status.WriteFault s xs h = absurd h
 ends-ok status.NoMemory s xs h = absurd h
 
-abbrev refused : Cause → Status
-refused too_long = status.BadScript
-refused syntax_fault = status.BadScript
-refused (shape w) = status.BadRun
+ends-err : (e : Status) (c : Cause) (xs : List ℕ) → Ends e (Err c) xs → (e ≡ status.BadScript) × (xs ≡ refusal_text (refusal_of c))
+ends-err status.BadScript c xs h = (refl, h)
+ends-err status.BadRun c xs h = absurd h
+ends-err status.Done c xs h = absurd h
+ends-err status.Usage c xs h = absurd h
+ends-err status.ReadFault c xs h = absurd h
+ends-err status.WriteFault c xs h = absurd h
+ends-err status.NoMemory c xs h = absurd h
 
-ends-err : (e : Status) (c : Cause) (xs : List ℕ) → Ends e (Err c) xs → (e ≡ refused c) × (xs ≡ refusal_line c)
-ends-err status.BadScript too_long xs h = (refl, h)
-ends-err status.BadScript syntax_fault xs h = (refl, h)
-ends-err status.BadScript (shape w) xs h = absurd h
-ends-err status.BadRun too_long xs h = absurd h
-ends-err status.BadRun syntax_fault xs h = absurd h
-ends-err status.BadRun (shape w) xs h = (refl, h)
-ends-err status.Done too_long xs h = absurd h
-ends-err status.Done syntax_fault xs h = absurd h
-ends-err status.Done (shape w) xs h = absurd h
-ends-err status.Usage too_long xs h = absurd h
-ends-err status.Usage syntax_fault xs h = absurd h
-ends-err status.Usage (shape w) xs h = absurd h
-ends-err status.ReadFault too_long xs h = absurd h
-ends-err status.ReadFault syntax_fault xs h = absurd h
-ends-err status.ReadFault (shape w) xs h = absurd h
-ends-err status.WriteFault too_long xs h = absurd h
-ends-err status.WriteFault syntax_fault xs h = absurd h
-ends-err status.WriteFault (shape w) xs h = absurd h
-ends-err status.NoMemory too_long xs h = absurd h
-ends-err status.NoMemory syntax_fault xs h = absurd h
-ends-err status.NoMemory (shape w) xs h = absurd h
+pub ends-once : (input : Result Script Cause) (d e : Status) (xs ys : List ℕ) → Ends d input xs → Ends e input ys → (d ≡ e) × (xs ≡ ys)
+ends-once (Ok s) d e xs ys h k = run-once s.related s d e xs ys (ends-ok d s xs h) (ends-ok e s ys k)
+ends-once (Err c) d e xs ys h k =
+    let p = ends-err d c xs h in
+    let q = ends-err e c ys k in
+    (p.0 ∙ sym q.0, p.1 ∙ sym q.1)
 
-module _ (one : OneTrace) (apart : Apart) where
-  ok-once : (s : Script) (d e : Status) (xs ys : List ℕ) → ((d ≡ status.Done) × IsWhole s xs) ⊎ ((d ≡ status.BadRun) × IsCutOff s xs) → ((e ≡ status.Done) × IsWhole s ys) ⊎ ((e ≡ status.BadRun) × IsCutOff s ys) → (d ≡ e) × (xs ≡ ys)
-  ok-once s d e xs ys (inl p) (inl q) = (p.0 ∙ sym q.0, p.1.2 ∙ (ap text_of (same-whole one apart s p.1.0 q.1.0 p.1.1 q.1.1) ∙ sym q.1.2))
-  ok-once s d e xs ys (inl p) (inr q) = absurd (not-whole one apart s q.1.0 p.1.0 q.1.1 p.1.1)
-  ok-once s d e xs ys (inr p) (inl q) = absurd (not-whole one apart s p.1.0 q.1.0 p.1.1 q.1.1)
-  ok-once s d e xs ys (inr p) (inr q) = (p.0 ∙ sym q.0, p.1.2 ∙ (ap (λ rs. text_of rs ++ not_built_line (length rs)) (same-cut one apart s p.1.0 q.1.0 p.1.1 q.1.1) ∙ sym q.1.2))
+all-begins : (xs ys : List ℕ) → xs ≡ ys → (rest : List ℕ) × (ys ≡ xs ++ rest)
+all-begins xs ys e = ([], sym e ∙ sym (append-nil xs))
 
-  pub ends-once : (input : Result Script Cause) (d e : Status) (xs ys : List ℕ) → Ends d input xs → Ends e input ys → (d ≡ e) × (xs ≡ ys)
-  ends-once (Ok s) d e xs ys h k = ok-once s d e xs ys (ends-ok d s xs h) (ends-ok e s ys k)
-  ends-once (Err c) d e xs ys h k =
-      let p = ends-err d c xs h in
-      let q = ends-err e c ys k in
-      (p.0 ∙ sym q.0, p.1 ∙ sym q.1)
+run-begins : (rs : List Related) (s : Script) (e : Status) (xs ys : List ℕ) → IsRunBegun rs s xs → RunEnds rs e s ys → (rest : List ℕ) × (ys ≡ xs ++ rest)
+run-begins [] s status.Done xs ys (inl f) k = front-of-whole s xs ys f k
+run-begins [] s status.Done xs ys (inr c) k = absurd (cut-or-whole s xs ys c k)
+run-begins [] s status.BadRun xs ys (inl f) k = front-of-cut s xs ys f k
+run-begins [] s status.BadRun xs ys (inr c) k = all-begins xs ys (same-cut-text s xs ys c k)
+run-begins (r ∷ rs) s status.Done xs ys h k = absurd k
+run-begins (r ∷ rs) s status.BadRun xs ys h k = all-begins xs ys (h ∙ sym k)
+run-begins rs s status.Usage xs ys h k = absurd k
+run-begins rs s status.BadScript xs ys h k = absurd k
+run-begins rs s status.ReadFault xs ys h k = absurd k
+run-begins rs s status.WriteFault xs ys h k = absurd k
+run-begins rs s status.NoMemory xs ys h k = absurd k
+
+pub begins-the-end : (input : Result Script Cause) (e : Status) (xs ys : List ℕ) → IsBegun input xs → Ends e input ys → (rest : List ℕ) × (ys ≡ xs ++ rest)
+begins-the-end (Ok s) e xs ys h k = run-begins s.related s e xs ys h (ends-ok e s ys k)
+begins-the-end (Err c) e xs ys h k = all-begins xs ys (h ∙ sym (ends-err e c ys k).1)

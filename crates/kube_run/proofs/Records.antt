@@ -5,8 +5,9 @@ use Rattle.kube_meta.specs.Reading.{ObjectData}
 use Rattle.kube_turn.specs.declared.record.TurnRecord.{TurnRecord}
 use Rattle.kube_run.proofs.Known.{none_written, both_written}
 use Rattle.kube_run.specs.Part.{AppendsPart}
-use Rattle.kube_run.specs.TraceText.{line_text, lines_text}
-use Rattle.kube_run.specs.TraceView.{Named, seen_record, seen_records}
+use Rattle.kube_object.specs.Named.{Named}
+use Rattle.kube_text.specs.TraceText.{line_text, lines_text}
+use Rattle.kube_text.specs.TraceView.{seen_record, seen_records}
 
 abbrev pub Records : Type 0
 Records = List (TurnRecord ObjectData (List ℕ) Named)

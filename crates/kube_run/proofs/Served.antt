@@ -1,64 +1,101 @@
--- What a script's bytes are, and how the program ends for them.
-use Rattle.std.proofs.Common.{◌≡◌, ℕ, ◌≤◌, ◌<◌, List, [], length, Option, Some, None, Result, Ok, Err, IfSome, refl, sym, subst, ◌⊎◌, inl, inr, ap, ◌∙◌, Bool, true}
-use Rattle.std.proofs.lemmas.Bool.{lt-ltb, le-ltb}
-use Rattle.std.specs.Io.KnownBytes.{Appends}
-use Rattle.kube_run.proofs.Known.{none_written, of_left, of_longer}
-use Rattle.kube_run.proofs.Played.{none-played}
-use Rattle.kube_run.specs.Part.{AppendsPart}
-use Rattle.kube_run.specs.TraceText.{text_of}
-use Rattle.kube_run.specs.Served.{Ends, IsBegun, Runs, Serves, WrotePart, refusal_line}
+-- How the program may end for an input.
+use Rattle.std.proofs.Common.{◌≡◌, ◌<◌, ◌==◌, arith, ℕ, List, [], ◌∷◌, Option, Some, None, Result, Ok, Err, IfSome, length, refl, sym, subst, inl, inr, Bool, true, false}
+use Rattle.std.proofs.lemmas.Bool.{lt-ltb}
+use Rattle.kube_script.specs.Script.{Related, Script}
+use Rattle.kube_script.specs.Whole.{Cause, too_long, script_of}
+use Rattle.kube_text.specs.Refusals.{refusal_text}
+use Rattle.kube_text.specs.declared.refusal.Refusal.TheVariants as refusals
 use Rattle.kube_run.specs.Limit.{longest}
-use Rattle.kube_run.specs.Script.{Script}
-use Rattle.kube_run.specs.Whole.{Cause, too_long, loaded, script_of}
+use Rattle.kube_run.specs.Played.{trace_text}
+use Rattle.kube_run.specs.Served.{IsBegun, IsBadRun, IsDone, IsRunBegun, RunsAlone, RunsFor, RunsLeft, Serves, Tells, WrotePartFor, refusal_of}
 use Rattle.kube_run.specs.declared.status.Status.{Status}
 use Rattle.kube_run.specs.declared.status.Status.TheVariants as status
+use Rattle.kube_run.proofs.Known.{none_written, of_left, of_longer}
+use Rattle.kube_run.proofs.Played.{none-played}
+use Rattle.kube_run.proofs.Runs.{tells_so}
 
-pub script_of_short : (bytes : List ℕ) → length bytes ≤ longest → script_of bytes ≡ loaded bytes
-unfolding script_of
-script_of_short bytes h = rw (le-ltb longest (length bytes) h) refl
-
-pub script_of_long : (bytes : List ℕ) → longest < length bytes → script_of bytes ≡ Err too_long
+script_of_long : (bytes : List ℕ) → longest < length bytes → script_of bytes ≡ Err too_long
 unfolding script_of
 script_of_long bytes h = rw (lt-ltb longest (length bytes) h) refl
 
--- a line was told, or the write failed
-pub told_or_not : (P : Status → Type 0) (result wanted : Status) → (result ≡ wanted) ⊎ (result ≡ status.WriteFault) → (result ≡ wanted → P wanted) → (result ≡ status.WriteFault → P status.WriteFault) → P result
-told_or_not P result wanted (inl e) h f = subst P (sym e) (h e)
-told_or_not P result wanted (inr e) h f = subst P (sym e) (f e)
+-- ---- nothing was written yet
 
--- bytes that are short enough, and were all that was left
-pub short_served : (left : Option (List ℕ)) (v here : List ℕ) (P : Result Script Cause → Type 0) (r : Result Script Cause) → IfSome left (λ bytes. v ≡ bytes) → length v ≤ longest → here ≡ v → loaded here ≡ r → P r → IfSome left (λ bytes. P (script_of bytes))
-short_served left v here P r e h f l p =
-    of_left left v (λ bytes. P (script_of bytes)) e (subst P (sym (script_of_short v h ∙ ap loaded (sym f) ∙ l)) p)
+begun-run : (rs : List Related) (s : Script) → (text : List ℕ) × IsRunBegun rs s text
+begun-run [] s = (trace_text s [], inl ([], none-played s, refl))
+begun-run (r ∷ rs) s = (refusal_text refusals.NotBuilt, refl)
 
--- bytes that are too long
-pub long_served : (left : Option (List ℕ)) (P : Result Script Cause → Type 0) → IfSome left (λ bytes. longest < length bytes) → P (Err too_long) → IfSome left (λ bytes. P (script_of bytes))
-long_served left P h p = of_longer left longest (λ bytes. P (script_of bytes)) h (λ bytes l. subst P (sym (script_of_long bytes l)) p)
+begun : (input : Result Script Cause) → (text : List ℕ) × IsBegun input text
+begun (Ok s) = begun-run s.related s
+begun (Err c) = (refusal_text (refusal_of c), refl)
 
--- nothing was written yet
-begun : (r : Result Script Cause) → (text : List ℕ) × IsBegun r text
-begun (Ok s) = (text_of [], inl ([], none-played s, refl))
-begun (Err c) = (refusal_line c, refl)
+pub nothing-for : (input : Result Script Cause) (old : Option (List ℕ)) → WrotePartFor input old old
+nothing-for input old = let b = begun input in (b.0, b.1, record { front = []; rest = b.0; split = refl; appended = none_written old })
 
-pub nothing_wrote : (left old : Option (List ℕ)) → WrotePart left old old
-nothing_wrote None old = tt
-nothing_wrote (Some bytes) old =
-    let b = begun (script_of bytes) in
-    (b.0, b.1, record { front = []; rest = b.0; split = refl; appended = none_written old })
+pub nothing-left : (left old : Option (List ℕ)) → RunsLeft status.NoMemory left old old
+nothing-left None old = tt
+nothing-left (Some bytes) old = nothing-for (script_of bytes) old
 
--- what of an end is said where it was written, and where a part of it was
-abbrev pub Whole : Status → Option (List ℕ) → Option (List ℕ) → Result Script Cause → Type 0
-Whole s old new w = (text : List ℕ) × Ends s w text × Appends old new text
+-- ---- lines that were told
 
-abbrev pub Part : Option (List ℕ) → Option (List ℕ) → Result Script Cause → Type 0
-Part old new w = (text : List ℕ) × IsBegun w text × AppendsPart old new text
+pub told-script : (c : Cause) (result : Status) (old new : Option (List ℕ)) → Tells result status.BadScript (refusal_text (refusal_of c)) old new → RunsFor result (Err c) old new
+told-script c result old new t =
+    let line = refusal_text (refusal_of c) in
+    tells_so (λ s. RunsFor s (Err c) old new) result status.BadScript line old new t (λ a. (line, refl, a)) (λ a. (line, refl, a)) (λ a. (line, refl, a))
 
--- a script that was run
-pub run_served : (s : Status) (run : Bool) (left old new : Option (List ℕ)) (v here : List ℕ) (script : Script) → run ≡ true → IfSome left (λ bytes. v ≡ bytes) → length v ≤ longest → here ≡ v → loaded here ≡ Ok script → Runs s script old new → Serves s run left old new
-run_served status.Done run left old new v here script r e h f l k = (r, short_served left v here (Whole status.Done old new) (Ok script) e h f l k)
-run_served status.BadRun run left old new v here script r e h f l k = (r, short_served left v here (Whole status.BadRun old new) (Ok script) e h f l k)
-run_served status.WriteFault run left old new v here script r e h f l k = inr (r, short_served left v here (Part old new) (Ok script) e h f l k)
-run_served status.NoMemory run left old new v here script r e h f l k = (r, short_served left v here (Part old new) (Ok script) e h f l k)
-run_served status.Usage run left old new v here script r e h f l k = absurd k
-run_served status.BadScript run left old new v here script r e h f l k = absurd k
-run_served status.ReadFault run left old new v here script r e h f l k = absurd k
+-- the bytes were no script
+pub refused-script : (c : Cause) (input : Result Script Cause) (result : Status) (old new : Option (List ℕ)) → input ≡ Err c → Tells result status.BadScript (refusal_text (refusal_of c)) old new → RunsFor result input old new
+refused-script c input result old new e t = subst (λ w. RunsFor result w old new) (sym e) (told-script c result old new t)
+
+-- a script with related sources
+with-related : (rs : List Related) (s : Script) → (rs ≡ [] → ⊥) → IsBadRun rs s (refusal_text refusals.NotBuilt) × IsRunBegun rs s (refusal_text refusals.NotBuilt)
+with-related [] s h = absurd (h refl)
+with-related (r ∷ rs) s h = (refl, refl)
+
+pub told-not-built : (s : Script) (result : Status) (old new : Option (List ℕ)) → (s.related ≡ [] → ⊥) → Tells result status.BadRun (refusal_text refusals.NotBuilt) old new → RunsFor result (Ok s) old new
+told-not-built s result old new h t =
+    let line = refusal_text refusals.NotBuilt in
+    let w = with-related s.related s h in
+    tells_so (λ st. RunsFor st (Ok s) old new) result status.BadRun line old new t (λ a. (line, w.0, a)) (λ a. (line, w.1, a)) (λ a. (line, w.1, a))
+
+-- one without
+pub alone : (st : Status) (s : Script) (old new : Option (List ℕ)) → s.related ≡ [] → RunsAlone st s old new → RunsFor st (Ok s) old new
+alone status.Done s old new e r = (r.0, subst (λ rs. IsDone rs s r.0) (sym e) r.1, r.2)
+alone status.BadRun s old new e r = (r.0, subst (λ rs. IsBadRun rs s r.0) (sym e) r.1, r.2)
+alone status.WriteFault s old new e r = (r.0, subst (λ rs. IsRunBegun rs s r.0) (sym e) r.1, r.2)
+alone status.NoMemory s old new e r = (r.0, subst (λ rs. IsRunBegun rs s r.0) (sym e) r.1, r.2)
+alone status.Usage s old new e r = absurd r
+alone status.BadScript s old new e r = absurd r
+alone status.ReadFault s old new e r = absurd r
+
+pub no-items : {A : Type 0} (xs : List A) → (length xs == 0) ≡ true → xs ≡ []
+no-items [] e = refl
+no-items (x ∷ xs) e = absurd (grind arith)
+
+-- ---- the whole program
+
+-- bytes that were all that was left
+pub serves-left : (st : Status) (run : Bool) (left old new : Option (List ℕ)) (v here : List ℕ) → run ≡ true → IfSome left (λ bytes. v ≡ bytes) → here ≡ v → RunsFor st (script_of here) old new → Serves st run left old new
+serves-left status.Done run left old new v here r e f k = (r, of_left left v (λ bytes. RunsFor status.Done (script_of bytes) old new) e (subst (λ b. RunsFor status.Done (script_of b) old new) f k))
+serves-left status.BadRun run left old new v here r e f k = (r, of_left left v (λ bytes. RunsFor status.BadRun (script_of bytes) old new) e (subst (λ b. RunsFor status.BadRun (script_of b) old new) f k))
+serves-left status.BadScript run left old new v here r e f k = (r, of_left left v (λ bytes. RunsFor status.BadScript (script_of bytes) old new) e (subst (λ b. RunsFor status.BadScript (script_of b) old new) f k))
+serves-left status.WriteFault run left old new v here r e f k = inr (r, of_left left v (λ bytes. RunsFor status.WriteFault (script_of bytes) old new) e (subst (λ b. RunsFor status.WriteFault (script_of b) old new) f k))
+serves-left status.NoMemory run left old new v here r e f k = inr (r, of_left left v (λ bytes. RunsFor status.NoMemory (script_of bytes) old new) e (subst (λ b. RunsFor status.NoMemory (script_of b) old new) f k))
+serves-left status.Usage run left old new v here r e f k = absurd k
+serves-left status.ReadFault run left old new v here r e f k = absurd k
+
+long-left : (st : Status) (left old new : Option (List ℕ)) → IfSome left (λ bytes. longest < length bytes) → RunsFor st (Err too_long) old new → RunsLeft st left old new
+long-left st left old new h r = of_longer left longest (λ bytes. RunsFor st (script_of bytes) old new) h (λ bytes l. subst (λ w. RunsFor st w old new) (sym (script_of_long bytes l)) r)
+
+-- more bytes than a script may have
+pub serves-long : (result : Status) (run : Bool) (left old new : Option (List ℕ)) → run ≡ true → IfSome left (λ bytes. longest < length bytes) → Tells result status.BadScript (refusal_text refusals.TooLong) old new → Serves result run left old new
+serves-long result run left old new r h t =
+    let line = refusal_text refusals.TooLong in
+    tells_so (λ st. Serves st run left old new) result status.BadScript line old new t
+    (λ a. (r, long-left status.BadScript left old new h (line, refl, a)))
+    (λ a. inr (r, long-left status.WriteFault left old new h (line, refl, a)))
+    (λ a. inr (r, long-left status.NoMemory left old new h (line, refl, a)))
+
+-- other words
+pub serves-usage : (result : Status) (run : Bool) (left old new : Option (List ℕ)) → run ≡ false → Tells result status.Usage (refusal_text refusals.Usage) old new → Serves result run left old new
+serves-usage result run left old new r t =
+    tells_so (λ st. Serves st run left old new) result status.Usage (refusal_text refusals.Usage) old new t (λ a. (r, a)) (λ a. inl (r, a)) (λ a. inl (r, a))

@@ -2,15 +2,8 @@
 pub mod Causes
 pub mod Held
 pub mod Limit
-pub mod Part
-pub mod Reading
-pub mod Stored
-pub mod Script
 pub mod Numbers
-pub mod Whole
-pub mod Shown
-pub mod TraceText
-pub mod TraceView
-pub mod Lines
+pub mod Part
 pub mod Played
+pub mod Runs
 pub mod Served

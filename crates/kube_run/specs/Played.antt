@@ -1,71 +1,145 @@
--- The trace of a script: what a controller makes of its turns where its API answers by the script.
-use Rattle.std.specs.Prelude.{◌≡◌, ℕ, false, List, [], ◌++◌, Option, Some, None, length, take, slice_get}
-use Rattle.std.specs.List.{AllZip}
-use Rattle.kube_meta.specs.declared.metadata.ObjectMeta.{ObjectMeta}
+-- The trace of a script without related sources: what a controller makes of its turns where its API answers by the script.
+use Rattle.std.specs.Prelude.{◌≡◌, ◌⊎◌, ℕ, Bool, false, List, [], ◌∷◌, ◌++◌, map, Option, Some, length, take, slice_get}
+use Rattle.kube_meta.specs.Keys.{is_named, key_of}
 use Rattle.kube_meta.specs.Reading.{ObjectData}
+use Rattle.kube_meta.specs.Reference.{ObjectType}
 use Rattle.kube_meta.specs.Resources.{resource_type}
-use Rattle.kube_model.specs.History.{Turn, TurnRecord}
+use Rattle.kube_model.specs.History.{Dated, Exchange, Step, Turn, TurnRecord, dated}
+use Rattle.kube_model.specs.Named.{AreNamedTurns, IsUnnamedAt, OfCall, RootIsNamed}
 use Rattle.kube_model.specs.Raw.{Raw}
-use Rattle.kube_model.specs.Traces.{has_ended}
-use Rattle.kube_control.specs.PlainTraces.{IsTrace, steps}
-use Rattle.kube_model.specs.World.{World}
+use Rattle.kube_model.specs.Recorded.{IsRecorded}
+use Rattle.kube_model.specs.Traces.{IsRefusedAfter, IsTrace, Moment, NotRunning, Refusal as TurnRefusal, Twice, has_ended, steps, unread}
+use Rattle.kube_model.specs.World.{Settings, Watched, World}
 use Rattle.kube_api.specs.TestScript as api
-use Rattle.kube_control.specs.Built.{IsBuilt}
-use Rattle.kube_control.specs.Calls.{AreMadeBy, dated_in}
-use Rattle.kube_control.specs.NotBuilt.{IsNotBuilt}
-use Rattle.kube_control.specs.Worlds.{world_of}
-use Rattle.kube_run.specs.Lines.{not_built_line}
-use Rattle.kube_run.specs.Script.{Script}
-use Rattle.kube_run.specs.TraceText.{text_of}
+use Rattle.kube_step.specs.Calls.{dated_in}
+use Rattle.kube_script.specs.Pauses.{backoff_of, begun_anew, delay_at, delayed_at}
+use Rattle.kube_script.specs.Script.{Backoff, Config, Script, Source}
+use Rattle.kube_script.specs.Told.{api_at_first, faults_in, turn_in}
+use Rattle.kube_script.specs.declared.backoff.ScriptBackoff.{ScriptBackoff}
+use Rattle.kube_text.specs.Refusals.{refusal_text}
+use Rattle.kube_text.specs.TraceText.{text_of}
+use Rattle.kube_text.specs.declared.refusal.Refusal.{Refusal}
+use Rattle.kube_text.specs.declared.refusal.Refusal.TheVariants as refusals
 
-abbrev pub meta_of : ObjectData → ObjectMeta
-meta_of o = o.metadata
+abbrev pub has_name : ObjectData → Bool
+has_name o = is_named o.metadata
 
--- the API of a script, before its first call
-abbrev pub first_api : Script → api.Script ObjectData
-first_api s = record { lists = s.root.lists; watches = s.root.watches; current = None; talk = []; failures = 0 }
+abbrev pub version_of : ObjectData → Option (List ℕ)
+version_of o = o.metadata.resource_version
 
-abbrev pub tells : api.Script ObjectData → Option (List (Raw ObjectData))
-tells a = Some a.talk
+-- the type of its objects
+abbrev pub type_in : Script → ObjectType
+type_in s = resource_type s.kind
 
--- the world of a controller of the script's objects
-abbrev pub script_world : Script → World ObjectData (Unit {0})
-script_world s = world_of (resource_type s.kind) meta_of
+-- the world of a controller of objects of this type, so configured, with this backoff, whose root this source feeds
+abbrev pub world_with : ObjectType → Config → Backoff → Source → World ObjectData ScriptBackoff
+world_with kind config backoff root = record {
+  key = λ o. key_of kind o.metadata;
+  is_named = has_name;
+  version = version_of;
+  feeds = Watched root.watcher ∷ [];
+  limit = config.concurrency;
+  debounce = config.debounce;
+  backoff = backoff_of backoff;
+  next = λ b at. (delay_at b at, delayed_at b at);
+  reset = begun_anew;
+}
 
--- the records are the trace of these turns from the beginning, each turn that has one is built, and each exchange was made by a call that the script answers at the turn's moment; left is what the API then has left
+-- the world of a script's controller
+abbrev pub script_world : Script → World ObjectData ScriptBackoff
+script_world s = world_with (type_in s) s.config s.backoff s.root
+
+-- the turns that its controller is told
+abbrev pub turns_in : Script → List Turn
+turns_in s = map (turn_in (type_in s)) s.turns
+
+-- the texts of the faults of each turn's finishes
+abbrev pub all_faults : Script → List (List (Option (List ℕ)))
+all_faults s = map (λ t. faults_in t.finishes) s.turns
+
+-- what its error policy answers: the script's requeue, whatever failed
+abbrev pub policies_in : Script → ℕ → ℕ → ObjectData → Option ℕ
+policies_in s n k o = s.error_requeue
+
+-- an exchange was made by a call that the script answers at its moment, and is recorded from it
+pub record IsAnswered (settings : Settings) (old : api.Script ObjectData) (d : Dated ObjectData) (new : api.Script ObjectData) : Type 0 where
+  pub raw : Raw ObjectData
+  pub recorded : IsRecorded version_of settings raw d.exchange
+  pub moved : api.IsMove old d.at raw new
+
+-- so were these, one after another
+abbrev pub AreAnswered : Settings → api.Script ObjectData → List (Dated ObjectData) → api.Script ObjectData → Type 0
+AreAnswered settings old [] new = new ≡ old
+AreAnswered settings old (d ∷ ds) new = (middle : api.Script ObjectData) × IsAnswered settings old d middle × AreAnswered settings middle ds new
+
+-- turns with what they made
+abbrev pub made_by : List Turn → List (TurnRecord ObjectData) → List (Step ObjectData)
+made_by turns records = steps turns (map unread records)
+
+-- the records are the trace of these turns from the beginning, each object that had to become a reference has a name, and each exchange was answered by the script; left is what the API then has left
 pub record IsPlayedTo (s : Script) (turns : List Turn) (records : List (TurnRecord ObjectData)) (left : api.Script ObjectData) : Type 0 where
-  pub trace : IsTrace (script_world s) [] turns records
-  pub built : AllZip (IsBuilt meta_of) (take (length records) turns) records
-  pub answered : AreMadeBy api.IsMove tells (script_world s).version (dated_in records) (first_api s) left
+  pub trace : IsTrace (script_world s) (policies_in s) [] turns (map unread records)
+  pub named : AreNamedTurns (script_world s) (RootIsNamed (script_world s)) [] (made_by turns records)
+  pub answered : AreAnswered s.root.watcher (api_at_first s.root) (dated_in records) left
+
+-- its first turns, as many as have records
+abbrev pub first_turns : Script → List (TurnRecord ObjectData) → List Turn
+first_turns s records = take (length records) (turns_in s)
 
 -- the records are the trace of the whole script
 abbrev pub IsPlayed : Script → List (TurnRecord ObjectData) → Type 0
-IsPlayed s records = (left : api.Script ObjectData) × IsPlayedTo s s.turns records left
+IsPlayed s records = (left : api.Script ObjectData) × IsPlayedTo s (turns_in s) records left
 
 -- the records are the trace of its first turns
 abbrev pub IsPlayedFront : Script → List (TurnRecord ObjectData) → Type 0
-IsPlayedFront s records = (left : api.Script ObjectData) × IsPlayedTo s (take (length records) s.turns) records left
+IsPlayedFront s records = (left : api.Script ObjectData) × IsPlayedTo s (first_turns s records) records left
 
--- the records are the trace of its first turns, and the turn after them is not built
-pub record IsPlayedUntil (s : Script) (records : List (TurnRecord ObjectData)) : Type 0 where
+-- the records are the trace of its first turns, and the turn after them is refused
+pub record IsRefusedNext (s : Script) (records : List (TurnRecord ObjectData)) (why : TurnRefusal) : Type 0 where
+  pub played : IsPlayedFront s records
+  pub refused : IsRefusedAfter (script_world s) (policies_in s) [] (turns_in s) (map unread records) why
+
+-- the records are the trace of its first turns, and in the turn after them the script answers, after some exchanges that came with their names, with an object that must become a reference and has none
+pub record IsUnnamedNext (s : Script) (records : List (TurnRecord ObjectData)) (source : ℕ) : Type 0 where
   pub left : api.Script ObjectData
-  pub played : IsPlayedTo s (take (length records) s.turns) records left
+  pub played : IsPlayedTo s (first_turns s records) records left
   pub turn : Turn
-  pub there : slice_get s.turns (length records) ≡ Some turn
-  pub going : has_ended (steps (take (length records) s.turns) records) ≡ false
+  pub there : slice_get (turns_in s) (length records) ≡ Some turn
+  pub going : has_ended (made_by (first_turns s records) records) ≡ false
+  pub before : List (Exchange ObjectData)
+  pub reached : api.Script ObjectData
+  pub answered : AreAnswered s.root.watcher left (dated turn.at before) reached
+  pub raw : Raw ObjectData
   pub after : api.Script ObjectData
-  pub cause : IsNotBuilt api.IsMove tells (resource_type s.kind) meta_of (steps (take (length records) s.turns) records) turn left after
+  pub moved : api.IsMove reached turn.at raw after
+  pub unnamed : IsUnnamedAt (script_world s) (RootIsNamed (script_world s)) has_name version_of (made_by (first_turns s records) records) turn before source (OfCall raw)
 
 -- The text of a script that is run.
 
--- all its turns are built: the lines of its trace
-abbrev pub IsWhole : Script → List ℕ → Type 0
-IsWhole s text = (records : List (TurnRecord ObjectData)) × IsPlayed s records × (text ≡ text_of records)
+-- the lines of records of its first turns
+abbrev pub trace_text : Script → List (TurnRecord ObjectData) → List ℕ
+trace_text s records = text_of (all_faults s) records
 
--- a turn is not built: the lines of the turns before it, and one that has its number
+-- why a turn of this number is refused, as it is told
+abbrev pub refusal_at : ℕ → TurnRefusal → Refusal
+refusal_at turn (Moment at last) = refusals.Moment turn
+refusal_at turn (NotRunning finish) = refusals.NotRunning turn finish
+refusal_at turn (Twice finish) = refusals.Twice turn finish
+
+-- why there is no record of the turn after these
+abbrev pub IsCutBy : Script → List (TurnRecord ObjectData) → Refusal → Type 0
+IsCutBy s records refusal =
+    ((why : TurnRefusal) × IsRefusedNext s records why × (refusal ≡ refusal_at (length records) why))
+    ⊎ ((source : ℕ) × IsUnnamedNext s records source × (refusal ≡ refusals.Unnamed source (length records)))
+
+-- all turns have been taken: the lines of its trace
+abbrev pub IsWhole : Script → List ℕ → Type 0
+IsWhole s text = (records : List (TurnRecord ObjectData)) × IsPlayed s records × (text ≡ trace_text s records)
+
+-- a turn ends the run: the lines of the turns before it, and one that says why
 abbrev pub IsCutOff : Script → List ℕ → Type 0
-IsCutOff s text = (records : List (TurnRecord ObjectData)) × IsPlayedUntil s records × (text ≡ text_of records ++ not_built_line (length records))
+IsCutOff s text = (records : List (TurnRecord ObjectData)) × (refusal : Refusal) × IsCutBy s records refusal × (text ≡ trace_text s records ++ refusal_text refusal)
 
 -- the lines of the trace of its first turns, however many
 abbrev pub IsFront : Script → List ℕ → Type 0
-IsFront s text = (records : List (TurnRecord ObjectData)) × IsPlayedFront s records × (text ≡ text_of records)
+IsFront s text = (records : List (TurnRecord ObjectData)) × IsPlayedFront s records × (text ≡ trace_text s records)

@@ -2,11 +2,14 @@
 use Rattle.std.specs.Prelude.{◌≡◌, ◌⊎◌, ℕ, Bool, true, false, List, [], ◌∷◌, Option, IfSome, Result, Ok, Err, codes}
 use Rattle.std.specs.Str.{bytes_eq}
 use Rattle.std.specs.Io.KnownBytes.{Appends, Keeps}
-use Rattle.kube_run.specs.Lines.{usage_line, too_long_line, syntax_line, shape_line}
+use Rattle.kube_meta.specs.declared.object_fault.ObjectFault.TheVariants as faults
+use Rattle.kube_script.specs.Script.{Related, Script}
+use Rattle.kube_script.specs.Whole.{Cause, too_long, syntax_fault, faulty, script_of}
+use Rattle.kube_text.specs.Refusals.{refusal_text}
+use Rattle.kube_text.specs.declared.refusal.Refusal.{Refusal}
+use Rattle.kube_text.specs.declared.refusal.Refusal.TheVariants as refusals
 use Rattle.kube_run.specs.Part.{AppendsPart}
 use Rattle.kube_run.specs.Played.{IsWhole, IsCutOff, IsFront}
-use Rattle.kube_run.specs.Script.{Script}
-use Rattle.kube_run.specs.Whole.{Cause, too_long, syntax_fault, shape, script_of}
 use Rattle.kube_run.specs.declared.status.Status.{Status}
 use Rattle.kube_run.specs.declared.status.Status.TheVariants as status
 use Rattle.kube_run.specs.declared.trace.Unwritten.{Unwritten}
@@ -18,53 +21,91 @@ is_run [] = false
 is_run (word ∷ []) = bytes_eq word (codes "run")
 is_run (word ∷ other ∷ rest) = false
 
--- the line that tells why bytes are not run
-abbrev pub refusal_line : Cause → List ℕ
-refusal_line too_long = too_long_line
-refusal_line syntax_fault = syntax_line
-refusal_line (shape w) = shape_line
+-- why bytes are no script, as it is told; data never wants memory
+abbrev pub refusal_of : Cause → Refusal
+refusal_of too_long = refusals.TooLong
+refusal_of syntax_fault = refusals.Syntax
+refusal_of (faulty (faults.Shape place)) = refusals.Shape place
+refusal_of (faulty (faults.Fraction place)) = refusals.Fraction place
+refusal_of (faulty faults.NoMemory) = refusals.Syntax
 
--- how the program ends where nothing fails, and the text that it writes, for what its input is as a script: it is done with all turns of one, or it is cut off at a turn that is not built; a text that is no script is refused
+-- all turns of a script are taken, and this is written; one that has related sources isn't run
+abbrev pub IsDone : List Related → Script → List ℕ → Type 0
+IsDone [] s text = IsWhole s text
+IsDone (r ∷ rs) s text = ⊥
+
+-- the run of a script ends early, and this is written
+abbrev pub IsBadRun : List Related → Script → List ℕ → Type 0
+IsBadRun [] s text = IsCutOff s text
+IsBadRun (r ∷ rs) s text = text ≡ refusal_text refusals.NotBuilt
+
+-- how the program ends where nothing fails, and the text that it writes, for what its input is as a script
 abbrev pub Ends : Status → Result Script Cause → List ℕ → Type 0
-Ends status.Done (Ok s) text = IsWhole s text
-Ends status.BadRun (Ok s) text = IsCutOff s text
-Ends status.BadScript (Err too_long) text = text ≡ refusal_line too_long
-Ends status.BadScript (Err syntax_fault) text = text ≡ refusal_line syntax_fault
-Ends status.BadRun (Err (shape w)) text = text ≡ refusal_line (shape w)
+Ends status.Done (Ok s) text = IsDone s.related s text
+Ends status.BadRun (Ok s) text = IsBadRun s.related s text
+Ends status.BadScript (Err cause) text = text ≡ refusal_text (refusal_of cause)
 Ends _ _ _ = ⊥
 
--- a text of which the program may have written a part where something failed: the lines of the trace of some first turns, or the whole text of its end
+-- a text of which the program may have written a part where something failed: the lines of the trace of some first turns, or the whole text of an end that isn't Done
+abbrev pub IsRunBegun : List Related → Script → List ℕ → Type 0
+IsRunBegun [] s text = IsFront s text ⊎ IsCutOff s text
+IsRunBegun (r ∷ rs) s text = text ≡ refusal_text refusals.NotBuilt
+
 abbrev pub IsBegun : Result Script Cause → List ℕ → Type 0
-IsBegun (Ok s) text = IsFront s text ⊎ IsCutOff s text
-IsBegun (Err c) text = text ≡ refusal_line c
+IsBegun (Ok s) text = IsRunBegun s.related s text
+IsBegun (Err cause) text = text ≡ refusal_text (refusal_of cause)
 
--- it wrote the text of such an end
-abbrev pub Wrote : Status → Option (List ℕ) → Option (List ℕ) → Option (List ℕ) → Type 0
-Wrote s left old new = IfSome left (λ bytes. (text : List ℕ) × Ends s (script_of bytes) text × Appends old new text)
+-- the text of such an end was written
+abbrev pub WroteFor : Status → Result Script Cause → Option (List ℕ) → Option (List ℕ) → Type 0
+WroteFor s input old new = (text : List ℕ) × Ends s input text × Appends old new text
 
--- it wrote a part of such a text, or nothing
-abbrev pub WrotePart : Option (List ℕ) → Option (List ℕ) → Option (List ℕ) → Type 0
-WrotePart left old new = IfSome left (λ bytes. (text : List ℕ) × IsBegun (script_of bytes) text × AppendsPart old new text)
+-- a part of such a text was written, or nothing
+abbrev pub WrotePartFor : Result Script Cause → Option (List ℕ) → Option (List ℕ) → Type 0
+WrotePartFor input old new = (text : List ℕ) × IsBegun input text × AppendsPart old new text
+
+-- what may be done for an input, and how it ends
+abbrev pub RunsFor : Status → Result Script Cause → Option (List ℕ) → Option (List ℕ) → Type 0
+RunsFor status.Done input old new = WroteFor status.Done input old new
+RunsFor status.BadRun input old new = WroteFor status.BadRun input old new
+RunsFor status.BadScript input old new = WroteFor status.BadScript input old new
+RunsFor status.WriteFault input old new = WrotePartFor input old new
+RunsFor status.NoMemory input old new = WrotePartFor input old new
+RunsFor status.Usage input old new = ⊥
+RunsFor status.ReadFault input old new = ⊥
+
+-- so for the bytes that a source had left, where it tells them
+abbrev pub RunsLeft : Status → Option (List ℕ) → Option (List ℕ) → Option (List ℕ) → Type 0
+RunsLeft s left old new = IfSome left (λ bytes. RunsFor s (script_of bytes) old new)
+
+-- where something failed: a part of the line on its words was written, or what may be for its input
+abbrev pub Failed : Status → Bool → Option (List ℕ) → Option (List ℕ) → Option (List ℕ) → Type 0
+Failed s run left old new = (run ≡ false) × AppendsPart old new (refusal_text refusals.Usage) ⊎ (run ≡ true) × RunsLeft s left old new
 
 -- how the program may end: by the words, by what the source had left where that is told, and by what was written where that is told
 abbrev pub Serves : Status → Bool → Option (List ℕ) → Option (List ℕ) → Option (List ℕ) → Type 0
-Serves status.Done run left old new = (run ≡ true) × Wrote status.Done left old new
-Serves status.Usage run left old new = (run ≡ false) × Appends old new usage_line
-Serves status.BadScript run left old new = (run ≡ true) × Wrote status.BadScript left old new
-Serves status.BadRun run left old new = (run ≡ true) × Wrote status.BadRun left old new
+Serves status.Done run left old new = (run ≡ true) × RunsLeft status.Done left old new
+Serves status.Usage run left old new = (run ≡ false) × Appends old new (refusal_text refusals.Usage)
+Serves status.BadScript run left old new = (run ≡ true) × RunsLeft status.BadScript left old new
+Serves status.BadRun run left old new = (run ≡ true) × RunsLeft status.BadRun left old new
 Serves status.ReadFault run left old new = (run ≡ true) × Keeps old new
-Serves status.WriteFault run left old new = (run ≡ false) × AppendsPart old new usage_line ⊎ (run ≡ true) × WrotePart left old new
-Serves status.NoMemory run left old new = (run ≡ true) × WrotePart left old new
+Serves status.WriteFault run left old new = Failed status.WriteFault run left old new
+Serves status.NoMemory run left old new = Failed status.NoMemory run left old new
 
--- how a run of a script's turns may end
-abbrev pub Runs : Status → Script → Option (List ℕ) → Option (List ℕ) → Type 0
-Runs status.Done s old new = (text : List ℕ) × IsWhole s text × Appends old new text
-Runs status.BadRun s old new = (text : List ℕ) × IsCutOff s text × Appends old new text
-Runs status.WriteFault s old new = (text : List ℕ) × (IsFront s text ⊎ IsCutOff s text) × AppendsPart old new text
-Runs status.NoMemory s old new = (text : List ℕ) × (IsFront s text ⊎ IsCutOff s text) × AppendsPart old new text
-Runs status.Usage s old new = ⊥
-Runs status.BadScript s old new = ⊥
-Runs status.ReadFault s old new = ⊥
+-- how a run of a script's root alone may end
+abbrev pub RunsAlone : Status → Script → Option (List ℕ) → Option (List ℕ) → Type 0
+RunsAlone status.Done s old new = (text : List ℕ) × IsWhole s text × Appends old new text
+RunsAlone status.BadRun s old new = (text : List ℕ) × IsCutOff s text × Appends old new text
+RunsAlone status.WriteFault s old new = (text : List ℕ) × (IsFront s text ⊎ IsCutOff s text) × AppendsPart old new text
+RunsAlone status.NoMemory s old new = (text : List ℕ) × (IsFront s text ⊎ IsCutOff s text) × AppendsPart old new text
+RunsAlone status.Usage s old new = ⊥
+RunsAlone status.BadScript s old new = ⊥
+RunsAlone status.ReadFault s old new = ⊥
+
+-- a line was written, and the end is the wanted one; or a write or memory failed, and a part of it was written
+abbrev pub Tells : Status → Status → List ℕ → Option (List ℕ) → Option (List ℕ) → Type 0
+Tells result wanted line old new =
+    (result ≡ wanted) × Appends old new line
+    ⊎ ((result ≡ status.WriteFault) × AppendsPart old new line ⊎ (result ≡ status.NoMemory) × AppendsPart old new line)
 
 -- how the program ends where a line was not written whole
 abbrev pub status_of : Unwritten → Status

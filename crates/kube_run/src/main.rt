@@ -1,31 +1,19 @@
 //! Runs a controller by a script, and writes the trace of its turns.
 #![tactic(auto)]
 
-pub mod exchange;
 pub mod failed;
-pub mod fault;
 pub mod input;
 pub mod laws;
-pub mod load;
-pub mod object;
 pub mod output;
-pub mod owned;
 pub mod play;
 pub mod program;
-pub mod record;
-pub mod row;
-pub mod script;
-pub mod script_object;
-pub mod show;
 pub mod sink;
 pub mod source;
 pub mod status;
 pub mod stdio;
-pub mod taken;
 #[cfg(test)]
 mod tests;
 pub mod trace;
-pub mod value;
 
 use crate::program::run_program;
 use crate::status::Status;
@@ -34,8 +22,17 @@ use std::env;
 use std::io::ErrorKind;
 use std::process::ExitCode;
 
+/// What is told on standard error where the words name nothing that the program does.
+const USAGE: &str =
+    "usage: kube_run run < SCRIPT\n\nReads a script, runs a controller by it, and writes a line for each turn.";
+
 fn main(rt: HostRuntime) -> ExitCode {
-    ExitCode::from(run(&rt).number())
+    let status = run(&rt);
+    if status == Status::Usage {
+        // How the program ends is told by its status and its output alone.
+        let _told = eprintln!(rt; "{USAGE}");
+    }
+    ExitCode::from(status.number())
 }
 
 /// Runs the program over the process' words, its standard input and its standard output.

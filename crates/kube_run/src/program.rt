@@ -1,26 +1,32 @@
 //! The program over any source and any sink.
 
-ghost use Rattle.std.specs.Prelude.{◌≡◌, ◌+◌, ◌≤◌, ◌⊎◌, ◌≢◌, false, map, string_bytes};
-ghost use Rattle.std.specs.Io.KnownBytes.{Appends, IsAtEnd};
+ghost use Rattle.std.specs.Prelude.{◌≡◌, ◌+◌, ◌≤◌, ◌⊎◌, ◌≢◌, ◌++◌, false, map, string_bytes, Result, length, [], List};
+ghost use Rattle.std.specs.Io.KnownBytes.{IsAtEnd};
+ghost use Rattle.kube_step.specs.Errors.{refusal_of as refusal_of_turn};
+ghost use Rattle.kube_script.specs.Loaded.{Refuses};
+ghost use Rattle.kube_script.specs.Script.{Script as script_data};
+ghost use Rattle.kube_script.specs.SeenScript.{seen_script};
+ghost use Rattle.kube_script.specs.Whole.{Cause, script_of};
+ghost use Rattle.kube_text.specs.Refusals.{refusal_text};
+ghost use Rattle.kube_text.specs.TraceText.{lines_text};
+ghost use Rattle.kube_text.specs.TraceView.{seen_records};
 ghost use Rattle.kube_run.specs.Causes.{Rose};
 ghost use Rattle.kube_run.specs.Limit.{longest, TakesAtMost};
 ghost use Rattle.kube_run.specs.Part.{AppendsPart};
-ghost use Rattle.kube_run.specs.Script.{seen_script};
-ghost use Rattle.kube_run.specs.TraceText.{lines_text};
-ghost use Rattle.kube_run.specs.TraceView.{seen_records};
-ghost use Rattle.kube_run.specs.Served.{is_run as names_run, Serves, Runs, status_of};
+ghost use Rattle.kube_run.specs.Played.{refusal_at};
+ghost use Rattle.kube_run.specs.Served.{is_run as names_run, Serves, RunsFor, RunsAlone, Tells, status_of};
 
 use crate::input::{Unread, read_all};
-use crate::load::{LoadError, load};
-use crate::output::write_all;
 use crate::play::play;
-use crate::record::ScriptRecord;
-use crate::script::Script;
 use crate::sink::Sink;
 use crate::source::Source;
 use crate::status::Status;
-use crate::trace::{Unwritten, write_records, write_refused};
-use kube_control::RunError;
+use crate::trace::{Unwritten, write_records, write_refusal, write_refused};
+use kube_control::{BadTurn, RunError};
+use kube_script::load::script;
+use kube_script::{LoadError, Script};
+use kube_text::record::ScriptRecord;
+use kube_text::refusal::Refusal;
 use std::alloc::Global;
 
 /// Does what the words name: `run` reads a script, runs a controller by it, and writes a line for each turn.
@@ -44,25 +50,27 @@ pub fn run_program<S: Source, W: Sink>(
     ensures whole { (result ≡ Status.Done) ⊎ (result ≡ Status.BadRun) → IsAtEnd (S.left source.new) }
 {
     if !is_run(words) {
-        return told(b"{\"error\":\"usage\"}\n", Status::Usage, sink);
+        return refuse(alloc, &Refusal::Usage, Status::Usage, sink);
     }
     let bytes = match read_all(alloc, source) {
         Ok(bytes) => bytes,
         Err(Unread::NoMemory) => return Status::NoMemory,
         Err(Unread::Fault) => return Status::ReadFault,
         Err(Unread::TooLong) => {
-            let line = b"{\"error\":\"script\",\"fault\":\"too long\"}\n";
-            return told(line, Status::BadScript, sink);
+            return refuse(alloc, &Refusal::TooLong, Status::BadScript, sink);
         }
     };
-    match load(alloc, &bytes) {
+    run_bytes(alloc, &bytes, sink)
+}
+
+/// Runs a controller by the script that bytes are, or says why they are none.
+fn run_bytes<W: Sink>(alloc: Global, bytes: &[u8], sink: &mut W) -> Status
+    ensures runs { RunsFor result (script_of bytes.now) (W.written sink.old) (W.written sink.new) }
+    ensures fault { result ≡ Status.WriteFault → Rose (W.faults sink.old) (W.faults sink.new) }
+{
+    match script(alloc, bytes) {
         Ok(script) => run_script(alloc, script, sink),
-        Err(LoadError::NoMemory) => Status::NoMemory,
-        Err(LoadError::Syntax) => {
-            let line = b"{\"error\":\"script\",\"fault\":\"syntax\"}\n";
-            told(line, Status::BadScript, sink)
-        }
-        Err(LoadError::Shape(_)) => { told(b"{\"error\":\"not built\"}\n", Status::BadRun, sink) }
+        Err(error) => refuse_script(alloc, error, sink),
     }
 }
 
@@ -76,39 +84,114 @@ fn is_run(words: &[String]) -> bool
     }
 }
 
-/// Writes a line, and ends so if that went well.
-fn told<W: Sink>(line: &[u8], status: Status, sink: &mut W) -> Status
+/// Writes the line of a refusal, and ends so if that went well.
+fn refuse<W: Sink>(alloc: Global, refusal: &Refusal, status: Status, sink: &mut W) -> Status
     requires { status ≢ Status.WriteFault }
-    ensures either { (result ≡ status) ⊎ (result ≡ Status.WriteFault) }
-    ensures written { result ≡ status → Appends (W.written sink.old) (W.written sink.new) line.now }
-    ensures part { result ≡ Status.WriteFault → AppendsPart (W.written sink.old) (W.written sink.new) line.now }
+    ensures tells { Tells result status (refusal_text refusal.now) (W.written sink.old) (W.written sink.new) }
     ensures fault { result ≡ Status.WriteFault → Rose (W.faults sink.old) (W.faults sink.new) }
 {
-    match write_all(sink, line) {
+    match write_refusal(alloc, refusal, sink) {
         Ok(()) => status,
-        Err(_) => Status::WriteFault,
+        Err(error) => unwritten(error),
     }
 }
 
-/// Runs a controller by a script, and writes the records of its turns.
+/// Says why bytes are no script.
+fn refuse_script<W: Sink>(alloc: Global, error: LoadError, sink: &mut W) -> Status
+    ensures runs { (input : Result script_data Cause) → Refuses error input → RunsFor result input (W.written sink.old) (W.written sink.new) }
+    ensures fault { result ≡ Status.WriteFault → Rose (W.faults sink.old) (W.faults sink.new) }
+{
+    match error {
+        LoadError::NoMemory => Status::NoMemory,
+        LoadError::TooLong => refuse(alloc, &Refusal::TooLong, Status::BadScript, sink),
+        LoadError::Syntax => refuse(alloc, &Refusal::Syntax, Status::BadScript, sink),
+        LoadError::Shape(place) => {
+            refuse(alloc, &Refusal::Shape { place }, Status::BadScript, sink)
+        }
+        LoadError::Fraction(place) => {
+            refuse(alloc, &Refusal::Fraction { place }, Status::BadScript, sink)
+        }
+    }
+}
+
+/// Runs a controller by a script, and writes the records of its turns. One that has related sources is not run.
 fn run_script<W: Sink>(alloc: Global, script: Script, sink: &mut W) -> Status
-    ensures runs { Runs result (seen_script script) (W.written sink.old) (W.written sink.new) }
+    ensures runs { RunsFor result (Result.Ok (seen_script script)) (W.written sink.old) (W.written sink.new) }
+    ensures fault { result ≡ Status.WriteFault → Rose (W.faults sink.old) (W.faults sink.new) }
+{
+    if !script.related.as_slice().is_empty() {
+        return refuse(alloc, &Refusal::NotBuilt, Status::BadRun, sink);
+    }
+    run_root(alloc, script, sink)
+}
+
+/// Runs a controller by a script's root, and writes the records of its turns.
+fn run_root<W: Sink>(alloc: Global, script: Script, sink: &mut W) -> Status
+    ensures runs { RunsAlone result (seen_script script) (W.written sink.old) (W.written sink.new) }
     ensures fault { result ≡ Status.WriteFault → Rose (W.faults sink.old) (W.faults sink.new) }
 {
     match play(alloc, script) {
-        Ok(trace) => match write_records(alloc, trace.records.as_slice(), sink) {
-            Ok(()) => Status::Done,
-            Err(error) => unwritten(error),
-        },
+        Ok(trace) => write_trace(alloc, trace.records.as_slice(), sink),
         Err(RunError::NoMemory { trace }) => write_first(alloc, trace.records.as_slice(), sink),
         // A controller that was just made isn't spent.
         Err(RunError::Spent { trace }) => write_first(alloc, trace.records.as_slice(), sink),
-        Err(RunError::NotBuilt { turn, trace }) => {
-            match write_refused(alloc, trace.records.as_slice(), turn, sink) {
-                Ok(()) => Status::BadRun,
-                Err(error) => unwritten(error),
-            }
+        Err(RunError::BadTurn { turn, why, trace }) => {
+            cut_off(alloc, trace.records.as_slice(), &refused(turn, why), sink)
         }
+        Err(
+            RunError::UnnamedObject {
+                turn,
+                source,
+                trace,
+            },
+        ) => {
+            let refusal = Refusal::Unnamed { source, turn };
+            cut_off(alloc, trace.records.as_slice(), &refusal, sink)
+        }
+    }
+}
+
+/// Why a turn is refused, with its number.
+fn refused(turn: u32, why: BadTurn) -> Refusal
+    ensures { result ≡ refusal_at turn (refusal_of_turn why) }
+{
+    match why {
+        BadTurn::Moment { .. } => Refusal::Moment { turn },
+        BadTurn::NotRunning { finish } => Refusal::NotRunning {
+            turn,
+            finish: finish as u64,
+        },
+        BadTurn::Twice { finish } => Refusal::Twice {
+            turn,
+            finish: finish as u64,
+        },
+    }
+}
+
+/// Writes the records of all turns.
+fn write_trace<W: Sink>(alloc: Global, records: &[ScriptRecord], sink: &mut W) -> Status
+    ensures tells { Tells result Status.Done (lines_text (seen_records 0 records.now)) (W.written sink.old) (W.written sink.new) }
+    ensures fault { result ≡ Status.WriteFault → Rose (W.faults sink.old) (W.faults sink.new) }
+{
+    match write_records(alloc, records, sink) {
+        Ok(()) => Status::Done,
+        Err(error) => unwritten(error),
+    }
+}
+
+/// Writes the records of the turns before one that is refused or has an object without a name, and says which.
+fn cut_off<W: Sink>(
+    alloc: Global,
+    records: &[ScriptRecord],
+    refusal: &Refusal,
+    sink: &mut W,
+) -> Status
+    ensures tells { Tells result Status.BadRun (lines_text (seen_records 0 records.now) ++ refusal_text refusal.now) (W.written sink.old) (W.written sink.new) }
+    ensures fault { result ≡ Status.WriteFault → Rose (W.faults sink.old) (W.faults sink.new) }
+{
+    match write_refused(alloc, records, refusal, sink) {
+        Ok(()) => Status::BadRun,
+        Err(error) => unwritten(error),
     }
 }
 

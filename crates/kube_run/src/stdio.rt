@@ -1,13 +1,14 @@
 //! Standard input and standard output as a source and a sink.
 
-ghost use Rattle.std.specs.Prelude.{◌≡◌, None};
+ghost use Rattle.std.specs.Prelude.{◌≡◌, ◌<◌, IfOk, None, length};
+ghost use Rattle.std.specs.Io.{ReadsAtMost, WritesAtMost};
 
 use crate::failed::Failed;
 use crate::sink::Sink;
 use crate::source::Source;
-use std::io::{Read, Stdin, Stdout, Write};
+use std::io::{ErrorKind, Read, Stdin, Stdout, Write};
 
-/// Standard input. It doesn't tell what is left.
+/// Standard input. It doesn't tell what is left. A read that a signal interrupted is tried again.
 #[derive(Drop)]
 pub struct StandardInput {
     stdin: Stdin,
@@ -27,9 +28,9 @@ impl Source for StandardInput {
     ghost faults = { λ s. s.faults };
 
     fn read(&mut self, buf: &mut [u8]) -> Result<usize, Failed> {
-        match self.stdin.read(buf) {
+        match read_again(&mut self.stdin, buf) {
             Ok(count) => Ok(count),
-            Err(_) => {
+            Err(Failed) => {
                 self.faults = self.faults.saturating_add(1);
                 Err(Failed)
             }
@@ -37,7 +38,21 @@ impl Source for StandardInput {
     }
 }
 
-/// Standard output. It doesn't tell what was written.
+/// Reads, and does so again where a signal interrupted it.
+fn read_again(stdin: &mut Stdin, buf: &mut [u8]) -> Result<usize, Failed>
+    ensures { ReadsAtMost result buf.new }
+{
+    for _ in 0..u64::MAX {
+        match stdin.read(buf) {
+            Ok(count) => return Ok(count),
+            Err(error) if error.kind() == ErrorKind::Interrupted => {}
+            Err(_) => return Err(Failed),
+        }
+    }
+    Err(Failed)
+}
+
+/// Standard output. It doesn't tell what was written. A write that a signal interrupted is tried again.
 #[derive(Drop)]
 pub struct StandardOutput {
     stdout: Stdout,
@@ -57,12 +72,27 @@ impl Sink for StandardOutput {
     ghost faults = { λ s. s.faults };
 
     fn write(&mut self, bytes: &[u8]) -> Result<usize, Failed> {
-        match self.stdout.write(bytes) {
-            Ok(count) if count > 0 || bytes.is_empty() => Ok(count),
-            _ => {
+        match write_again(&mut self.stdout, bytes) {
+            Ok(count) => Ok(count),
+            Err(Failed) => {
                 self.faults = self.faults.saturating_add(1);
                 Err(Failed)
             }
         }
     }
+}
+
+/// Writes, and does so again where a signal interrupted it. A write of no byte where there are any is a fault.
+fn write_again(stdout: &mut Stdout, bytes: &[u8]) -> Result<usize, Failed>
+    ensures bound { WritesAtMost result bytes.now }
+    ensures some { IfOk result (λ n. 0 < length bytes.now → 0 < n) }
+{
+    for _ in 0..u64::MAX {
+        match stdout.write(bytes) {
+            Ok(count) if count > 0 || bytes.is_empty() => return Ok(count),
+            Err(error) if error.kind() == ErrorKind::Interrupted => {}
+            _ => return Err(Failed),
+        }
+    }
+    Err(Failed)
 }

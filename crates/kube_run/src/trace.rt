@@ -3,14 +3,15 @@
 ghost use Rattle.std.specs.Prelude.{◌≡◌, ◌≤◌, ◌++◌, OnOk, OnErr, IsErrOf};
 ghost use Rattle.std.specs.Io.KnownBytes.{Appends};
 ghost use Rattle.kube_run.specs.Causes.{Rose};
-ghost use Rattle.kube_run.specs.Lines.{not_built_line as not_built_text};
 ghost use Rattle.kube_run.specs.Part.{AppendsPart};
-ghost use Rattle.kube_run.specs.TraceText.{line_text, lines_text};
-ghost use Rattle.kube_run.specs.TraceView.{seen_record, seen_records};
+ghost use Rattle.kube_text.specs.Refusals.{refusal_text};
+ghost use Rattle.kube_text.specs.TraceText.{line_text, lines_text};
+ghost use Rattle.kube_text.specs.TraceView.{seen_record, seen_records};
 
 use crate::output::write_all;
-use crate::record::{ScriptRecord, not_built_line, record_line};
 use crate::sink::Sink;
+use kube_text::record::{ScriptRecord, record_line};
+use kube_text::refusal::{Refusal, refusal_line};
 use std::alloc::Global;
 
 /// Why a line was not written whole.
@@ -39,20 +40,20 @@ pub fn write_records<W: Sink>(
     Ok(())
 }
 
-/// Writes the records of turns, and that the turn of this number is not built.
+/// Writes the records of turns, and why there are none of further turns.
 pub fn write_refused<W: Sink>(
     alloc: Global,
     records: &[ScriptRecord],
-    turn: u32,
+    refusal: &Refusal,
     sink: &mut W,
 ) -> Result<(), Unwritten>
-    ensures all { OnOk result (Appends (W.written sink.old) (W.written sink.new) (lines_text (seen_records 0 records.now) ++ not_built_text turn)) }
-    ensures part { OnErr result (AppendsPart (W.written sink.old) (W.written sink.new) (lines_text (seen_records 0 records.now) ++ not_built_text turn)) }
+    ensures all { OnOk result (Appends (W.written sink.old) (W.written sink.new) (lines_text (seen_records 0 records.now) ++ refusal_text refusal.now)) }
+    ensures part { OnErr result (AppendsPart (W.written sink.old) (W.written sink.new) (lines_text (seen_records 0 records.now) ++ refusal_text refusal.now)) }
     ensures fault { IsErrOf result Unwritten.Fault → Rose (W.faults sink.old) (W.faults sink.new) }
     ensures later { W.faults sink.old ≤ W.faults sink.new }
 {
     write_records(alloc, records, sink)?;
-    write_not_built(alloc, turn, sink)?;
+    write_refusal(alloc, refusal, sink)?;
     Ok(())
 }
 
@@ -77,14 +78,18 @@ fn write_record<W: Sink>(
     }
 }
 
-/// Writes the line of a turn that is not built.
-fn write_not_built<W: Sink>(alloc: Global, turn: u32, sink: &mut W) -> Result<(), Unwritten>
-    ensures all { OnOk result (Appends (W.written sink.old) (W.written sink.new) (not_built_text turn)) }
-    ensures part { OnErr result (AppendsPart (W.written sink.old) (W.written sink.new) (not_built_text turn)) }
+/// Writes the line of a refusal. Where that fails the first of its bytes were written, or none.
+pub fn write_refusal<W: Sink>(
+    alloc: Global,
+    refusal: &Refusal,
+    sink: &mut W,
+) -> Result<(), Unwritten>
+    ensures all { OnOk result (Appends (W.written sink.old) (W.written sink.new) (refusal_text refusal.now)) }
+    ensures part { OnErr result (AppendsPart (W.written sink.old) (W.written sink.new) (refusal_text refusal.now)) }
     ensures fault { IsErrOf result Unwritten.Fault → Rose (W.faults sink.old) (W.faults sink.new) }
     ensures later { W.faults sink.old ≤ W.faults sink.new }
 {
-    let Ok(line) = not_built_line(alloc, turn) else {
+    let Ok(line) = refusal_line(alloc, refusal) else {
         return Err(Unwritten::NoMemory);
     };
     match write_all(sink, &line) {

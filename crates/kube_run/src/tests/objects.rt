@@ -53,21 +53,60 @@ const SHOWN: [(&str, &str); 11] = [
     ),
 ];
 
-/// Items that are no objects.
-const REFUSED: [&str; 13] = [
-    r#"{"metadata":{"name":"a"},"spec":{"size":1.5}}"#,
-    r#"{"metadata":{"name":"a"},"spec":[1e0]}"#,
-    r#"{"metadata":{"name":"a"},"spec":-0}"#,
-    r#"{"metadata":{"name":1}}"#,
-    r#"{"metadata":{"name":"a","labels":{"app":1}}}"#,
-    r#"{"metadata":[]}"#,
-    r#"{"metadata":{"name":"a","ownerReferences":[{"apiVersion":"v1","kind":"Node","name":"n"}]}}"#,
-    r#"{"metadata":{"name":"a","finalizers":[null]}}"#,
-    r#"{"metadata":{"name":"a"},"apiVersion":"v1"}"#,
-    r#"{"metadata":{"name":"a"},"kind":"ConfigMap"}"#,
-    "null",
-    "[]",
-    r#""a""#,
+/// Items that are no objects, each with its first fault.
+const REFUSED: [(&str, &str); 13] = [
+    (
+        r#"{"metadata":{"name":"a"},"spec":{"size":1.5}}"#,
+        r#"{"error":"script","fault":"fraction","place":"/root/lists/0/items/0/spec/size"}"#,
+    ),
+    (
+        r#"{"metadata":{"name":"a"},"spec":[1e0]}"#,
+        r#"{"error":"script","fault":"fraction","place":"/root/lists/0/items/0/spec/0"}"#,
+    ),
+    (
+        r#"{"metadata":{"name":"a"},"spec":-0}"#,
+        r#"{"error":"script","fault":"fraction","place":"/root/lists/0/items/0/spec"}"#,
+    ),
+    (
+        r#"{"metadata":{"name":1}}"#,
+        r#"{"error":"script","fault":"shape","place":"/root/lists/0/items/0/metadata/name"}"#,
+    ),
+    (
+        r#"{"metadata":{"name":"a","labels":{"app":1}}}"#,
+        r#"{"error":"script","fault":"shape","place":"/root/lists/0/items/0/metadata/labels/app"}"#,
+    ),
+    (
+        r#"{"metadata":[1]}"#,
+        r#"{"error":"script","fault":"shape","place":"/root/lists/0/items/0/metadata"}"#,
+    ),
+    (
+        r#"{"metadata":{"name":"a","ownerReferences":[{"apiVersion":"v1","kind":"Node","name":"n"}]}}"#,
+        r#"{"error":"script","fault":"shape","place":"/root/lists/0/items/0/metadata/ownerReferences/0/uid"}"#,
+    ),
+    (
+        r#"{"metadata":{"name":"a","finalizers":[null]}}"#,
+        r#"{"error":"script","fault":"shape","place":"/root/lists/0/items/0/metadata/finalizers/0"}"#,
+    ),
+    (
+        r#"{"metadata":{"name":"a"},"apiVersion":"v1"}"#,
+        r#"{"error":"script","fault":"shape","place":"/root/lists/0/items/0/kind"}"#,
+    ),
+    (
+        r#"{"metadata":{"name":"a"},"kind":"ConfigMap"}"#,
+        r#"{"error":"script","fault":"shape","place":"/root/lists/0/items/0/apiVersion"}"#,
+    ),
+    (
+        r#"null"#,
+        r#"{"error":"script","fault":"shape","place":"/root/lists/0/items/0"}"#,
+    ),
+    (
+        r#"[]"#,
+        r#"{"error":"script","fault":"shape","place":"/root/lists/0/items/0"}"#,
+    ),
+    (
+        r#""a""#,
+        r#"{"error":"script","fault":"shape","place":"/root/lists/0/items/0"}"#,
+    ),
 ];
 
 /// The script of a page with this item, of a watch that waits, and of a turn that takes once and shows the store.
@@ -116,11 +155,6 @@ fn shows<R: Abort + AllocGlobal>(rt: &R, item: &str, object: &str) -> Result<(),
     ends(rt, item, 0, trace.as_str())
 }
 
-/// An item is no object, so the script is not run.
-fn refuses<R: Abort + AllocGlobal>(rt: &R, item: &str) -> Result<(), Fail> {
-    ends(rt, item, 4, r#"{"error":"not built"}"#)
-}
-
 #[test]
 fn objects_are_shown_in_one_form(rt: HostRuntime) -> Result<(), Fail> {
     for (item, object) in SHOWN {
@@ -131,8 +165,8 @@ fn objects_are_shown_in_one_form(rt: HostRuntime) -> Result<(), Fail> {
 
 #[test]
 fn other_items_are_refused(rt: HostRuntime) -> Result<(), Fail> {
-    for item in REFUSED {
-        refuses(&rt, item)?;
+    for (item, fault) in REFUSED {
+        ends(&rt, item, 3, fault)?;
     }
     Ok(())
 }

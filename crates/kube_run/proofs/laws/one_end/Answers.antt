@@ -2,4 +2,4 @@ use Rattle.kube_run.proofs.Ends.{ends-once}
 use Rattle.kube_run.proofs.laws.one_end.Goals as goal
 
 pub returns : goal.returns
-returns c = record { end = ends-once c.one_trace.ensures.begins c.not_built_or_built.ensures.apart }
+returns c = record { end = ends-once }

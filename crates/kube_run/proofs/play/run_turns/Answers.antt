@@ -1,0 +1,80 @@
+use Rattle.std.proofs.Common.{◌≡◌, [], ◌∷◌, List, ℕ, true, false, length, map, take, refl, sym, ap, subst, ◌∙◌}
+use Rattle.std.proofs.lemmas.List.{length-map}
+use Rattle.kube_control.specs.Runs.{AreFinishedIn}
+use Rattle.kube_meta.specs.Reading.{ObjectData}
+use Rattle.kube_meta.specs.declared.action.Action.{Action}
+use Rattle.kube_model.specs.Named.{AreNamedTurns, RootIsNamed}
+use Rattle.kube_model.specs.Traces.{IsTrace, steps, unread}
+use Rattle.kube_object.specs.Named.{named_type}
+use Rattle.kube_script.specs.Script.{Script}
+use Rattle.kube_step.specs.Calls.{dated_in}
+use Rattle.kube_step.specs.Policies.{Answers, answered_by}
+use Rattle.kube_text.specs.TraceText.{lines_of}
+use Rattle.kube_turn.specs.Records.{record_of, records_of, turns_of}
+use Rattle.kube_watch.specs.Stands.{api_of}
+use Rattle.kube_run.specs.Played.{AreAnswered, script_world}
+use Rattle.kube_run.proofs.Plays.{all-ok, both, err-cases}
+use Rattle.kube_run.proofs.Policies.{faults_of, few-records, same-lines, trace-by}
+use Rattle.kube_run.proofs.Ended.{front, front-lines, refused-next, stays, unnamed-next}
+use Rattle.kube_run.proofs.Polled.{polled-answered}
+use Rattle.kube_run.proofs.play.run_turns.Goals as goal
+
+pub returns : goal.returns
+returns c = record {
+  ran = λ s stands api settings turns faults after.
+      let w = script_world s in
+      let ts = c.args.turns.items in
+      let told = c.run.ensures in
+      let root = c.args.controller.now.asks.root in
+      both s c.run.result
+      (all-ok c.run.result
+      (λ r traced names polled finished.
+      let q = answered_by (records_of named_type r.records) in
+      let exact = trace-by w _ s.error_requeue (λ o e a k. k.says.met.2 ∙ after) q [] ts r.records finished traced.0 in
+      let answers = polled-answered stays s.root.watcher [] _ _ _ _ _ settings polled in (
+        (
+          api_of c.run.new.self.asks.root.watcher,
+          record {
+            trace = subst (λ us. IsTrace w (λ n k o. s.error_requeue) [] us (map unread (records_of named_type r.records))) turns exact;
+            named = subst (λ us. AreNamedTurns w (RootIsNamed w) [] (steps us (map unread (records_of named_type r.records)))) turns names;
+            answered = subst (λ a. AreAnswered s.root.watcher a (dated_in (records_of named_type r.records)) (api_of c.run.new.self.asks.root.watcher)) api answers.0;
+          },
+        ),
+        same-lines _ 0 [] ts r.records (few-records w q [] ts r.records traced.0) finished ∙ ap (λ fs. lines_of 0 fs (records_of named_type r.records)) faults,
+      ))
+      (told.trace w [] stands) (told.named w [] stands) (told.asked w [] stands) (told.policy w [] stands))
+      (err-cases _ _ _ _ _ _ c.run.result (told.policy_before w [] stands) told.refused told.unnamed told.no_memory told.was_spent
+      (λ turn why trace finished k.
+      let rs = trace.records in
+      let n : turn ≡ length (records_of named_type rs) = k.0 ∙ sym (length-map rs (record_of named_type)) in
+      let q = k.1 w [] stands in
+      let traced = subst (λ i. IsTrace w (answered_by (records_of named_type rs)) [] (take i (turns_of named_type ts)) (map unread (records_of named_type rs))) n q.1 in
+      let names = subst (λ i. AreNamedTurns w (RootIsNamed w) [] (steps (take i (turns_of named_type ts)) (map unread (records_of named_type rs)))) n q.2 in (
+        (_, front _ s (λ o e a k. k.says.met.2 ∙ after) ts turns faults rs finished traced names root c.run.new.self.asks.root _ _ api settings q.3),
+        front-lines _ s (λ o e a k. k.says.met.2 ∙ after) ts turns faults rs finished traced,
+        (n, refused-next _ s (λ o e a k. k.says.met.2 ∙ after) ts turns faults rs finished traced names root c.run.new.self.asks.root _ _ api settings q.3 _ q.0),
+        tt,
+      ))
+      (λ turn source trace finished k.
+      let rs = trace.records in
+      let b = k.1 w [] stands in
+      let cut = b.broken.ended in (
+        (_, front _ s (λ o e a k. k.says.met.2 ∙ after) ts turns faults rs finished b.traced b.all_named root b.reached_root _ _ api settings b.polled),
+        front-lines _ s (λ o e a k. k.says.met.2 ∙ after) ts turns faults rs finished b.traced,
+        tt,
+        (
+          k.0 ∙ sym (length-map rs (record_of named_type)),
+          unnamed-next _ s (λ o e a k. k.says.met.2 ∙ after) ts turns faults rs finished b.traced b.all_named root b.reached_root _ _ api settings b.polled b.turn b.next b.going source cut.made cut.reached_root c.run.new.self.asks.root _ _ b.broken.valid cut.asked cut.each_named
+              cut.polled cut.stand.root cut.rest.next_is cut.rest.broken,
+        ),
+      ))
+      (λ trace finished k.
+      let rs = trace.records in
+      let b = k w [] stands in (
+        (_, front _ s (λ o e a k. k.says.met.2 ∙ after) ts turns faults rs finished b.traced b.all_named root b.reached_root _ _ api settings b.polled),
+        front-lines _ s (λ o e a k. k.says.met.2 ∙ after) ts turns faults rs finished b.traced,
+        tt,
+        tt,
+      ))
+      (λ trace k. absurd (let z : true ≡ false = sym k.0 ∙ stands.unspent in cc)));
+}

@@ -1,8 +1,0 @@
-use Rattle.std.proofs.Common.{◌≡◌, map, drop}
-use Rattle.serde_json.specs.View.{items_view}
-use Rattle.kube_run.specs.Reading.{items_at}
-use Rattle.kube_run.proofs.Loop.{with_front}
-use Rattle.kube_run.proofs.row.items.Given as goal
-
-abbrev pub invariant-loop-index : goal.invariant-loop-index
-invariant-loop-index g l = with_front (map g.R.Row.seen l.rows.items) (items_at g.R.Row.reads l.index (items_view (drop l.index l.values))) ≡ items_at g.R.Row.reads 0 (items_view l.values)

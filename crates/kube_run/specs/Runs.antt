@@ -1,0 +1,39 @@
+-- What a run of a script's controller answers.
+use Rattle.std.specs.Prelude.{◌≡◌, ℕ, List, length, Result, Ok, Err}
+use Rattle.kube_meta.specs.Reading.{ObjectData}
+use Rattle.kube_object.specs.Named.{Named, named_type}
+use Rattle.kube_script.specs.Script.{Script}
+use Rattle.kube_text.specs.TraceText.{lines_of}
+use Rattle.kube_text.specs.TraceView.{seen_records}
+use Rattle.kube_turn.specs.Records.{records_of}
+use Rattle.kube_turn.specs.declared.record.Trace.{Trace}
+use Rattle.kube_turn.specs.declared.record.TurnRecord.{TurnRecord}
+use Rattle.kube_control.specs.Errors.{IfRefused, IfUnnamed, records_before}
+use Rattle.kube_control.specs.declared.error.RunError.{RunError}
+use Rattle.kube_run.specs.Played.{IsPlayed, IsPlayedFront, IsRefusedNext, IsUnnamedNext, all_faults}
+
+-- a reconcile's fault is a text
+abbrev pub Held : Type 0
+Held = List (TurnRecord ObjectData (List ℕ) Named)
+
+abbrev pub ScriptError : Type 0
+ScriptError = RunError ObjectData (List ℕ) Named
+
+-- the records are written with the faults of the script's finishes
+abbrev pub HasLines : Script → Held → Type 0
+HasLines s held = seen_records 0 held ≡ lines_of 0 (all_faults s) (records_of named_type held)
+
+-- these turns have records, and the next one is refused
+abbrev pub IsRefusedAfter : Script → Held → ScriptError → Type 0
+IsRefusedAfter s held e = IfRefused e (λ turn why. (turn ≡ length (records_of named_type held)) × IsRefusedNext s (records_of named_type held) why)
+
+-- or an object without a name came in the next one
+abbrev pub IsUnnamedAfter : Script → Held → ScriptError → Type 0
+IsUnnamedAfter s held e = IfUnnamed e (λ turn source. (turn ≡ length (records_of named_type held)) × IsUnnamedNext s (records_of named_type held) source)
+
+-- the trace of a script's turns, or that of the turns before one that ends the run
+abbrev pub HasRun : Script → Result (Trace ObjectData (List ℕ) Named) ScriptError → Type 0
+HasRun s (Ok t) = IsPlayed s (records_of named_type t.records) × HasLines s t.records
+HasRun s (Err e) =
+    IsPlayedFront s (records_of named_type (records_before e)) × HasLines s (records_before e)
+    × IsRefusedAfter s (records_before e) e × IsUnnamedAfter s (records_before e) e
