@@ -3,9 +3,11 @@
 #![tactic(auto)]
 
 pub mod config;
+pub mod error;
 pub mod exchange;
 pub mod record;
 pub mod request;
+pub mod results;
 pub mod taken;
 pub mod turn;
 

@@ -1,7 +1,12 @@
-//! Tests of requests and of the configuration.
+//! Tests of requests, of the configuration and of a turn's results.
 
-use crate::{Config, ReconcileReason, ReconcileRequest};
-use kube_meta::{ApiResource, DynamicObject, NoMemory, ObjectRef, Text};
+use crate::error::Error;
+use crate::{
+    Action, Answer, Call, Config, Finished, ReconcileReason, ReconcileRequest, RunnerError,
+    SourceExchange, Taken, TurnRecord,
+};
+use kube_meta::{ApiResource, DynamicObject, List, Moment, NoMemory, ObjectMeta, ObjectRef, Text};
+use kube_model::error::{Error as WatcherError, WriterDropped};
 use std::alloc::Global;
 use std::collections::HashSet;
 use std::process::Abort;
@@ -96,5 +101,119 @@ fn set(rt: &impl Abort, config: Config) {
 #[test]
 fn a_configuration_is_set_by_its_calls(rt: HostRuntime) -> Result<(), Fail> {
     set(&rt, Config::default());
+    Ok(())
+}
+
+/// The config map of a number as it was taken, where it was found.
+fn taken(
+    alloc: Global,
+    kind: &Arc<ApiResource>,
+    number: u32,
+    is_found: bool,
+) -> Result<Taken<DynamicObject>, NoMemory> {
+    let reference = reference(alloc, kind, number)?;
+    let reason = ReconcileReason::Unknown;
+    if !is_found {
+        return Ok(Taken::NotFound { reference, reason });
+    }
+    let object = Arc::new(alloc, DynamicObject::bare(ObjectMeta::empty()))?;
+    Ok(Taken::Started {
+        reference,
+        reason,
+        object,
+    })
+}
+
+/// What was asked of a source that gave an error, or none.
+fn exchange(error: Option<WatcherError>, alloc: Global) -> SourceExchange<DynamicObject> {
+    SourceExchange {
+        source: 0,
+        call: Call::Next,
+        answer: Answer::NotReady,
+        items: List::new(alloc),
+        requests: List::new(alloc),
+        error,
+    }
+}
+
+/// The reconcile of a config map, which ended by this.
+fn finished(
+    alloc: Global,
+    kind: &Arc<ApiResource>,
+    number: u32,
+    outcome: Result<Action, Text>,
+) -> Result<Finished<DynamicObject, Text>, NoMemory> {
+    Ok(Finished {
+        reference: reference(alloc, kind, number)?,
+        outcome,
+        action: Action::requeue(7),
+    })
+}
+
+/// What a turn did in which something of each kind happened.
+fn eventful(alloc: Global) -> Result<TurnRecord<DynamicObject, Text>, NoMemory> {
+    let kind = config_maps(alloc)?;
+    let mut finishes = List::new(alloc);
+    finishes.push(finished(alloc, &kind, 1, Err(Text::new(alloc, "no disk")?))?)?;
+    finishes.push(finished(alloc, &kind, 2, Ok(Action::requeue(7)))?)?;
+    let mut exchanges = List::new(alloc);
+    exchanges.push(exchange(None, alloc))?;
+    exchanges.push(exchange(Some(WatcherError::NoResourceVersion), alloc))?;
+    let mut takes = List::new(alloc);
+    takes.push(taken(alloc, &kind, 3, true)?)?;
+    takes.push(taken(alloc, &kind, 4, false)?)?;
+    Ok(TurnRecord {
+        at: Moment(0),
+        finished: finishes,
+        exchanges,
+        stops: List::new(alloc),
+        taken: takes,
+        store: None,
+        runner: Some(RunnerError::Readiness(WriterDropped)),
+        ended: true,
+    })
+}
+
+/// What is told of a result.
+fn told(
+    alloc: Global,
+    one: &Result<(ObjectRef<DynamicObject>, Action), Error<Text>>,
+) -> Result<String, NoMemory> {
+    Ok(match one {
+        Ok((reference, action)) => {
+            let nanos = action.requeue_after().unwrap_or(0);
+            format!(in alloc; "{reference} again after {nanos}")?
+        }
+        Err(error) => format!(in alloc; "{error}")?,
+    })
+}
+
+/// What is told of these results, a line each.
+fn all_told(
+    alloc: Global,
+    results: &[Result<(ObjectRef<DynamicObject>, Action), Error<Text>>],
+) -> Result<String, NoMemory> {
+    let mut lines = String::new(alloc);
+    for one in results {
+        let line = told(alloc, one)?;
+        lines.push_str(line.as_str())?;
+        lines.push_str("\n")?;
+    }
+    Ok(lines)
+}
+
+/// The results of an eventful turn, in order.
+const RESULTS: &str = "reconciler for object ConfigMap.v1./o1 failed: no disk
+ConfigMap.v1./o2 again after 7
+event queue error: no metadata.resourceVersion in watch result (does resource support watch?)
+tried to reconcile object ConfigMap.v1./o4 that was not found in local store
+runner error: readiness gate failed to become ready: writer was dropped before store became ready
+";
+
+#[test]
+fn results_are_finishes_then_errors_then_what_is_missing(rt: HostRuntime) -> Result<(), Fail> {
+    let alloc = rt.alloc();
+    let results = eventful(alloc)?.into_results(alloc)?;
+    assert_eq!(rt; all_told(alloc, results.as_slice())?.as_str(), RESULTS);
     Ok(())
 }

@@ -1,0 +1,2 @@
+-- lemmas that the answers use
+pub mod Kept
