@@ -14,3 +14,6 @@ pub mod Notes
 pub mod Parts
 pub mod RootFits
 pub mod RelatedFits
+-- lemmas on what sources determine
+pub mod OneExchange
+pub mod Determined

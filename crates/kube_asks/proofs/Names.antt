@@ -8,8 +8,8 @@ use Rattle.kube_model.specs.declared.call.Call.TheVariants.{List as ListCall, Wa
 use Rattle.kube_model.specs.declared.call.Answer.{Answer}
 use Rattle.kube_model.specs.World.{World}
 use Rattle.kube_model.specs.History.{Dated, Exchange}
-use Rattle.kube_model.specs.Owed.{is_initial, mark}
-use Rattle.kube_model.specs.Fits.{answers, brings_references, has_references}
+use Rattle.kube_model.specs.Owed.{is_initial}
+use Rattle.kube_model.specs.Fits.{answers, brings_references}
 use Rattle.kube_model.specs.Raw.{Raw, RawAnswer, is_fault, FaultRose, Waits, Fails, GivesPage, Opens, GivesAdded, GivesModified, GivesDeleted, GivesBookmark, GivesError, Ends}
 use Rattle.kube_model.specs.Recorded.{IsAnsweredBy, AsItCame, PastItsWindow, answer_of, items_of}
 use Rattle.kube_model.specs.Named.{AreNamed, OfCall, has_names}

@@ -6,4 +6,5 @@ pub mod Asking
 pub mod Noting
 pub mod Roots
 pub mod Mapped
+pub mod Determined
 pub mod Lending

@@ -9,7 +9,7 @@ use Rattle.kube_model.specs.Recorded.{IsRecordedMapped}
 use Rattle.kube_model.specs.Named.{OfCall, has_names}
 use Rattle.kube_watch.specs.declared.unit.Unit.{Unit as Made}
 use Rattle.kube_watch.specs.Watching.{Watching}
-use Rattle.kube_watch.specs.Stands.{StandsFor, exchanges_in, settings_in, api_of}
+use Rattle.kube_watch.specs.Stands.{StandsFor, exchanges_in, settings_in, api_of, config_of}
 use Rattle.kube_watch.specs.Polls.{Api}
 use Rattle.kube_asks.specs.Roots.{IsUnnamedCall, IsLostCall}
 
@@ -42,6 +42,20 @@ module _ {A O V : Type 0} (api : Api A V) (is_part : V → List Message → Type
     pub moved : api.moves (api_of old) now raw (api_of new)
     pub rose : FaultRose (is_fault raw.answer) (api.faults (api_of old)) (api.faults (api_of new))
     pub named : has_names is_named api.version (exchanges_in own) (OfCall raw) ≡ true
+
+  -- so was one of a mapped source, whose configuration, type and mapper are as before
+  pub record IsMappedPoll {M : Type 0} (own : List (Dated O)) (now : ℕ) (old : MappedWatching A V M) (x : Exchange O) (new : MappedWatching A V M) : Type 0 where
+    pub call : IsRelatedPoll own now old.watcher x new.watcher
+    pub config : config_of new.watcher ≡ config_of old.watcher
+    pub kind : new.kind ≡ old.kind
+    pub mapper : new.mapper ≡ old.mapper
+
+-- mapped sources that are asked alike: over the same API, by the same settings, and mapped by the same
+pub record AreMappedAlike {A V M : Type 0} (a b : MappedWatching A V M) : Type 0 where
+  pub api : api_of a.watcher ≡ api_of b.watcher
+  pub settings : settings_in a.watcher ≡ settings_in b.watcher
+  pub kind : a.kind ≡ b.kind
+  pub mapper : a.mapper ≡ b.mapper
 
 abbrev pub IsRelatedBroken : {A V : Type 0} → (O : Type 0) → Api A V → (V → Bool) → ℕ → Watching A V → Watching A V → Type 0
 IsRelatedBroken O api is_named now old new = IsUnnamedCall {O = O} api is_named (λ own. RelatedStands own old) (settings_in old) now (api_of old) (api_of new)

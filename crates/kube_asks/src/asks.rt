@@ -435,6 +435,13 @@ impl<R: RootSource, S: RelatedSet<R::Object>, B: Backoff> Asks<R, S, B> {
         make(alloc, root, related, backoff)
     }
 
+    /// The type of the root's objects in the API.
+    pub fn dyntype(&self) -> &<R::Object as Resource>::DynamicType
+        ensures { R.Object.type_of result.now ≡ R.kind self.now.root }
+    {
+        self.root.dyntype()
+    }
+
     /// Makes the next exchange of the turn, or none where asking ends: where the backoff gave up, at a pause, and where no
     /// source may be asked any more.
     ///

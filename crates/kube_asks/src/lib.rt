@@ -4,7 +4,7 @@
 pub mod asks;
 pub mod laws;
 pub mod mapper;
-mod mapping;
+pub mod mapping;
 mod noting;
 pub mod related;
 pub mod related_list;

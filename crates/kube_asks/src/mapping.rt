@@ -22,8 +22,12 @@ use kube_watch::{Event, StreamFault, Unit};
 use std::alloc::Global;
 use std::sync::Arc;
 
-/// A request for a related object's sake.
-fn request<K: Resource>(
+/// A request for a related object's sake: this object's reference is its reason.
+///
+/// # Errors
+///
+/// `NoMemory` where there is none for the request.
+pub fn request<K: Resource>(
     alloc: Global,
     reference: &ObjectRef<K>,
     object: &ObjectRef<DynamicObject>,

@@ -24,6 +24,9 @@ pub trait Related<K: Resource>: Drop {
     /// Whether it may be polled: so one that calls a mapper says that the mapper may be called.
     ghost can_poll: { Self → Type 0 } = { λ _. ⊤ };
 
+    /// Whether two are asked alike: over the same API, with the same settings and the same mapper.
+    ghost alike: { Self → Self → Type 0 } = { λ a b. a ≡ b };
+
     /// The exchanges of its own of which it keeps what the definitions give.
     ghost stands: { Self → List (Dated K) → Type 0 };
 

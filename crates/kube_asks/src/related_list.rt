@@ -39,12 +39,14 @@ impl<T: Drop> RelatedList<T> {
 
 impl<K: Resource, T: Related<K>> RelatedSet<K> for RelatedList<T> {
     ghost use Rattle.std.specs.Prelude.{map};
-    ghost use Rattle.std.specs.List.{AllByRecursion};
+    ghost use Rattle.std.specs.List.{AllByRecursion, AllZip};
     ghost use Rattle.kube_asks.specs.Places.{HoldsAt, ChangesAt};
 
     ghost feeds = { λ s. map T.settings s.items.items };
 
     ghost can_poll = { λ s. AllByRecursion T.can_poll s.items.items };
+
+    ghost alike = { λ s u. AllZip T.alike s.items.items u.items.items };
 
     ghost stands = { λ s p own. HoldsAt (λ t. T.stands t own) s.items.items p };
 

@@ -59,7 +59,7 @@ impl<K: Resource, A: ApiMode, M: Mapper<A::Value, K>> Related<K> for RelatedWatc
     ghost use Rattle.kube_model.specs.Mapping.{IsMappedTo};
     ghost use Rattle.kube_watch.specs.Calls.{version_of};
     ghost use Rattle.kube_watch.specs.Stands.{settings_in};
-    ghost use Rattle.kube_asks.specs.Mapped.{RelatedStands, IsRelatedPoll, IsRelatedBroken, IsRelatedLost};
+    ghost use Rattle.kube_asks.specs.Mapped.{AreMappedAlike, RelatedStands, IsMappedPoll, IsRelatedBroken, IsRelatedLost};
 
     ghost settings = { λ r. Some (settings_in r.watcher) };
 
@@ -67,8 +67,10 @@ impl<K: Resource, A: ApiMode, M: Mapper<A::Value, K>> Related<K> for RelatedWatc
 
     ghost stands = { λ r own. RelatedStands own r.watcher };
 
-    ghost polls = { λ old own now x new. IsRelatedPoll (record { moves = A.moves; talk = A.talk; faults = A.faults; version = version_of A.Value.meta_of })
-        (IsMappedTo old.kind A.Value.meta_of (M.answers old.mapper)) (λ o. is_named (A.Value.meta_of o)) own now old.watcher x new.watcher };
+    ghost alike = { λ a b. AreMappedAlike a b };
+
+    ghost polls = { λ old own now x new. IsMappedPoll (record { moves = A.moves; talk = A.talk; faults = A.faults; version = version_of A.Value.meta_of })
+        (IsMappedTo old.kind A.Value.meta_of (M.answers old.mapper)) (λ o. is_named (A.Value.meta_of o)) own now old x new };
 
     ghost breaks = { λ old now new. IsRelatedBroken K (record { moves = A.moves; talk = A.talk; faults = A.faults; version = version_of A.Value.meta_of })
         (λ o. is_named (A.Value.meta_of o)) now old.watcher new.watcher };

@@ -41,6 +41,10 @@ pub trait RootSource: Drop {
     /// What want of memory at a moment makes of it, where it says so: what it may have asked by then.
     ghost loses: { Self → ℕ → Self → Type 0 } = { λ _ _ _. ⊤ };
 
+    /// The type of its objects in the API.
+    fn dyntype(&self) -> &<Self::Object as Resource>::DynamicType
+        ensures { Self.Object.type_of result.now ≡ kind self.now };
+
     /// Whether its end gives up and nothing pauses it.
     fn is_queue(&self) -> bool
         ensures { result ≡ is_queue (feed self.now) };

@@ -25,6 +25,9 @@ pub trait RelatedSet<K: Resource>: Drop {
     /// Whether its sources may be polled.
     ghost can_poll: { Self → Type 0 };
 
+    /// Whether the sources of two sets are asked alike, each as that at its place in the other.
+    ghost alike: { Self → Self → Type 0 };
+
     /// What the source at a place stands for: exchanges of its own.
     ghost stands: { Self → ℕ → List (Dated K) → Type 0 };
 

@@ -22,6 +22,8 @@ impl<K: Resource> RelatedSet<K> for NoRelated {
 
     ghost can_poll = { λ s. ⊤ };
 
+    ghost alike = { λ s u. ⊤ };
+
     ghost stands = { λ s p own. ⊤ };
 
     ghost polls = { λ s p own now x s'. ⊥ };
@@ -59,9 +61,11 @@ impl<K: Resource, T: Related<K>> RelatedSet<K> for One<T> {
 
     ghost can_poll = { λ s. T.can_poll s.0 };
 
+    ghost alike = { λ s u. T.alike s.0 u.0 };
+
     ghost stands = { λ s p own. Either (p == 0) (T.stands s.0 own) ⊤ };
 
-    ghost polls = { λ s p own now x s'. Either (p == 0) (T.polls s.0 own now x s'.0) ⊤ };
+    ghost polls = { λ s p own now x s'. Either (p == 0) (T.polls s.0 own now x s'.0) ⊥ };
 
     ghost breaks = { λ s p now s'. T.breaks s.0 now s'.0 };
 
@@ -95,6 +99,8 @@ impl<K: Resource, S: RelatedSet<K>, T: RelatedSet<K>> RelatedSet<K> for Beside<S
     ghost feeds = { λ s. S.feeds s.first ++ T.feeds s.rest };
 
     ghost can_poll = { λ s. S.can_poll s.first × T.can_poll s.rest };
+
+    ghost alike = { λ s u. S.alike s.first u.first × T.alike s.rest u.rest };
 
     ghost stands = { λ s p own. Either (nat_lt p (length (S.feeds s.first))) (S.stands s.first p own) (T.stands s.rest (p - length (S.feeds s.first)) own) };
 

@@ -93,6 +93,10 @@ impl<A: ApiMode> RootSource for WatchRoot<A> {
 
     ghost loses = { λ old now new. IsRootLost A.Value.meta_of A.talk old new };
 
+    fn dyntype(&self) -> &<A::Value as Resource>::DynamicType {
+        &self.dyntype
+    }
+
     fn is_queue(&self) -> bool {
         false
     }

@@ -1,4 +1,4 @@
-use Rattle.std.proofs.Common.{◌≡◌, Some, inr, List, map, [], ◌∷◌, sym, ap, subst, ◌∙◌}
+use Rattle.std.proofs.Common.{◌≡◌, Some, inr, List, map, [], ◌∷◌, refl, sym, ap, subst, ◌∙◌}
 use Rattle.std.specs.List.{flat_map}
 use Rattle.std.specs.Arc.{arc_value}
 use Rattle.std.proofs.lemmas.List.{map-append}
@@ -16,7 +16,7 @@ use Rattle.kube_watch.specs.Stands.{StandsFor, exchanges_in, settings_in, api_of
 use Rattle.kube_watch.specs.Units.{events_of}
 use Rattle.kube_asks.specs.Asking.{of_source}
 use Rattle.kube_asks.specs.Sources.{IsRelatedNext}
-use Rattle.kube_asks.specs.Mapped.{MappedWatching, RelatedStands, IsRelatedPoll, IsRelatedBroken, IsRelatedLost}
+use Rattle.kube_asks.specs.Mapped.{MappedWatching, RelatedStands, IsMappedPoll, IsRelatedBroken, IsRelatedLost}
 use Rattle.kube_asks.proofs.Bools.{ok2, ok3-on}
 use Rattle.kube_asks.proofs.Names.{rose-came}
 use Rattle.kube_asks.proofs.RootFits.{named-now, unnamed-now, owed-form}
@@ -62,21 +62,27 @@ returns-clause-polls g c =
     ok3-on c.map_unit.result
     (λ x mapped is named own y h same.
     let requests = map (message_of g.K.Resource.type_of) x.requests in
+    let after : MappedWatching g.row.A.Denot g.row.A-Value.Denot g.row.M.Denot = record { watcher = c.poll_unit.new.self; kind = t; mapper = inside.mapper } in
     subst (λ (a : MappedWatching g.row.A.Denot g.row.A-Value.Denot g.row.M.Denot). RelatedStands own a.watcher
-    → IsRelatedPoll api (IsMappedTo a.kind meta (g.M.Mapper.answers a.mapper)) (λ o. is_named (meta o)) own c.args.now.0 a.watcher y c.poll_unit.new.self)
+    → IsMappedPoll api (IsMappedTo a.kind meta (g.M.Mapper.answers a.mapper)) (λ o. is_named (meta o)) own c.args.now.0 a y after)
     c.self.view_is
     (λ was. let shapes : List (Dated g.row.A-Value.Denot) = dated_shapes own in
-    subst (λ z. IsRelatedPoll api (IsMappedTo t meta (g.M.Mapper.answers inside.mapper)) (λ o. is_named (meta o)) own c.args.now.0 inside.watcher z c.poll_unit.new.self)
+    subst (λ z. IsMappedPoll api (IsMappedTo t meta (g.M.Mapper.answers inside.mapper)) (λ o. is_named (meta o)) own c.args.now.0 (record { watcher = inside.watcher; kind = t; mapper = inside.mapper }) z after)
     (sym (same ∙ ap (of_source y.source) is))
     (record {
-      raw = e.talk.0;
-      recorded = recorded-too t meta own (settings_in inside.watcher) u.call u.answer (map arc_value u.items) u.error (flat_map objects_of (events_of u)) (e.objects shapes was)
-          (g.M.Mapper.answers inside.mapper) requests mapped y.source e.talk.0 e.talk.1;
-      told = e.talk.2;
-      moved = e.talk.3;
-      rose = rose-came (version_of meta) e.talk.0 u.answer _ _ e.talk.1.answer e.faults;
-      named = named-now meta (exchanges_in own) u.call u.answer (map arc_value u.items) u.error (settings_in inside.watcher) e.talk.0 e.talk.1 (flat_map objects_of (events_of u))
-          (objects-same t meta own (settings_in inside.watcher) u.call u.answer (map arc_value u.items) u.error (flat_map objects_of (events_of u)) (e.objects shapes was)) named;
+      call = record {
+        raw = e.talk.0;
+        recorded = recorded-too t meta own (settings_in inside.watcher) u.call u.answer (map arc_value u.items) u.error (flat_map objects_of (events_of u)) (e.objects shapes was)
+            (g.M.Mapper.answers inside.mapper) requests mapped y.source e.talk.0 e.talk.1;
+        told = e.talk.2;
+        moved = e.talk.3;
+        rose = rose-came (version_of meta) e.talk.0 u.answer _ _ e.talk.1.answer e.faults;
+        named = named-now meta (exchanges_in own) u.call u.answer (map arc_value u.items) u.error (settings_in inside.watcher) e.talk.0 e.talk.1 (flat_map objects_of (events_of u))
+            (objects-same t meta own (settings_in inside.watcher) u.call u.answer (map arc_value u.items) u.error (flat_map objects_of (events_of u)) (e.objects shapes was)) named;
+      };
+      config = e.config;
+      kind = refl;
+      mapper = refl;
     }))
     h)
     c.map_unit.ensures.mapped c.map_unit.ensures.exchange c.map_unit.ensures.named
