@@ -1,12 +1,15 @@
 -- Controllers before their first turn.
-use Rattle.std.proofs.Common.{◌≡◌, ℕ, ◌-◌, ◌≤◌, Bool, true, false, ◌&&◌, not, List, [], ◌++◌, length, refl, sym, ap, subst, ◌∙◌, arith}
+use Rattle.std.proofs.Common.{◌≡◌, ℕ, zero, suc, ◌+◌, ◌-◌, ◌≤◌, ◌<◌, ◌==◌, nat_lt, Bool, true, false, ◌&&◌, not, List, [], ◌++◌, length, refl, sym, ap, subst, ◌∙◌, arith}
+use Rattle.std.proofs.lemmas.Bool.{ltb-true, ltb-false}
+use Rattle.std.proofs.lemmas.List.{length-append}
+use Rattle.std.specs.Prelude.{⊤}
 use Rattle.std.specs.List.{range_with_len}
 use Rattle.kube_meta.specs.Keys.{key_of}
 use Rattle.kube_meta.specs.declared.resource.Resource as resource
 use Rattle.kube_model.specs.World.{World, feed_of, is_watched}
 use Rattle.kube_model.specs.History.{Dated, exchanges_of}
 use Rattle.kube_model.specs.Owed.{is_initial}
-use Rattle.kube_model.specs.Pause.{pause_of}
+use Rattle.kube_model.specs.Pause.{Pause, pause_of}
 use Rattle.kube_model.specs.Asks.{has_run_dry, in_turn}
 use Rattle.kube_history.specs.CoreWorld.{CoreWorld, core_world}
 use Rattle.kube_history.specs.CoreEvents.{CoreEvent, running_of}
@@ -17,6 +20,7 @@ use Rattle.kube_core.specs.Cores.{IsOfType, Parts, StandsFor as CoreStands}
 use Rattle.kube_core.specs.Pendings.{Stands}
 use Rattle.kube_asks.specs.Asking.{Asking, IsWorldOf, SourcesStand}
 use Rattle.kube_asks.specs.Kept.{AskKept, IsKept}
+use Rattle.kube_asks.specs.Places.{Either}
 use Rattle.kube_asks.specs.declared.root.RootSource as root_source
 use Rattle.kube_asks.specs.declared.set.RelatedSet as related_set
 use Rattle.kube_step.specs.Controllers.{IsWorldOfAsks, AsksStand, PartsStand}
@@ -83,6 +87,19 @@ module _ {R S B O D : Type 0} (root : root_source.Ghosts R O D) (related : relat
       (record { sources = p.asks_stand.sources; kept = kept-alike v w p.budget p.before p.mine a.kept p.joined (p.world.fed_so ∙ sym is.fed_so) (sym backoff) p.asks_stand.kept })
       p.unspent
 
+-- what decides stands for no event in each world with these objects, limit and debounce
+decides-alike : {O B C D : Type 0} (object : resource.Ghosts O D) (v : World O B) (w : World O C) (es : List (CoreEvent O)) (core : Parts O D) → v.key ≡ w.key → v.is_named ≡ w.is_named → v.version ≡ w.version
+    → w.limit ≡ v.limit → w.debounce ≡ v.debounce → Agrees v [] es → CoreStands object.type_of object.meta_of (core_world v) es core → CoreStands object.type_of object.meta_of (core_world w) [] core
+decides-alike object v w es core key named version limit debounce a s =
+    let alike : core_world v ≡ core_world w = λ i. record {
+      key = key i;
+      is_named = named i;
+      version = version i;
+      limit = sym limit i;
+      debounce = sym debounce i;
+    } in
+    subst (λ (world : CoreWorld _). CoreStands object.type_of object.meta_of world [] core) alike (untold object v es core a s)
+
 module _ {R S B C O D : Type 0} (root : root_source.Ghosts R O D) (related : related_set.Ghosts S O D) (delays : backoff.Ghosts B) (others : backoff.Ghosts C) (object : resource.Ghosts O D) where
   -- and under another backoff, once the sources r and s are asked anew
   pub triggered : (v : World O B) (w : World O C) (a : Asking R S B) (core : Parts O D) (r : R) (s : S) (a' : Asking R S C) (start : C) → PartsStand root related delays object v [] a core
@@ -94,18 +111,50 @@ module _ {R S B C O D : Type 0} (root : root_source.Ghosts R O D) (related : rel
       let own = subst (λ x. IsWorldOf w (root.kind x) object.meta_of (root.feed x) (related.feeds s) others.delay others.delayed others.restarted) same-root
       (subst (λ x. IsWorldOf w (root.kind a'.root) object.meta_of (root.feed a'.root) (related.feeds x) others.delay others.delayed others.restarted) same-related is) in
       let key : v.key ≡ w.key = p.world.key ∙ (ap (λ x o. key_of (root.kind x) (object.meta_of o)) (sym of-root) ∙ sym own.key) in
-      let alike : core_world v ≡ core_world w = λ i. record {
-        key = key i;
-        is_named = (p.world.named ∙ sym own.named) i;
-        version = (p.world.version ∙ sym own.version) i;
-        limit = sym limit i;
-        debounce = sym debounce i;
-      } in
       let sources = subst (SourcesStand (root.stands a.root) (related.stands a.related) (length (related.feeds a.related))) p.joined p.asks_stand.sources in
       parts-first root related others object w a' core [] [] [] refl is
-      (subst (λ (world : CoreWorld O). CoreStands object.type_of object.meta_of world [] core) alike (untold object v p.events core p.agrees p.core_stands))
+      (decides-alike object v w p.events core key (p.world.named ∙ sym own.named) (p.world.version ∙ sym own.version) limit debounce p.agrees p.core_stands)
       (asked own backoff (subst (λ x. SourcesStand (root.stands x) (related.stands s) (length (related.feeds s)) []) (sym of-root)
       (subst (λ x. SourcesStand (root.stands a.root) (related.stands x) (length (related.feeds x)) []) (sym of-related) sources)))
+      unspent
+
+-- what holds of the one place
+pub only-first : (P : Type 0) → P → (place : ℕ) → place < 1 → Either (place == 0) P ⊤
+only-first P p zero below = p
+only-first P p (suc place) below = absurd (omega arith)
+
+either-of : (b : Bool) (P Q : Type 0) → (b ≡ true → P) → (b ≡ false → Q) → Either b P Q
+either-of true P Q f g = f refl
+either-of false P Q f g = g refl
+
+module _ {R S T U B O D : Type 0} (root : root_source.Ghosts R O D) (related : related_set.Ghosts S O D) (more : related_set.Ghosts T O D) (wider : related_set.Ghosts U O D) (delays : backoff.Ghosts B) (object : resource.Ghosts O D) where
+  -- and with the sources t after the others, once the sources r and u are asked anew
+  pub added : (v w : World O B) (a : Asking R S B) (core : Parts O D) (r : R) (t : T) (u : U) (a' : Asking R U B) (start : B) → PartsStand root related delays object v [] a core
+      → r ≡ a.root → start ≡ a.kept.pause.backoff → a'.root ≡ r → a'.related ≡ u → a'.is_spent ≡ false
+      → wider.feeds u ≡ related.feeds a.related ++ more.feeds t
+      → ((place : ℕ) (own : List (Dated O)) → Either (nat_lt place (length (related.feeds a.related))) (related.stands a.related place own) (more.stands t (place - length (related.feeds a.related)) own) → wider.stands u place own)
+      → ((place : ℕ) → place < length (more.feeds t) → more.stands t place [])
+      → IsWorldOfAsks root wider delays object w a' → w.backoff ≡ v.backoff → w.limit ≡ v.limit → w.debounce ≡ v.debounce
+      → (IsWorldOf w (root.kind r) object.meta_of (root.feed r) (wider.feeds u) delays.delay delays.delayed delays.restarted → w.backoff ≡ start
+      → SourcesStand (root.stands r) (wider.stands u) (length (wider.feeds u)) [] → AsksStand root wider delays object w [] [] [] a')
+      → PartsStand root wider delays object w [] a' core
+  added v w a core r t u a' start p of-root begins same-root same-related unspent feeds stands fresh is backoff limit debounce asked =
+      let own = subst (λ x. IsWorldOf w (root.kind x) object.meta_of (root.feed x) (wider.feeds u) delays.delay delays.delayed delays.restarted) same-root
+      (subst (λ x. IsWorldOf w (root.kind a'.root) object.meta_of (root.feed a'.root) (wider.feeds x) delays.delay delays.delayed delays.restarted) same-related is) in
+      let key : v.key ≡ w.key = p.world.key ∙ (ap (λ x o. key_of (root.kind x) (object.meta_of o)) (sym of-root) ∙ sym own.key) in
+      let sources = subst (SourcesStand (root.stands a.root) (related.stands a.related) (length (related.feeds a.related))) p.joined p.asks_stand.sources in
+      let first : v.backoff ≡ a.kept.pause.backoff = sym (ap (λ (k : Pause B). k.backoff) (p.asks_stand.kept.pause ∙ ap (pause_of v) p.joined)) in
+      let n = length (related.feeds a.related) in
+      let long : length (wider.feeds u) ≡ n + length (more.feeds t) = ap length feeds ∙ length-append (related.feeds a.related) (more.feeds t) in
+      parts-first root wider delays object w a' core [] [] [] refl is
+      (decides-alike object v w p.events core key (p.world.named ∙ sym own.named) (p.world.version ∙ sym own.version) limit debounce p.agrees p.core_stands)
+      (asked own (backoff ∙ (first ∙ sym begins)) (record {
+        root = subst (λ x. root.stands x []) (sym of-root) sources.root;
+        related = λ place below.
+            stands place [] (either-of (nat_lt place n) (related.stands a.related place []) (more.stands t (place - n) [])
+            (λ e. sources.related place (ltb-true place n e))
+            (λ e. let above = ltb-false place n e in fresh (place - n) (omega (arith, above, below, long))));
+      }))
       unspent
 
 module _ {R S B O D : Type 0} (root : root_source.Ghosts R O D) (related : related_set.Ghosts S O D) (delays : backoff.Ghosts B) (object : resource.Ghosts O D) where

@@ -1,66 +1,24 @@
 -- What an exchange of a watched root is, is determined by those before it, its moment, and how the call was answered.
-use Rattle.std.proofs.Common.{◌≡◌, ℕ, zero, suc, Bool, true, false, IsTrue, List, Option, Some, unwrap_or, refl, sym, ap, subst, ◌∙◌, inl, inr}
+use Rattle.std.proofs.Common.{◌≡◌, ℕ, zero, suc, Bool, IsTrue, List, ◌∷◌, map, Option, Some, unwrap_or, slice_get, refl, sym, ap, ap₂, subst, ◌∙◌}
 use Rattle.kube_meta.specs.declared.metadata.ObjectMeta.{ObjectMeta}
-use Rattle.kube_model.specs.declared.call.Call.{Call}
-use Rattle.kube_model.specs.declared.call.Call.TheVariants.{List as ListCall, Watch, Next, Stream}
-use Rattle.kube_model.specs.declared.call.Answer.{Answer}
-use Rattle.kube_model.specs.declared.call.Answer.TheVariants.{NotReady, Idle, Item}
-use Rattle.kube_model.specs.World.{World, Settings, Watched, feed_of, window_of}
+use Rattle.kube_model.specs.World.{World, Settings, Streamed, Watched, feed_of, window_of}
 use Rattle.kube_model.specs.History.{Exchange, Dated, dated_of, exchanges_of}
 use Rattle.kube_model.specs.Owed.{is_next, mark, owed}
-use Rattle.kube_model.specs.Fits.{ErrorFits, IsAnswered, IsFitting, IsOfRoot, IsOfSource, error_of, idle_fits, is_window_over, requests_of_watch, silent_since}
-use Rattle.kube_model.specs.Raw.{Raw, RawAnswer, NextAsked, Waits, Fails, GivesPage, Opens, GivesAdded, GivesModified, GivesDeleted, GivesBookmark, GivesError, Ends}
-use Rattle.kube_model.specs.Recorded.{AsItCame, IsAnsweredBy, IsRecorded, PastItsWindow, answer_of, raw_call}
+use Rattle.kube_model.specs.Fits.{ErrorFits, IsAnswered, IsFitting, IsOfRoot, IsOfSource, idle_fits, is_window_over, requests_of_watch, silent_since}
+use Rattle.kube_model.specs.Raw.{Raw}
+use Rattle.kube_model.specs.Recorded.{IsRecorded, raw_call}
 use Rattle.kube_model.proofs.SameExchanges.{requests-same, error-same}
 use Rattle.kube_watch.specs.Configs.{settings_of}
 use Rattle.kube_watch.specs.Stands.{api_of}
 use Rattle.kube_watch.specs.Polls.{Api}
 use Rattle.kube_asks.specs.Asking.{IsPolledAt}
 use Rattle.kube_asks.specs.Roots.{IsRootPoll, RootWatching}
-use Rattle.kube_control.specs.Determined.{HaveSameApi, IsOneWay}
+use Rattle.kube_asks.specs.declared.set.RelatedSet as related_set
+use Rattle.kube_asks.specs.Determined.{AreDetermined, IsOneWay, IsOwedNext}
+use Rattle.kube_asks.specs.Sources.{fed, feed_at}
+use Rattle.kube_asks.proofs.OneExchange.{answer-same, error-is, next-call}
+use Rattle.kube_control.specs.Determined.{HaveSameApi}
 use Rattle.kube_control.proofs.Determined.{ArePollsDetermined}
-
--- Answers.
-
-module _ {O : Type 0} (version : O → Option (List ℕ)) where
-  no-item : (a : RawAnswer O) → Item ≡ answer_of version a → ⊥
-  no-item Waits e = absurd (cc)
-  no-item (Fails error) e = absurd (cc)
-  no-item (GivesPage items token v) e = absurd (cc)
-  no-item Opens e = absurd (cc)
-  no-item (GivesAdded o) e = absurd (cc)
-  no-item (GivesModified o) e = absurd (cc)
-  no-item (GivesDeleted o) e = absurd (cc)
-  no-item (GivesBookmark v annotations) e = absurd (cc)
-  no-item (GivesError status) e = absurd (cc)
-  no-item Ends e = absurd (cc)
-
-  not-item : (raw : Raw O) (a : Answer) → IsAnsweredBy version raw a → a ≡ Item → ⊥
-  not-item raw a (AsItCame e) i = no-item raw.answer (sym i ∙ e)
-  not-item raw a (PastItsWindow c w e) i = absurd (cc)
-
-  over-both : (over : Bool) → IsTrue (idle_fits over NotReady) → IsTrue (idle_fits over Idle) → ⊥
-  over-both true h k = absurd (cc)
-  over-both false h k = absurd (cc)
-
-  waits-idle : (raw : Raw O) (over : Bool) (a b : Answer) → a ≡ answer_of version raw.answer → raw.answer ≡ Waits → b ≡ Idle → IsTrue (idle_fits over a) → IsTrue (idle_fits over b) → ⊥
-  waits-idle raw over a b e w f h k =
-      over-both over (subst (λ z. IsTrue (idle_fits over z)) (e ∙ ap (answer_of version) w) h) (subst (λ z. IsTrue (idle_fits over z)) f k)
-
-  answer-same : (raw : Raw O) (over : Bool) (a b : Answer) → IsAnsweredBy version raw a → IsAnsweredBy version raw b
-      → (raw.call ≡ NextAsked → IsTrue (idle_fits over a)) → (raw.call ≡ NextAsked → IsTrue (idle_fits over b)) → a ≡ b
-  answer-same raw over a b (AsItCame e) (AsItCame f) h k = e ∙ sym f
-  answer-same raw over a b (AsItCame e) (PastItsWindow c w f) h k = absurd (waits-idle raw over a b e w f (h c) (k c))
-  answer-same raw over a b (PastItsWindow c w f) (AsItCame e) h k = absurd (waits-idle raw over b a e w f (k c) (h c))
-  answer-same raw over a b (PastItsWindow c w e) (PastItsWindow d v f) h k = e ∙ sym f
-
-next-call : (settings : Settings) (c : Call) → raw_call settings c ≡ Some NextAsked → is_next c ≡ true
-next-call settings (ListCall token) e = absurd (cc)
-next-call settings (Watch version initial) e = absurd (cc)
-next-call settings Next e = refl
-next-call settings Stream e = absurd (cc)
-
--- Exchanges.
 
 module _ {O B : Type 0} (w : World O B) (settings : Settings) (watched : feed_of w 0 ≡ Watched settings) (version : O → Option (List ℕ)) where
   abbrev over_at : List (Dated O) → ℕ → Bool
@@ -85,10 +43,6 @@ module _ {O B : Type 0} (w : World O B) (settings : Settings) (watched : feed_of
     requests = (subst (λ feed. IsOfRoot w feed (exchanges_of 0 ds) x) watched (subst (λ s. IsOfSource w s (exchanges_of s ds) x) root f.content)).requests;
   }
 
-  error-is : (ds : List (Dated O)) (x : Exchange O) (raw : Raw O) → IsRecorded version settings raw x → ErrorFits (mark (exchanges_of 0 ds) x) → x.error ≡ error_of (mark (exchanges_of 0 ds) x)
-  error-is ds x raw r (inl i) = absurd (not-item version raw x.answer r.answer i)
-  error-is ds x raw r (inr e) = e
-
   -- one raw form has one exchange
   same-exchange : (ds : List (Dated O)) (at : ℕ) (x y : Exchange O) (raw : Raw O) → FitsRoot ds at x → FitsRoot ds at y → IsRecorded version settings raw x → IsRecorded version settings raw y → x ≡ y
   same-exchange ds at x y raw f g r q =
@@ -98,7 +52,7 @@ module _ {O B : Type 0} (w : World O B) (settings : Settings) (watched : feed_of
       answer-same version raw (over_at ds at) x.answer y.answer r.answer q.answer (λ n. f.idle (next-call settings x.call (r.call ∙ ap Some n))) (λ n. g.idle (next-call settings y.call (q.call ∙ ap Some n))) in
       let items : x.items ≡ y.items = r.items ∙ sym q.items in
       let requests : x.requests ≡ y.requests = f.requests ∙ requests-same x y call answer items w own ∙ sym g.requests in
-      let error : x.error ≡ y.error = error-is ds x raw r f.error ∙ error-same x y call answer items own ∙ sym (error-is ds y raw q g.error) in
+      let error : x.error ≡ y.error = error-is version (mark own x) raw r.answer f.error ∙ error-same x y call answer items own ∙ sym (error-is version (mark own y) raw q.answer g.error) in
       λ i. record {
         source = (f.source ∙ sym g.source) i;
         call = call i;
@@ -108,12 +62,16 @@ module _ {O B : Type 0} (w : World O B) (settings : Settings) (watched : feed_of
         error = error i;
       }
 
-  module _ {A S : Type 0} (meta : O → ObjectMeta) (api : Api A O) (same-version : api.version ≡ version) (one-way : IsOneWay api.moves) (no_related : S → ℕ → List (Dated O) → ℕ → Exchange O → S → Type 0) (none : (s s' : S) (place : ℕ) (ds : List (Dated O)) (at : ℕ) (x : Exchange O) → no_related s place ds at x s' → ⊥) where
+  module _ {A S D : Type 0} (meta : O → ObjectMeta) (api : Api A O) (same-version : api.version ≡ version) (one-way : IsOneWay api.moves) (set : related_set.Ghosts S O D) (set-determined : AreDetermined set) where
     abbrev Root : Type 0
     Root = RootWatching A O
 
     abbrev polls : Root → List (Dated O) → ℕ → Exchange O → Root → Type 0
     polls old own now x new = IsRootPoll meta api own now old x new
+
+    -- sets that are asked alike, and are those of this world
+    abbrev AreSetsAlike : S → S → Type 0
+    AreSetsAlike s u = set.alike s u × (w.feeds ≡ Watched settings ∷ map fed (set.feeds s))
 
     root-same : (before : List (Dated O)) (at : ℕ) (x y : Exchange O) (r r' q q' : Root) → x.source ≡ 0 → y.source ≡ 0 → HaveSameApi settings r q → IsFitting w before at x → IsFitting w before at y
         → polls r (dated_of 0 before) at x r' → polls q (dated_of 0 before) at y q' → (x ≡ y) × HaveSameApi settings r' q'
@@ -132,10 +90,26 @@ module _ {O B : Type 0} (w : World O B) (settings : Settings) (watched : feed_of
           },
         )
 
-    pub determined : ArePollsDetermined w polls no_related (HaveSameApi settings) (λ s u. Unit {0})
-    determined before at x y r r' q q' s s' u u' alike both fx fy source p z = go x.source refl y.source refl p z
+    -- what fits of a related source
+    fits-related : (s : S) (place : ℕ) (before : List (Dated O)) (at : ℕ) (x : Exchange O) → w.feeds ≡ Watched settings ∷ map fed (set.feeds s) → x.source ≡ suc place → IsFitting w before at x
+        → IsOwedNext (feed_at (set.feeds s) place) (dated_of (suc place) before) at x
+    fits-related s place before at x feeds source f =
+        let here : feed_of w x.source ≡ feed_at (set.feeds s) place = ap (feed_of w) source ∙ ap (λ fs. unwrap_or (slice_get fs (suc place)) Streamed) feeds in
+        record {
+          owes = f.owes ∙ ap₂ (λ feed n. owed feed (exchanges_of n before)) here source;
+          idle =
+              subst (λ feed. IsTrue (is_next x.call) → IsTrue (idle_fits (is_window_over (window_of feed) (silent_since (dated_of (suc place) before)) at) x.answer)) here
+              (subst (λ n. IsTrue (is_next x.call) → IsTrue (idle_fits (is_window_over (window_of (feed_of w x.source)) (silent_since (dated_of n before)) at) x.answer)) source f.idle);
+          answer = subst (λ n. IsAnswered (exchanges_of n before) x) source f.answer;
+        }
+
+    pub determined : ArePollsDetermined w polls set.polls (HaveSameApi settings) AreSetsAlike
+    determined before at x y r r' q q' s s' u u' alike both fx fy source p z = go x.source refl (subst (IsPolledAt polls set.polls before at y q u q' u') (sym source) z) p
       where
-        go : (a : ℕ) → x.source ≡ a → (b : ℕ) → y.source ≡ b → IsPolledAt polls no_related before at x r s r' s' a → IsPolledAt polls no_related before at y q u q' u' b → (x ≡ y) × HaveSameApi settings r' q' × Unit {0}
-        go zero ex zero ey k l = let same = root-same before at x y r r' q q' ex ey alike fx fy k.0 l.0 in (same.0, same.1, tt)
-        go (suc place) ex b ey k l = absurd (none s s' place (dated_of (suc place) before) at x k.0)
-        go zero ex (suc place) ey k l = absurd (none u u' place (dated_of (suc place) before) at y l.0)
+        go : (a : ℕ) → x.source ≡ a → IsPolledAt polls set.polls before at y q u q' u' a → IsPolledAt polls set.polls before at x r s r' s' a → (x ≡ y) × HaveSameApi settings r' q' × AreSetsAlike s' u'
+        go zero ex l k =
+            let same = root-same before at x y r r' q q' ex (sym source ∙ ex) alike fx fy k.0 l.0 in
+            (same.0, same.1, (subst (λ v. set.alike v u') (sym k.1) (subst (set.alike s) (sym l.1) both.0), both.1 ∙ ap (λ v. Watched settings ∷ map fed (set.feeds v)) (sym k.1)))
+        go (suc place) ex l k =
+            let same = set-determined.same s u s' u' place (dated_of (suc place) before) at x y both.0 (fits-related s place before at x both.1 ex fx) (fits-related s place before at y both.1 (sym source ∙ ex) fy) source k.0 l.0 in
+            (same.0, subst (λ v. HaveSameApi settings v q') (sym k.1) (subst (HaveSameApi settings r) (sym l.1) alike), (same.1, both.1 ∙ ap (λ fs. Watched settings ∷ map fed fs) (sym same.2)))

@@ -6,6 +6,7 @@ use kube_meta::{Moment, Resource};
 use std::marker::Model;
 
 pub mod build;
+pub mod related;
 pub mod run;
 mod turns;
 

@@ -10,7 +10,10 @@ mod tests;
 
 pub use controller::Controller;
 pub use error::RunError;
-pub use kube_asks::{AskFault, Asks, Backoff, NoRelated, RelatedSet, RootSource, WatchRoot};
+pub use kube_asks::{
+    AskFault, Asks, Backoff, Beside, ByFunction, ByLabel, Mapper, NoRelated, One, Owners, Related,
+    RelatedList, RelatedSet, RelatedWatch, RootSource, WatchRoot,
+};
 pub use kube_core::Core;
 pub use kube_meta::Action;
 pub use kube_model::call::{Answer, Call};
@@ -19,6 +22,11 @@ pub use kube_model::reason::ReconcileReason;
 pub use kube_model::turn::{Shutdown, Stop};
 pub use kube_step::{BadTurn, Handed, Reconciler, Recorder};
 pub use kube_streams::DefaultBackoff;
+pub use kube_trigger::{
+    TriggerOthers, TriggerOwners, TriggerSelf, TriggerWith, trigger_others, trigger_owners,
+    trigger_owners_shared, trigger_self, trigger_with,
+};
+pub use kube_turn::error::Error;
 pub use kube_turn::{
     Config, Finish, Finished, ReconcileRequest, SourceExchange, Taken, Trace, Turn, TurnRecord,
     exchange, record, request, turn,

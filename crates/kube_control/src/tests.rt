@@ -2,6 +2,7 @@
 
 mod node;
 mod parts;
+mod related;
 mod rows;
 mod script;
 mod shown;
