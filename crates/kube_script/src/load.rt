@@ -8,11 +8,11 @@ use crate::script::Script;
 use kube_meta::{ObjectFault, Text};
 use serde_json::Value;
 use std::alloc::Global;
-use std::str;
 
 /// Why bytes are no script. Places are JSON Pointers (RFC 6901).
 #[derive(Debug, Drop)]
 pub enum LoadError {
+    /// Memory could not be had.
     NoMemory,
     /// They are more than 16,777,216.
     TooLong,
@@ -24,18 +24,20 @@ pub enum LoadError {
     Fraction(Text),
 }
 
-/// The script that bytes are.
-#[tactic(auto, using(crate::proofs::Utf8::is_text, crate::proofs::Utf8::not_utf8), unfolding(crate::specs::Whole::script_of))]
+/// The script that bytes are: one JSON text (RFC 8259) by `serde_json`'s reading, of the form that `specs/Script.antt` says.
+///
+/// # Errors
+///
+/// Each variant of `LoadError` where it says, the first in their order: length, text, and then the first fault in the order
+/// of the tables. `NoMemory` may come anywhere.
+#[tactic(auto, using(crate::proofs::Utf8::is_text, crate::proofs::Utf8::no_text), unfolding(crate::specs::Whole::script_of))]
 pub fn script(alloc: Global, bytes: &[u8]) -> Result<Script, LoadError>
     ensures { Answers result (script_of bytes.now) }
 {
     if bytes.len() > 16_777_216 {
         return Err(LoadError::TooLong);
     }
-    let Ok(text) = str::from_utf8(bytes) else {
-        return Err(LoadError::Syntax);
-    };
-    let value = match Value::from_str(alloc, text) {
+    let value = match Value::from_slice(alloc, bytes) {
         Ok(value) => value,
         Err(error) if error.is_memory() => return Err(LoadError::NoMemory),
         Err(_) => return Err(LoadError::Syntax),

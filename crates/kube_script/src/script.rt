@@ -9,7 +9,7 @@ ghost use Rattle.std.specs.Str.{bytes_eq};
 
 use crate::fault::misshapen;
 use crate::owned::{OwnedRow, list_out, member_out};
-use crate::row::{Row, default_member, is_object, list_member, maybe_member, member};
+use crate::row::{Row, default_member, is_object, maybe_member, member};
 use crate::settings::BackoffRow;
 use crate::source::Listed;
 use crate::turn::TurnRow;
@@ -65,6 +65,31 @@ pub fn two_members(value: Value, first: &str, second: &str) -> (Option<Value>, O
             (one, other)
         }
         _ => (None, None),
+    }
+}
+
+/// The values of three members of different names.
+#[tactic(auto, using(crate::proofs::Members::removed, crate::proofs::Members::get_other, crate::proofs::Members::looked_up))]
+fn three_members(
+    value: Value,
+    first: &str,
+    second: &str,
+    third: &str,
+) -> (Option<Value>, Option<Value>, Option<Value>)
+    requires second { bytes_eq second.now first.now ≡ false }
+    requires third { (bytes_eq third.now first.now ≡ false) × (bytes_eq third.now second.now ≡ false) }
+    ensures one { option_map view result.0 ≡ get first.now (view value) }
+    ensures other { option_map view result.1 ≡ get second.now (view value) }
+    ensures last { option_map view result.2 ≡ get third.now (view value) }
+{
+    match value {
+        Value::Object(mut members) => {
+            let one = members.remove(first);
+            let other = members.remove(second);
+            let last = members.remove(third);
+            (one, other, last)
+        }
+        _ => (None, None, None),
     }
 }
 
@@ -157,12 +182,10 @@ impl OwnedRow for Script {
         let backoff = default_member(alloc, &value, "backoff", BackoffRow::ByDefault)?;
         let error_requeue = maybe_member(alloc, &value, "error_requeue")?;
 
-        // The sources are moved out after them, but their faults come first.
-        let turns = list_member(alloc, &value, "turns");
-        let (root, related) = two_members(value, "root", "related");
+        let (root, related, turns) = three_members(value, "root", "related", "turns");
         let root = member_out(alloc, root, "root")?;
         let related = list_out(alloc, related, "related")?;
-        let turns = turns?;
+        let turns = list_out(alloc, turns, "turns")?;
         Ok(Script {
             kind,
             config,

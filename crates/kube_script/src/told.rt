@@ -37,7 +37,9 @@ pub fn action(requeue: Option<u64>) -> Action
 
 /// The reference to an object of this kind.
 ///
-/// Errors: `NoMemory`.
+/// # Errors
+///
+/// `NoMemory`.
 pub fn script_reference(
     alloc: Global,
     kind: &Arc<ApiResource>,
@@ -112,7 +114,9 @@ fn finishes(
 
 /// The turn that a row tells to a controller of objects of this kind.
 ///
-/// Errors: `NoMemory`.
+/// # Errors
+///
+/// `NoMemory`.
 pub fn script_turn(
     alloc: Global,
     kind: &Arc<ApiResource>,
@@ -145,7 +149,9 @@ pub fn script_turn(
 
 /// The turns that rows tell to a controller of objects of this kind, in order.
 ///
-/// Errors: `NoMemory`.
+/// # Errors
+///
+/// `NoMemory`.
 pub fn script_turns(
     alloc: Global,
     kind: &Arc<ApiResource>,

@@ -7,6 +7,7 @@ ghost use Rattle.kube_script.specs.Script.{Ref as ref_record, ref_at, Finish as 
 ghost use Rattle.kube_script.specs.SeenTurn.{seen_ref, seen_finish, seen_outcome, seen_turn};
 
 use crate::fault::misshapen;
+use crate::owned::OwnedRow;
 use crate::row::{Row, default_member, is_object, list_member, maybe_member, member};
 use kube_meta::{ObjectFault, Text};
 use kube_model::turn::Shutdown;
@@ -130,5 +131,18 @@ impl Row for TurnRow {
             shutdown,
             show,
         })
+    }
+}
+
+/// Each turn's value is let go as it is read.
+impl OwnedRow for TurnRow {
+    ghost Seen = { turn_record };
+
+    ghost seen = { seen_turn };
+
+    ghost reads = { turn_at };
+
+    fn read(alloc: Global, value: Value) -> Result<TurnRow, ObjectFault> {
+        Row::read(alloc, &value)
     }
 }
