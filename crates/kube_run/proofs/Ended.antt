@@ -1,24 +1,22 @@
 -- What a run of a script's controller answers where a turn ends it, from what the run of a controller promises.
-use Rattle.std.proofs.Common.{◌≡◌, ℕ, zero, suc, ◌+◌, ◌≤◌, false, true, List, [], ◌∷◌, ◌++◌, map, take, length, slice_get, Option, Some, None, refl, sym, ap, ap₂, subst, ◌∙◌, arith}
+use Rattle.std.proofs.Common.{◌≡◌, ℕ, zero, suc, ◌≤◌, false, List, [], ◌∷◌, ◌++◌, map, take, length, slice_get, Some, refl, sym, ap, subst, ◌∙◌, arith}
 use Rattle.std.proofs.lemmas.List.{length-map}
 use Rattle.kube_meta.specs.Reading.{ObjectData}
 use Rattle.kube_meta.specs.declared.action.Action.{Action}
 use Rattle.kube_model.specs.History.{Dated, Exchange, Step, Turn, TurnRecord, dated, dated_of, exchanges_of, exchanges_with}
 use Rattle.kube_model.specs.Named.{AreNamedTurns, EachIsNamed, IsOwedForm, IsUnnamedAt, OfCall, RootIsNamed}
-use Rattle.kube_model.specs.Traces.{EachIsNext, IsRefusedAfter, IsTrace, IsValid, Refusal, has_ended, step, steps, unread}
+use Rattle.kube_model.specs.Traces.{EachIsNext, IsRefusedAfter, IsTrace, IsValid, Refusal, has_ended, steps, unread}
 use Rattle.kube_model.specs.Turns.{next_source}
 use Rattle.kube_model.specs.World.{Watched}
-use Rattle.kube_api.specs.TestScript as api
 use Rattle.kube_asks.specs.Asking.{IsBrokenAt}
 use Rattle.kube_asks.specs.Roots.{IsRootBroken, RootStands}
 use Rattle.kube_asks.specs.declared.sets.NoRelated.{NoRelated}
-use Rattle.kube_object.specs.Named.{Named, named_type}
+use Rattle.kube_object.specs.Named.{named_type}
 use Rattle.kube_script.specs.Script.{Script}
 use Rattle.kube_script.specs.Told.{api_at_first}
 use Rattle.kube_step.specs.Calls.{ArePolled, dated_in}
 use Rattle.kube_step.specs.Policies.{answered_by}
 use Rattle.kube_text.specs.TraceText.{lines_of}
-use Rattle.kube_text.specs.TraceView.{seen_records}
 use Rattle.kube_turn.specs.Records.{records_of, record_of, turn_of, turns_of}
 use Rattle.kube_watch.specs.Configs.{settings_of}
 use Rattle.kube_watch.specs.Stands.{api_of, settings_in}

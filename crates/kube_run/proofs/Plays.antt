@@ -1,5 +1,5 @@
 -- What a run of a script's controller answers, part by part.
-use Rattle.std.proofs.Common.{◌≡◌, List, ℕ, Result, Ok, Err, IfOk, IfErr}
+use Rattle.std.proofs.Common.{List, ℕ, Result, Ok, Err, IfOk, IfErr}
 use Rattle.kube_meta.specs.Reading.{ObjectData}
 use Rattle.kube_object.specs.Named.{Named, named_type}
 use Rattle.kube_script.specs.Script.{Script}

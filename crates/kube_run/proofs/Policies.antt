@@ -1,21 +1,21 @@
 -- The trace of a script's turns, from what a run of its controller promises: what the error policy answered is the script's requeue, and the lines are those of the records.
-use Rattle.std.proofs.Common.{◌≡◌, ℕ, ◌+◌, ◌≤◌, List, [], ◌∷◌, ◌++◌, Option, Some, None, Result, Ok, Err, map, option_map, length, refl, sym, ap, ap₂, ◌∙◌, arith}
+use Rattle.std.proofs.Common.{◌≡◌, ℕ, ◌+◌, ◌≤◌, List, [], ◌∷◌, ◌++◌, Option, Some, None, Result, Ok, Err, map, option_map, length, refl, ap, ap₂, ◌∙◌, arith}
 use Rattle.std.specs.Arc.{arc_value}
-use Rattle.std.specs.List.{AllZip, filter_map}
+use Rattle.std.specs.List.{filter_map}
 use Rattle.std.specs.declared.sync.Arc.{Arc}
 use Rattle.std.specs.declared.alloc.Global.{Global}
 use Rattle.std.proofs.lemmas.List.{map-id}
 use Rattle.kube_meta.specs.Keys.{reference_of}
 use Rattle.kube_meta.specs.Reading.{ObjectData}
 use Rattle.kube_meta.specs.declared.action.Action.{Action}
-use Rattle.kube_model.specs.History.{Outcome, Step, TurnRecord}
+use Rattle.kube_model.specs.History.{Step}
 use Rattle.kube_model.specs.Takes.{Running, running}
-use Rattle.kube_model.specs.Traces.{AreFinishesOf, IsActionOf, IsFinishOf, IsRecord, IsRefusedAfter, IsTrace, Refusal, handed_over, step, unread}
+use Rattle.kube_model.specs.Traces.{AreFinishesOf, IsActionOf, IsRecord, IsRefusedAfter, IsTrace, Refusal, handed_over, step, unread}
 use Rattle.kube_model.specs.World.{World}
 use Rattle.kube_object.specs.Named.{Named, named_type}
 use Rattle.kube_script.specs.Told.{fault_text}
 use Rattle.kube_script.specs.declared.backoff.ScriptBackoff.{ScriptBackoff}
-use Rattle.kube_step.specs.Finishes.{AreFinished, IsActionFor, IsFinished}
+use Rattle.kube_step.specs.Finishes.{AreFinished, IsActionFor}
 use Rattle.kube_text.specs.TraceText.{line_of, lines_of, shown_finishes}
 use Rattle.kube_text.specs.TraceView.{error_text, seen_finish, seen_record, seen_records}
 use Rattle.kube_turn.specs.Records.{finish_of, finished_of, outcome_of, record_of, records_of, turn_of, turns_of}

@@ -1,5 +1,5 @@
 -- The exchanges of a script's controller are answered by the script, where its root was asked so.
-use Rattle.std.proofs.Common.{◌≡◌, ℕ, zero, suc, List, [], ◌∷◌, ◌++◌, Some, refl, sym, ap, subst, ◌∙◌}
+use Rattle.std.proofs.Common.{◌≡◌, ℕ, zero, suc, List, [], ◌∷◌, ◌++◌, Some, ap, subst, ◌∙◌}
 use Rattle.kube_api.specs.TestScript as api
 use Rattle.kube_asks.specs.Asking.{IsPolledAt}
 use Rattle.kube_asks.specs.Roots.{IsRootPoll, RootWatching}

@@ -3,7 +3,7 @@
 ghost use Rattle.std.specs.Prelude.{◌≡◌, ◌+◌, ◌≤◌, ◌⊎◌, ◌≢◌, ◌++◌, false, map, string_bytes, Result, length, [], List};
 ghost use Rattle.std.specs.Io.KnownBytes.{IsAtEnd};
 ghost use Rattle.kube_step.specs.Errors.{refusal_of as refusal_of_turn};
-ghost use Rattle.kube_script.specs.Loaded.{Refuses};
+ghost use Rattle.kube_script.specs.Loaded.{Answers, Refuses};
 ghost use Rattle.kube_script.specs.Script.{Script as script_data};
 ghost use Rattle.kube_script.specs.SeenScript.{seen_script};
 ghost use Rattle.kube_script.specs.Whole.{Cause, script_of};
@@ -60,18 +60,25 @@ pub fn run_program<S: Source, W: Sink>(
             return refuse(alloc, &Refusal::TooLong, Status::BadScript, sink);
         }
     };
-    run_bytes(alloc, &bytes, sink)
+    run_bytes(alloc, bytes, sink)
 }
 
 /// Runs a controller by the script that bytes are, or says why they are none.
-fn run_bytes<W: Sink>(alloc: Global, bytes: &[u8], sink: &mut W) -> Status
-    ensures runs { RunsFor result (script_of bytes.now) (W.written sink.old) (W.written sink.new) }
+fn run_bytes<W: Sink>(alloc: Global, bytes: Vec<u8>, sink: &mut W) -> Status
+    ensures runs { RunsFor result (script_of bytes.items) (W.written sink.old) (W.written sink.new) }
     ensures fault { result ≡ Status.WriteFault → Rose (W.faults sink.old) (W.faults sink.new) }
 {
-    match script(alloc, bytes) {
+    match load(alloc, bytes) {
         Ok(script) => run_script(alloc, script, sink),
         Err(error) => refuse_script(alloc, error, sink),
     }
+}
+
+/// The script that bytes are. They are let go before it runs.
+fn load(alloc: Global, bytes: Vec<u8>) -> Result<Script, LoadError>
+    ensures { Answers result (script_of bytes.items) }
+{
+    script(alloc, &bytes)
 }
 
 /// Whether the words are the one command.

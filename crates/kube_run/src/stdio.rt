@@ -8,6 +8,9 @@ use crate::sink::Sink;
 use crate::source::Source;
 use std::io::{ErrorKind, Read, Stdin, Stdout, Write};
 
+#[cfg(test)]
+mod tests;
+
 /// Standard input. It doesn't tell what is left. A read that a signal interrupted is tried again.
 #[derive(Drop)]
 pub struct StandardInput {
@@ -39,11 +42,11 @@ impl Source for StandardInput {
 }
 
 /// Reads, and does so again where a signal interrupted it.
-fn read_again(stdin: &mut Stdin, buf: &mut [u8]) -> Result<usize, Failed>
+fn read_again<R: Read>(input: &mut R, buf: &mut [u8]) -> Result<usize, Failed>
     ensures { ReadsAtMost result buf.new }
 {
     for _ in 0..u64::MAX {
-        match stdin.read(buf) {
+        match input.read(buf) {
             Ok(count) => return Ok(count),
             Err(error) if error.kind() == ErrorKind::Interrupted => {}
             Err(_) => return Err(Failed),
@@ -83,12 +86,12 @@ impl Sink for StandardOutput {
 }
 
 /// Writes, and does so again where a signal interrupted it. A write of no byte where there are any is a fault.
-fn write_again(stdout: &mut Stdout, bytes: &[u8]) -> Result<usize, Failed>
+fn write_again<W: Write>(output: &mut W, bytes: &[u8]) -> Result<usize, Failed>
     ensures bound { WritesAtMost result bytes.now }
     ensures some { IfOk result (λ n. 0 < length bytes.now → 0 < n) }
 {
     for _ in 0..u64::MAX {
-        match stdout.write(bytes) {
+        match output.write(bytes) {
             Ok(count) if count > 0 || bytes.is_empty() => return Ok(count),
             Err(error) if error.kind() == ErrorKind::Interrupted => {}
             _ => return Err(Failed),

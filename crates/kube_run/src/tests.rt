@@ -1,6 +1,7 @@
 //! Worked scripts, and what no clause says.
 
 mod objects;
+mod texts;
 
 use crate::input::{Unread, read_all};
 use crate::output::write_all;
@@ -158,6 +159,23 @@ const ROWS: &str = r#"= 0 run
 = 0 run
 {"kind":{"group":"","version":"v1","kind":"ConfigMap","plural":"configmaps"},"root":{"lists":[{"items":[{"metadata":{"name":"a","resourceVersion":"1"}}],"metadata":{"resourceVersion":"1"}}],"watches":[[{"events":[{"type":"FAULT","fault":{"transport":"third"}}]},{"wait":1000000000}]]},"turns":[{"at":0,"budget":[3],"show":true}]}
 {"asks":[{"answer":"page","call":"list","from":null,"items":[{"metadata":{"name":"a","resourceVersion":"1"}}],"requests":["ConfigMap.v1./a"],"source":0,"token":null,"version":"1"},{"answer":"opened","call":"watch","from":"1","initial":false,"items":[],"requests":[],"source":0},{"answer":"fault","call":"next","error":"WatchFailed","items":[],"requests":[],"source":0,"text":"third"}],"at":0,"ended":false,"finished":[],"stops":["budget"],"store":[{"metadata":{"name":"a","resourceVersion":"1"}}],"taken":[{"found":true,"object":{"metadata":{"name":"a","resourceVersion":"1"}},"reason":"object updated","ref":"ConfigMap.v1./a"}],"turn":0}
+= 0 run
+{"kind":{"group":"","version":"v1","kind":"ConfigMap","plural":"configmaps"},"config":{"debounce":3000000000},"root":{"lists":[{"items":[{"metadata":{"name":"a","resourceVersion":"1"}}],"metadata":{"resourceVersion":"1"}}],"watches":[[{"wait":1000000000000}]]},"turns":[{"at":0,"budget":[1]},{"at":1000000000,"budget":[0],"on":[{"name":"a"}]},{"at":3500000000,"budget":[0]},{"at":4000000000,"budget":[0]}]}
+{"asks":[{"answer":"page","call":"list","from":null,"items":[{"metadata":{"name":"a","resourceVersion":"1"}}],"requests":["ConfigMap.v1./a"],"source":0,"token":null,"version":"1"}],"at":0,"ended":false,"finished":[],"stops":["budget"],"taken":[],"turn":0}
+{"asks":[],"at":1000000000,"ended":false,"finished":[],"stops":["budget"],"taken":[],"turn":1}
+{"asks":[],"at":3500000000,"ended":false,"finished":[],"stops":["budget"],"taken":[],"turn":2}
+{"asks":[],"at":4000000000,"ended":false,"finished":[],"stops":["budget"],"taken":[{"found":true,"object":{"metadata":{"name":"a","resourceVersion":"1"}},"reason":"unknown","ref":"ConfigMap.v1./a"}],"turn":3}
+= 0 run
+{"kind":{"group":"","version":"v1","kind":"ConfigMap","plural":"configmaps"},"config":{"debounce":3000000000},"root":{"lists":[{"items":[{"metadata":{"name":"a","resourceVersion":"1"}}],"metadata":{"resourceVersion":"1"}}],"watches":[[{"wait":1000000000000}]]},"turns":[{"at":0,"budget":[1]},{"at":3000000000,"budget":[0],"on":[{"name":"a"}]},{"at":5999999999,"budget":[0]},{"at":6000000000,"budget":[0]}]}
+{"asks":[{"answer":"page","call":"list","from":null,"items":[{"metadata":{"name":"a","resourceVersion":"1"}}],"requests":["ConfigMap.v1./a"],"source":0,"token":null,"version":"1"}],"at":0,"ended":false,"finished":[],"stops":["budget"],"taken":[],"turn":0}
+{"asks":[],"at":3000000000,"ended":false,"finished":[],"stops":["budget"],"taken":[],"turn":1}
+{"asks":[],"at":5999999999,"ended":false,"finished":[],"stops":["budget"],"taken":[],"turn":2}
+{"asks":[],"at":6000000000,"ended":false,"finished":[],"stops":["budget"],"taken":[{"found":true,"object":{"metadata":{"name":"a","resourceVersion":"1"}},"reason":"unknown","ref":"ConfigMap.v1./a"}],"turn":3}
+= 0 run
+{"kind":{"group":"","version":"v1","kind":"ConfigMap","plural":"configmaps"},"root":{"lists":[{"items":[{"metadata":{"name":"a","resourceVersion":"1"}}],"metadata":{"resourceVersion":"1"}},{"items":[{"metadata":{"name":"b","resourceVersion":"7"}}],"metadata":{"resourceVersion":"1"}}],"watches":[[{"events":[{"type":"ERROR","object":{"code":410}}]}],[{"wait":1000000000000}]]},"turns":[{"at":0,"budget":[3],"show":true},{"at":1000000000,"budget":[2],"on":[{"name":"a"}],"show":true},{"at":1000000001,"budget":[0],"finishes":[{"ref":{"name":"a"}}]}]}
+{"asks":[{"answer":"page","call":"list","from":null,"items":[{"metadata":{"name":"a","resourceVersion":"1"}}],"requests":["ConfigMap.v1./a"],"source":0,"token":null,"version":"1"},{"answer":"opened","call":"watch","from":"1","initial":false,"items":[],"requests":[],"source":0},{"answer":"error","call":"next","code":410,"error":"WatchError","items":[],"requests":[],"source":0}],"at":0,"ended":false,"finished":[],"stops":["budget"],"store":[{"metadata":{"name":"a","resourceVersion":"1"}}],"taken":[{"found":true,"object":{"metadata":{"name":"a","resourceVersion":"1"}},"reason":"object updated","ref":"ConfigMap.v1./a"}],"turn":0}
+{"asks":[{"answer":"page","call":"list","from":null,"items":[{"metadata":{"name":"b","resourceVersion":"7"}}],"requests":["ConfigMap.v1./b"],"source":0,"token":null,"version":"1"},{"answer":"opened","call":"watch","from":"1","initial":false,"items":[],"requests":[],"source":0}],"at":1000000000,"ended":false,"finished":[],"stops":["budget"],"store":[{"metadata":{"name":"b","resourceVersion":"7"}}],"taken":[{"found":true,"object":{"metadata":{"name":"b","resourceVersion":"7"}},"reason":"object updated","ref":"ConfigMap.v1./b"}],"turn":1}
+{"asks":[],"at":1000000001,"ended":false,"finished":[{"error":null,"ref":"ConfigMap.v1./a","requeue":null}],"stops":["budget"],"taken":[{"found":false,"reason":"unknown","ref":"ConfigMap.v1./a"}],"turn":2}
 = 4 run
 {"kind":{"group":"","version":"v1","kind":"ConfigMap","plural":"configmaps"},"root":{},"related":[{"kind":{"group":"","version":"v1","kind":"Pod","plural":"pods"},"map":"owners"}],"turns":[{"at":0}]}
 {"error":"not built"}
@@ -251,7 +269,7 @@ fn writes_what_the_rows_say(rt: HostRuntime) -> Result<(), Fail> {
         runs_as_said(&rt, row)?;
         count = count.saturating_add(1);
     }
-    assert_eq!(rt; count, 41);
+    assert_eq!(rt; count, 44);
     Ok(())
 }
 

@@ -1,6 +1,4 @@
 use Rattle.std.proofs.Common.{◌≡◌, [], ◌∷◌, Some, refl, sym, ap, ◌∙◌}
-use Rattle.kube_asks.specs.Asking.{IsWorldOf}
-use Rattle.kube_control.specs.Controllers.{StandsFor}
 use Rattle.kube_meta.specs.Keys.{key_of}
 use Rattle.kube_meta.specs.Reading.{ObjectData}
 use Rattle.kube_model.specs.World.{Settings, Watched, World}

@@ -1,20 +1,16 @@
-use Rattle.std.proofs.Common.{◌≡◌, [], ◌∷◌, List, ℕ, true, false, length, map, take, refl, sym, ap, subst, ◌∙◌}
+use Rattle.std.proofs.Common.{◌≡◌, [], true, false, length, map, take, sym, ap, subst, ◌∙◌}
 use Rattle.std.proofs.lemmas.List.{length-map}
-use Rattle.kube_control.specs.Runs.{AreFinishedIn}
-use Rattle.kube_meta.specs.Reading.{ObjectData}
-use Rattle.kube_meta.specs.declared.action.Action.{Action}
 use Rattle.kube_model.specs.Named.{AreNamedTurns, RootIsNamed}
 use Rattle.kube_model.specs.Traces.{IsTrace, steps, unread}
 use Rattle.kube_object.specs.Named.{named_type}
-use Rattle.kube_script.specs.Script.{Script}
 use Rattle.kube_step.specs.Calls.{dated_in}
-use Rattle.kube_step.specs.Policies.{Answers, answered_by}
+use Rattle.kube_step.specs.Policies.{answered_by}
 use Rattle.kube_text.specs.TraceText.{lines_of}
 use Rattle.kube_turn.specs.Records.{record_of, records_of, turns_of}
 use Rattle.kube_watch.specs.Stands.{api_of}
 use Rattle.kube_run.specs.Played.{AreAnswered, script_world}
 use Rattle.kube_run.proofs.Plays.{all-ok, both, err-cases}
-use Rattle.kube_run.proofs.Policies.{faults_of, few-records, same-lines, trace-by}
+use Rattle.kube_run.proofs.Policies.{few-records, same-lines, trace-by}
 use Rattle.kube_run.proofs.Ended.{front, front-lines, refused-next, stays, unnamed-next}
 use Rattle.kube_run.proofs.Polled.{polled-answered}
 use Rattle.kube_run.proofs.play.run_turns.Goals as goal
