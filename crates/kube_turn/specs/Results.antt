@@ -27,7 +27,7 @@ pub data Came (K D E : Type 0) : Type 0 where
   Ended : (error : RunnerFault) → Came K D E
 
 module _ {K D E : Type 0} where
-  -- a result as it is held, whose references of failures are without their type of objects
+  -- a result as it is held; the references of failures are seen by their types' names
   abbrev pub came_of : Result (ObjectRef K D × Action) (Error E) → Came K D E
   came_of (Ok done) = Reconciled done.0 done.1
   came_of (Err (held.ReconcilerFailed fault reference)) = Failed fault (reference_of (λ t. resource_type (arc_value t)) reference.value) reference.value.extra
