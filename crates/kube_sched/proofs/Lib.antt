@@ -7,7 +7,13 @@ pub mod Asked
 pub mod Settles
 pub mod Takes
 pub mod Steps
+pub mod Counts
 pub mod Least
 pub mod Polls
 pub mod Futures
 pub mod Runs
+pub mod Rows
+pub mod Numbers
+pub mod Indexing
+pub mod Timetables
+pub mod Kept

@@ -233,15 +233,6 @@ module _ {M : Type 0} (same : M → M → Bool) (equiv : IsEquivalence same) whe
       )
       (c ∙ (h.comes ∙ ap (map held_of) (sym (scheduled-took same equiv s.debounce es m found))))
 
-  pub requested-waits : (s : Schedule M) (q : ScheduleRequest M) (now : Moment) → list_any (is_of same q.message) s.waiting ≡ true → s.scheduled ≡ requested_in s q now
-  requested-waits s q now k =
-      sym (ap (λ b. if b then s.scheduled else set_in same q.run_at (record { message = q.message; time = record { 0 = min (plus q.run_at.0 s.debounce) (plus now.0 longest_wait) } }) s.scheduled) k)
-
-  pub requested-comes : (s : Schedule M) (q : ScheduleRequest M) (now : Moment) → list_any (is_of same q.message) s.waiting ≡ false
-      → set_in same q.run_at (record { message = q.message; time = record { 0 = min (plus q.run_at.0 s.debounce) (plus now.0 longest_wait) } }) s.scheduled ≡ requested_in s q now
-  requested-comes s q now k =
-      sym (ap (λ b. if b then s.scheduled else set_in same q.run_at (record { message = q.message; time = record { 0 = min (plus q.run_at.0 s.debounce) (plus now.0 longest_wait) } }) s.scheduled) k)
-
 -- The first that passes.
 
 messages-waiting : {M : Type 0} (fs : List (Frozen M)) → messages (map held_of_frozen fs) ≡ map (λ f. f.entry.message) fs

@@ -1,5 +1,5 @@
 -- Lists of messages with their times.
-use Rattle.std.specs.Prelude.{ℕ, zero, suc, Bool, true, false, not, ◌&&◌, nat_le, nat_lt, List, [], ◌∷◌, ◌++◌, map, Option, Some, None, if◌then◌else◌}
+use Rattle.std.specs.Prelude.{◌≡◌, get_or, ℕ, zero, suc, Bool, true, false, not, ◌&&◌, nat_le, nat_lt, List, [], ◌∷◌, ◌++◌, map, Option, Some, None, if◌then◌else◌}
 use Rattle.std.specs.List.{list_any, filter}
 use Rattle.kube_meta.specs.declared.moment.Moment.{Moment}
 use Rattle.kube_sched.specs.declared.held.Held.{Held}
@@ -36,3 +36,17 @@ IsFirstAt passes (m ∷ ms) None = passes m false × IsFirstAt passes ms None
 IsFirstAt passes [] (Some place) = ⊥
 IsFirstAt passes (m ∷ ms) (Some zero) = passes m true
 IsFirstAt passes (m ∷ ms) (Some (suc place)) = passes m false × IsFirstAt passes ms (Some place)
+
+-- what a request for a message leaves of what is scheduled: a message that waits stays as it is
+abbrev pub requested_with : {M : Type 0} → (M → M → Bool) → Moment → Held M → List (Held M) → List (Held M) → List (Held M)
+requested_with same run_at held waiting hs = if list_any (is_of same held.message) waiting then hs else set_in same run_at held hs
+
+-- whether one of this message is scheduled for this moment or later
+abbrev pub is_later : {M : Type 0} → (M → M → Bool) → M → Moment → List (Held M) → Bool
+is_later same m run_at hs = list_any (λ h. same h.message m && nat_le run_at.0 h.time.0) hs
+
+-- the message of the one at a place
+pub record MessageAt {M : Type 0} (hs : List (Held M)) (place : ℕ) (message : M) : Type 0 where
+  pub held : Held M
+  pub is : held ≡ get_or hs place held
+  pub of : message ≡ held.message

@@ -1,17 +1,19 @@
 -- What a scheduler holds, and the events that it stands for. (Crate: `Scheduler`.)
-use Rattle.std.specs.Prelude.{◌≡◌, ℕ, ◌+◌, length, Bool, true, false, List, [], ◌∷◌, ◌++◌, map, Option, Some, None, ◌⊎◌}
+use Rattle.std.specs.Prelude.{◌≡◌, ℕ, ◌+◌, ◌-◌, length, nat_le, is_some, not, ◌&&◌, Bool, true, false, List, [], ◌∷◌, ◌++◌, map, Option, Some, None, ◌⊎◌}
 use Rattle.kube_meta.specs.declared.moment.Moment.{Moment}
 use Rattle.kube_model.specs.Queue.{QueueEvent, Requested, Settled, Took, Entry, Frozen, waiting}
 use Rattle.kube_sched.specs.declared.held.Held.{Held}
 use Rattle.kube_sched.specs.declared.request.ScheduleRequest.{ScheduleRequest}
 use Rattle.kube_sched.specs.Entries.{scheduled}
 
--- the messages that wait and those that are due later, each with its time, and for how many more there is room
+-- the messages that wait and those that are due later, each with its time, for how many more there is room, and how many
+-- places of the heap were left by entries that were set anew
 pub record Schedule (M : Type 0) : Type 0 where
   pub debounce : ℕ
   pub waiting : List (Held M)
   pub scheduled : List (Held M)
   pub spare : ℕ
+  pub stale : ℕ
 
 -- the number of messages that it holds
 abbrev pub held_len : {M : Type 0} → Schedule M → ℕ
@@ -56,3 +58,12 @@ passes_none m b = b ≡ false
 
 abbrev pub passes_all : {M : Type 0} → M → Bool → Type 0
 passes_all m b = b ≡ true
+
+-- whether a request for this moment sets an entry anew
+abbrev pub sets_anew : {M : Type 0} → Option (Entry M) → Moment → Bool
+sets_anew None run_at = false
+sets_anew (Some e) run_at = not (is_some e.settle) && nat_le run_at.0 e.time
+
+-- how many entries a settle after these events freezes
+abbrev pub frozen_by : {M : Type 0} → (M → M → Bool) → ℕ → List (QueueEvent M) → Moment → ℕ
+frozen_by same debounce events now = length (waiting same debounce (with_settle events now)) - length (waiting same debounce events)

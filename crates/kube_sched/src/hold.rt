@@ -13,14 +13,14 @@ use std::hash::Hash;
 
 /// A scheduler that gives only messages that pass, and holds the others.
 #[derive(Drop)]
-pub struct HoldUnless<'a, T, R, C> {
+pub struct HoldUnless<'a, T: Eq + Hash, R, C> {
     scheduled: &'a mut Scheduled<T, R>,
     can_take_message: C,
 }
 
 /// A scheduler that holds all messages.
 #[derive(Drop)]
-pub struct Hold<'a, T, R> {
+pub struct Hold<'a, T: Eq + Hash, R> {
     scheduled: &'a mut Scheduled<T, R>,
 }
 

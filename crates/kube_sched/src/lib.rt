@@ -2,6 +2,7 @@
 #![tactic(auto)]
 
 mod asks;
+pub mod counting;
 pub mod future_hash_map;
 mod held;
 pub mod hold;
@@ -11,6 +12,8 @@ pub mod requests;
 pub mod runner;
 pub mod schedule;
 pub mod scheduled;
+mod table;
+mod timetable;
 pub mod told_future;
 
 pub use future_hash_map::FutureHashMap;

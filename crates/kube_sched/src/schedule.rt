@@ -1,17 +1,20 @@
 //! The scheduler (kube-runtime's `Scheduler`, without its stream of requests).
 
-ghost use Rattle.std.specs.Prelude.{◌≡◌, ◌+◌, ◌≤◌, true, List, [], length, IfSome, IfNone, OnOk, OnErr, min, option_copied};
+ghost use Rattle.std.specs.Prelude.{◌≡◌, ◌+◌, ◌<◌, ◌≤◌, true, List, [], length, IfSome, IfNone, OnOk, OnErr, min, if◌then◌else◌, option_copied};
 ghost use Rattle.std.specs.Fn.{FnReturnsAt};
 ghost use Rattle.kube_model.specs.Queue.{QueueEvent, entry, waiting, plus, longest_wait};
 ghost use Rattle.kube_model.specs.WaitingOnce.{is_frozen};
 ghost use Rattle.kube_sched.specs.Entries.{entries};
 
-use crate::held::{Held, first_passing, has_message, set_anew, settle_due};
+use crate::counting::Steps;
+use crate::held::Held;
 use crate::request::ScheduleRequest;
+use crate::timetable::Timetable;
 use kube_meta::{Moment, NoMemory};
 use std::alloc::Global;
 use std::hash::Hash;
-use std::marker::Model;
+use std::marker::{Brand, Model};
+use std::sync::ledger::{Blank, Ledger};
 
 /// The longest time for which a message is held: 180 days, in nanoseconds.
 const LONGEST_WAIT: u64 = 15_552_000_000_000_000;
@@ -26,39 +29,37 @@ fn due_time(debounce: u64, run_at: Moment, now: Moment) -> Moment
 
 /// Messages that are due later, each once.
 ///
-/// A message is waiting once its time has come, and until it is taken.
+/// A message is waiting once its time has come, and until it is taken. Contracts also see the number `stale`: how many
+/// places of the heap of times were left by entries that were set anew.
 #[derive(Drop)]
-pub struct Scheduler<T> {
+pub struct Scheduler<T: Eq + Hash> {
     debounce: u64,
-    waiting: Vec<Held<T>>,
-    scheduled: Vec<Held<T>>,
-    spare: usize,
+    times: Timetable<T>,
 }
 
-impl<T> Model for Scheduler<T> {
-    ghost use Rattle.std.specs.Prelude.{◌+◌, ◌≤◌, vec_len, vec_capacity};
+impl<T: Eq + Hash> Model for Scheduler<T> {
     ghost use Rattle.kube_sched.specs.Schedule.{Schedule};
+    ghost use Rattle.kube_sched.specs.Timetables.{IsKept, waiting_of, scheduled_of, stale_of};
 
     ghost Value = { Schedule T };
 
-    ghost view = { λ s. record { debounce = s.debounce; waiting = s.waiting.items; scheduled = s.scheduled.items; spare = s.spare } };
+    ghost view = { λ s. record { debounce = s.debounce; waiting = waiting_of s.times; scheduled = scheduled_of s.times; spare = s.times.spare; stale = stale_of s.times } };
 
-    ghost invariant = { λ s. (vec_len s.waiting + vec_len s.scheduled + s.spare ≤ vec_capacity s.waiting) × (vec_len s.scheduled + s.spare ≤ vec_capacity s.scheduled) };
+    ghost invariant = { λ s. IsKept T.eq s.times };
 }
 
 impl<T: Eq + Hash + Drop> Scheduler<T> {
-    ghost use Rattle.kube_sched.specs.Schedule.{Stands, with_request, with_settle, with_take, IsFirst, waiting_messages, held_len};
+    ghost use Rattle.kube_sched.specs.Schedule.{Stands, with_request, with_settle, with_take, IsFirst, waiting_messages, held_len, frozen_by, sets_anew};
 
     /// A scheduler that holds nothing. A message is held for `debounce` nanoseconds longer than asked.
     pub fn new(alloc: Global, debounce: u64) -> Scheduler<T>
         ensures debounce { result.debounce ≡ debounce }
         ensures stands { Stands T.eq result [] }
+        ensures stale { result.stale ≡ 0 }
     {
         Scheduler {
             debounce,
-            waiting: Vec::new(alloc),
-            scheduled: Vec::new(alloc),
-            spare: 0,
+            times: Timetable::new(alloc),
         }
     }
 
@@ -76,6 +77,7 @@ impl<T: Eq + Hash + Drop> Scheduler<T> {
         ensures stands { OnOk result ((events : List (QueueEvent T)) → Stands T.eq self.old events → Stands T.eq self.new (with_request events request now)) }
         ensures debounce { self.new.debounce ≡ self.old.debounce }
         ensures spare { OnOk result (self.new.spare ≡ self.old.spare) }
+        ensures stale { OnOk result ((events : List (QueueEvent T)) → Stands T.eq self.old events → self.new.stale ≤ self.old.stale + (if sets_anew (entry T.eq self.old.debounce events request.message) request.run_at then 1 else 0)) }
         ensures err { OnErr result (self.new ≡ self.old) }
     {
         self.take_in(alloc, request, now)
@@ -91,16 +93,17 @@ impl<T: Eq + Hash + Drop> Scheduler<T> {
         ensures stands { OnOk result ((events : List (QueueEvent T)) → Stands T.eq self.old events → Stands T.eq self.new (with_request events request now)) }
         ensures debounce { self.new.debounce ≡ self.old.debounce }
         ensures spare { OnOk result (self.new.spare ≡ self.old.spare) }
+        ensures stale { OnOk result ((events : List (QueueEvent T)) → Stands T.eq self.old events → self.new.stale ≤ self.old.stale + (if sets_anew (entry T.eq self.old.debounce events request.message) request.run_at then 1 else 0)) }
         ensures held { OnOk result (held_len self.new ≤ held_len self.old + 1) }
         ensures err { OnErr result (self.new ≡ self.old) }
     {
-        let spare = self.spare;
+        let spare = self.spare();
         let Some(places) = spare.checked_add(1) else {
             return Err(NoMemory);
         };
         self.reserve(alloc, places)?;
         self.take_in_reserved(request, now);
-        self.spare = spare;
+        self.times.spare = spare;
         Ok(())
     }
 
@@ -110,6 +113,7 @@ impl<T: Eq + Hash + Drop> Scheduler<T> {
         ensures stands { (events : List (QueueEvent T)) → Stands T.eq self.old events → Stands T.eq self.new (with_request events request now) }
         ensures debounce { self.new.debounce ≡ self.old.debounce }
         ensures spare { self.old.spare ≤ self.new.spare + 1 }
+        ensures stale { (events : List (QueueEvent T)) → Stands T.eq self.old events → self.new.stale ≤ self.old.stale + (if sets_anew (entry T.eq self.old.debounce events request.message) request.run_at then 1 else 0) }
     {
         self.take_in_reserved(request, now);
     }
@@ -120,19 +124,12 @@ impl<T: Eq + Hash + Drop> Scheduler<T> {
         ensures stands { (events : List (QueueEvent T)) → Stands T.eq self.old events → Stands T.eq self.new (with_request events request now) }
         ensures debounce { self.new.debounce ≡ self.old.debounce }
         ensures spare { self.old.spare ≤ self.new.spare + 1 }
+        ensures stale { (events : List (QueueEvent T)) → Stands T.eq self.old events → self.new.stale ≤ self.old.stale + (if sets_anew (entry T.eq self.old.debounce events request.message) request.run_at then 1 else 0) }
         ensures held { held_len self.new ≤ held_len self.old + 1 }
     {
         let ScheduleRequest { message, run_at } = request;
-        if has_message(&self.waiting, &message) {
-            return;
-        }
-        let before = self.scheduled.len();
         let time = due_time(self.debounce, run_at, now);
-        let held = Held { message, time };
-        set_anew(&mut self.scheduled, held, run_at);
-        if self.scheduled.len() > before {
-            self.spare -= 1;
-        }
+        self.times.set(Held { message, time }, run_at);
     }
 
     /// Takes memory for messages to come: `spare` is then at least `n`.
@@ -146,22 +143,14 @@ impl<T: Eq + Hash + Drop> Scheduler<T> {
         ensures same { self.new ≡ record self.old { spare = self.new.spare } }
         ensures err { OnErr result (self.new ≡ self.old) }
     {
-        let Some(places) = self.scheduled.len().checked_add(n) else {
-            return Err(NoMemory);
-        };
-        self.scheduled.reserve(n)?;
-        self.waiting.reserve(places)?;
-        if self.spare < n {
-            self.spare = n;
-        }
-        Ok(())
+        self.times.reserve(n)
     }
 
     /// For how many more messages memory is taken.
     pub fn spare(&self) -> usize
         ensures { result ≡ self.now.spare }
     {
-        self.spare
+        self.times.spare
     }
 
     /// Lets every message wait whose time is at most `now`.
@@ -169,6 +158,7 @@ impl<T: Eq + Hash + Drop> Scheduler<T> {
         ensures stands { (events : List (QueueEvent T)) → Stands T.eq self.old events → Stands T.eq self.new (with_settle events now) }
         ensures debounce { self.new.debounce ≡ self.old.debounce }
         ensures spare { self.new.spare ≡ self.old.spare }
+        ensures stale { self.new.stale ≤ self.old.stale }
     {
         self.let_wait(now);
     }
@@ -178,9 +168,40 @@ impl<T: Eq + Hash + Drop> Scheduler<T> {
         ensures stands { (events : List (QueueEvent T)) → Stands T.eq self.old events → Stands T.eq self.new (with_settle events now) }
         ensures debounce { self.new.debounce ≡ self.old.debounce }
         ensures spare { self.new.spare ≡ self.old.spare }
+        ensures stale { self.new.stale ≤ self.old.stale }
         ensures held { held_len self.new ≡ held_len self.old }
     {
-        settle_due(&mut self.waiting, &mut self.scheduled, now);
+        self.settle_by::<Brand>(Blank::new(1), now);
+    }
+
+    // The same by a counter that is dropped.
+    fn settle_by<L: Ledger>(&mut self, blank: Blank, now: Moment)
+        requires name { blank.name ≡ L.name }
+        requires parts { blank.parts ≡ L.parts }
+        requires some { 0 < blank.parts }
+        ensures stands { (events : List (QueueEvent T)) → Stands T.eq self.old events → Stands T.eq self.new (with_settle events now) }
+        ensures debounce { self.new.debounce ≡ self.old.debounce }
+        ensures spare { self.new.spare ≡ self.old.spare }
+        ensures stale { self.new.stale ≤ self.old.stale }
+        ensures held { held_len self.new ≡ held_len self.old }
+    {
+        let mut steps: Steps<L> = Steps::new(blank);
+        self.settle_counted(now, &mut steps);
+    }
+
+    /// The same in counted steps: a step is one place of the heap that is looked at.
+    ///
+    /// It takes no memory. It looks at the entries that it lets wait, at places that were left by entries that were set
+    /// anew (`stale` falls by their number), and at one place more.
+    pub fn settle_counted<L: Ledger>(&mut self, now: Moment, steps: &mut Steps<L>)
+        ensures stands { (events : List (QueueEvent T)) → Stands T.eq self.old events → Stands T.eq self.new (with_settle events now) }
+        ensures debounce { self.new.debounce ≡ self.old.debounce }
+        ensures spare { self.new.spare ≡ self.old.spare }
+        ensures stale { self.new.stale ≤ self.old.stale }
+        ensures cost { (events : List (QueueEvent T)) → Stands T.eq self.old events → steps.new + self.new.stale ≤ steps.old + frozen_by T.eq self.old.debounce events now + self.old.stale + 1 }
+        ensures held { held_len self.new ≡ held_len self.old }
+    {
+        self.times.settle(now, steps);
     }
 
     /// The first waiting message that passes, which stays: `take_first` then gives it, where the test answers the same.
@@ -190,8 +211,8 @@ impl<T: Eq + Hash + Drop> Scheduler<T> {
         requires { C.IsAlwaysCallable c }
         ensures { (events : List (QueueEvent T)) → Stands T.eq self.now events → IsFirst (FnReturnsAt C.Fn c) (waiting_messages T.eq self.now.debounce events) (option_copied result) }
     {
-        match first_passing(&self.waiting, &c) {
-            Some(place) => Some(&self.waiting[place].message),
+        match self.times.first_passing(&c) {
+            Some(place) => Some(self.times.message_at(place)),
             None => None,
         }
     }
@@ -204,6 +225,7 @@ impl<T: Eq + Hash + Drop> Scheduler<T> {
         ensures none { IfNone result (self.new ≡ self.old) }
         ensures debounce { self.new.debounce ≡ self.old.debounce }
         ensures spare { self.new.spare ≡ self.old.spare }
+        ensures stale { self.new.stale ≡ self.old.stale }
     {
         self.take_passing(&c)
     }
@@ -216,14 +238,12 @@ impl<T: Eq + Hash + Drop> Scheduler<T> {
         ensures none { IfNone result (self.new ≡ self.old) }
         ensures debounce { self.new.debounce ≡ self.old.debounce }
         ensures spare { self.new.spare ≡ self.old.spare }
+        ensures stale { self.new.stale ≡ self.old.stale }
         ensures held { IfSome result (λ m. held_len self.new + 1 ≡ held_len self.old) }
         ensures passes { IfSome result (λ m. FnReturnsAt C.Fn c.now m true) }
     {
-        match first_passing(&self.waiting, c) {
-            Some(place) => {
-                let Held { message, time: _ } = self.waiting.remove(place);
-                Some(message)
-            }
+        match self.times.first_passing(c) {
+            Some(place) => Some(self.times.take(place)),
             None => None,
         }
     }
@@ -234,28 +254,27 @@ impl<T: Eq + Hash + Drop> Scheduler<T> {
         ensures debounce { self.new.debounce ≡ self.old.debounce }
         ensures held { held_len self.new ≡ 0 }
     {
-        self.waiting.clear();
-        self.scheduled.clear();
+        self.times.clear();
     }
 
     /// Whether an equal message waits.
     pub fn contains_pending(&self, m: &T) -> bool
         ensures { (events : List (QueueEvent T)) → Stands T.eq self.now events → result ≡ is_frozen (entry T.eq self.now.debounce events m.now) }
     {
-        has_message(&self.waiting, m)
+        self.times.waits(m)
     }
 
     /// How many messages are held, waiting or not.
     pub fn len(&self) -> usize
         ensures { (events : List (QueueEvent T)) → Stands T.eq self.now events → result ≡ length (entries T.eq self.now.debounce events) }
     {
-        self.waiting.len() + self.scheduled.len()
+        self.times.len()
     }
 
     /// How many messages wait.
     pub fn waiting_len(&self) -> usize
         ensures { (events : List (QueueEvent T)) → Stands T.eq self.now events → result ≡ length (waiting T.eq self.now.debounce events) }
     {
-        self.waiting.len()
+        self.times.waiting_len()
     }
 }

@@ -20,14 +20,14 @@ use std::marker::Model;
 /// A poll takes requests until none is ready, lets wait what is due, and gives the first waiting message. After want
 /// of memory every poll answers that alone.
 #[derive(Drop)]
-pub struct Scheduled<T, R> {
+pub struct Scheduled<T: Eq + Hash, R> {
     scheduler: Scheduler<T>,
     requests: R,
     is_over: bool,
     is_spent: bool,
 }
 
-impl<T, R> Model for Scheduled<T, R> {
+impl<T: Eq + Hash, R> Model for Scheduled<T, R> {
     ghost use Rattle.kube_sched.specs.Polls.{Stream};
 
     ghost Value = { Stream T R };

@@ -1,6 +1,7 @@
 //! Each call of a scheduler, with ample memory.
 
 mod future_hash_map;
+mod many;
 mod runner;
 mod waiting;
 

@@ -1,4 +1,4 @@
-use Rattle.std.proofs.Common.{◌≡◌, ap, ◌∙◌}
+use Rattle.std.proofs.Common.{ap, ◌∙◌}
 use Rattle.std.specs.List.{list_any}
 use Rattle.kube_sched.specs.Held.{is_of}
 use Rattle.kube_sched.specs.Schedule.{Schedule}
@@ -7,7 +7,6 @@ use Rattle.kube_sched.proofs.schedule.Scheduler.contains_pending.Goals as goal
 
 pub returns : goal.returns
 returns g c events stands =
-    let told : c.has_message.result ≡ list_any (is_of g.T.PartialEq.eq c.args.m.now) c.deref.result.now = c.has_message.ensures in
-    told
-    ∙ ap (list_any (is_of g.T.PartialEq.eq c.args.m.now)) (c.deref.ensures.value ∙ ap (λ (s : Schedule g.row.T.Denot). s.waiting) c.self.view_is)
+    c.waits.ensures
+    ∙ ap (λ (s : Schedule g.row.T.Denot). list_any (is_of g.T.PartialEq.eq c.args.m.now) s.waiting) c.self.view_is
     ∙ stands-pending g.T.PartialEq.eq g.met.T.Eq.laws c.args.self.now events stands c.args.m.now

@@ -12,5 +12,5 @@ returns-clause-stands g c events stands =
     let reserved =
     stands-alike g.T.PartialEq.eq c.args.self.now c.reserve.new.self events (ap debounce same) (ap waiting same) (ap scheduled same) stands in
     stands-alike g.T.PartialEq.eq c.take_in_reserved.new.self _ (with_request events c.args.request c.args.now)
-    (ap debounce c.self-2.view_is) (ap waiting c.self-2.view_is) (ap scheduled c.self-2.view_is)
+    (ap debounce c.self.view_is) (ap waiting c.self.view_is) (ap scheduled c.self.view_is)
     (c.take_in_reserved.ensures.stands events reserved)

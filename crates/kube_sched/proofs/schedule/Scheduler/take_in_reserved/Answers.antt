@@ -1,49 +1,37 @@
-use Rattle.std.proofs.Common.{◌≡◌, min, true, false, refl, sym, ap, ◌∙◌}
-use Rattle.std.specs.List.{list_any}
+use Rattle.std.proofs.Common.{◌≤◌, ◌+◌, min, length, ap, subst, ◌∙◌, arith, if◌then◌else◌}
 use Rattle.kube_meta.specs.declared.moment.Moment.{Moment}
 use Rattle.kube_model.specs.Queue.{plus, longest_wait}
-use Rattle.kube_sched.specs.Held.{is_of, set_in}
+use Rattle.kube_sched.specs.Held.{requested_with, is_later}
 use Rattle.kube_sched.specs.Schedule.{Schedule}
-use Rattle.kube_sched.proofs.Steps.{stands-requested, requested-waits, requested-comes}
+use Rattle.kube_sched.specs.Timetables.{waiting_of, scheduled_of, stale_of}
+use Rattle.kube_sched.proofs.Steps.{stands-requested}
+use Rattle.kube_sched.proofs.Counts.{stale-by}
 use Rattle.kube_sched.proofs.schedule.Scheduler.take_in_reserved.Goals as goal
 
-pub returns-then-has_message-clause-stands : goal.returns-then-has_message-clause-stands
-returns-then-has_message-clause-stands g c events stands =
+pub returns-clause-stands : goal.returns-clause-stands
+returns-clause-stands g c events stands =
     let eq = g.T.PartialEq.eq in
-    let told : c.has_message.result ≡ list_any (is_of g.T.PartialEq.eq c.args.request.message) c.deref.result.now = c.has_message.ensures in
-    let waits : list_any (is_of g.T.PartialEq.eq c.args.request.message) c.args.self.now.waiting ≡ true =
-    ap (list_any (is_of eq c.args.request.message)) (sym (c.deref.ensures.value ∙ ap (λ (s : Schedule g.row.T.Denot). s.waiting) c.self.view_is)) ∙ sym told ∙ c.if-has_message.true in
-    stands-requested eq g.met.T.Eq.laws c.args.self.now c.args.self.now events c.args.request c.args.now stands refl refl
-    (requested-waits eq g.met.T.Eq.laws c.args.self.now c.args.request c.args.now waits)
-
-pub returns-then-len-before-clause-stands : goal.returns-then-len-before-clause-stands
-returns-then-len-before-clause-stands g c events stands =
-    let eq = g.T.PartialEq.eq in
-    let told : c.has_message.result ≡ list_any (is_of g.T.PartialEq.eq c.args.request.message) c.deref.result.now = c.has_message.ensures in
-    let waits : list_any (is_of g.T.PartialEq.eq c.args.request.message) c.args.self.now.waiting ≡ false =
-    ap (list_any (is_of eq c.args.request.message)) (sym (c.deref.ensures.value ∙ ap (λ (s : Schedule g.row.T.Denot). s.waiting) c.self.view_is)) ∙ sym told ∙ c.if-has_message.false in
+    let m = c.args.request.message in
+    let run_at = c.args.request.run_at in
     stands-requested eq g.met.T.Eq.laws c.args.self.now _ events c.args.request c.args.now stands
     (ap (λ (s : Schedule g.row.T.Denot). s.debounce) c.self.view_is)
-    (ap (λ (s : Schedule g.row.T.Denot). s.waiting) c.self.view_is)
-    (c.set_anew.ensures.items
-    ∙ ap (λ (t : Moment). set_in eq c.args.request.run_at (record { message = c.args.request.message; time = t }) c.self.inside.scheduled.items) c.due_time-time.ensures
+    (c.set.ensures.waiting ∙ ap (λ (s : Schedule g.row.T.Denot). s.waiting) c.self.view_is)
+    (c.set.ensures.scheduled
+    ∙ ap (λ (t : Moment). requested_with eq run_at (record { message = m; time = t }) (waiting_of c.self.inside.times) (scheduled_of c.self.inside.times)) c.due_time-time.ensures
     ∙ ap
-    (λ (s : Schedule g.row.T.Denot). set_in eq c.args.request.run_at (record { message = c.args.request.message; time = record { 0 = min (plus c.args.request.run_at.0 s.debounce) (plus c.args.now.0 longest_wait) } }) s.scheduled)
-    c.self.view_is
-    ∙ requested-comes eq g.met.T.Eq.laws c.args.self.now c.args.request c.args.now waits)
+    (λ (s : Schedule g.row.T.Denot). requested_with eq run_at (record { message = m; time = record { 0 = min (plus run_at.0 s.debounce) (plus c.args.now.0 longest_wait) } }) s.waiting s.scheduled)
+    c.self.view_is)
 
-pub returns-else-len-before-clause-stands : goal.returns-else-len-before-clause-stands
-returns-else-len-before-clause-stands g c events stands =
+pub returns-clause-stale : goal.returns-clause-stale
+returns-clause-stale g c events stands =
     let eq = g.T.PartialEq.eq in
-    let told : c.has_message.result ≡ list_any (is_of g.T.PartialEq.eq c.args.request.message) c.deref.result.now = c.has_message.ensures in
-    let waits : list_any (is_of g.T.PartialEq.eq c.args.request.message) c.args.self.now.waiting ≡ false =
-    ap (list_any (is_of eq c.args.request.message)) (sym (c.deref.ensures.value ∙ ap (λ (s : Schedule g.row.T.Denot). s.waiting) c.self.view_is)) ∙ sym told ∙ c.if-has_message.false in
-    stands-requested eq g.met.T.Eq.laws c.args.self.now _ events c.args.request c.args.now stands
-    (ap (λ (s : Schedule g.row.T.Denot). s.debounce) c.self.view_is)
-    (ap (λ (s : Schedule g.row.T.Denot). s.waiting) c.self.view_is)
-    (c.set_anew.ensures.items
-    ∙ ap (λ (t : Moment). set_in eq c.args.request.run_at (record { message = c.args.request.message; time = t }) c.self.inside.scheduled.items) c.due_time-time.ensures
-    ∙ ap
-    (λ (s : Schedule g.row.T.Denot). set_in eq c.args.request.run_at (record { message = c.args.request.message; time = record { 0 = min (plus c.args.request.run_at.0 s.debounce) (plus c.args.now.0 longest_wait) } }) s.scheduled)
-    c.self.view_is
-    ∙ requested-comes eq g.met.T.Eq.laws c.args.self.now c.args.request c.args.now waits)
+    stale-by eq g.met.T.Eq.laws c.args.self.now events stands c.args.request.message c.args.request.run_at (stale_of c.set.new.self)
+    (subst (λ (s : Schedule g.row.T.Denot). stale_of c.set.new.self ≤ s.stale + (if is_later eq c.args.request.message c.args.request.run_at s.scheduled then 1 else 0)) c.self.view_is c.set.ensures.stale)
+
+pub returns-clause-held : goal.returns-clause-held
+returns-clause-held g c =
+    let a = c.set.ensures.len in
+    let b = ap length c.set.ensures.waiting in
+    let d = ap (λ (s : Schedule g.row.T.Denot). length s.waiting) c.self.view_is in
+    let e = ap (λ (s : Schedule g.row.T.Denot). length s.scheduled) c.self.view_is in
+    omega arith

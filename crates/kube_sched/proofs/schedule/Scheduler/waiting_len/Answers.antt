@@ -1,0 +1,10 @@
+use Rattle.std.proofs.Common.{length, ap, ◌∙◌}
+use Rattle.kube_sched.specs.Schedule.{Schedule}
+use Rattle.kube_sched.proofs.Steps.{stands-waiting_len}
+use Rattle.kube_sched.proofs.schedule.Scheduler.waiting_len.Goals as goal
+
+pub returns : goal.returns
+returns g c events stands =
+    c.waiting_len.ensures
+    ∙ ap (λ (s : Schedule g.row.T.Denot). length s.waiting) c.self.view_is
+    ∙ stands-waiting_len g.T.PartialEq.eq g.met.T.Eq.laws c.args.self.now events stands
