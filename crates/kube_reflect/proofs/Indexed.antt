@@ -1,5 +1,5 @@
 -- What is found at the first place of a reference among stored items, what is put there and what is dropped. Items are seen as references with objects.
-use Rattle.std.proofs.Common.{◌≡◌, ◌≢◌, ℕ, zero, suc, ◌+◌, ◌<◌, ◌≤◌, Bool, true, false, not, cond, List, [], ◌∷◌, ◌++◌, length, get_or, set, map, take, drop, Option, Some, None, refl, sym, ◌∙◌, ap, subst, arith}
+use Rattle.std.proofs.Common.{◌≡◌, ◌≢◌, ℕ, zero, suc, ◌<◌, Bool, true, false, not, cond, List, [], ◌∷◌, ◌++◌, length, get_or, set, map, Some, None, refl, sym, ◌∙◌, ap, arith}
 use Rattle.std.specs.List.{find, filter, remove}
 use Rattle.kube_meta.specs.Reference.{Reference, same_reference}
 use Rattle.kube_meta.specs.ReferenceLaws.{same_reference_equiv}

@@ -21,3 +21,10 @@ pub mod Ordering
 pub mod Halving
 pub mod Indexed
 pub mod Searched
+pub mod Fronts
+pub mod Publishing
+pub mod Adding
+pub mod Turning
+pub mod Pending
+pub mod Telling
+pub mod Looking

@@ -9,6 +9,7 @@ use Rattle.kube_meta.specs.Reference.{ObjectType, Reference}
 use Rattle.kube_meta.specs.Keys.{key_of}
 use Rattle.kube_watch.specs.declared.event.Event.{Event}
 use Rattle.kube_reflect.specs.Cached.{Kept, applied, nothing, kept_after}
+use Rattle.kube_reflect.specs.declared.copies.law.Entry.{Entry}
 use Rattle.kube_reflect.specs.Published.{Keeping, IsMade, keeping_with}
 use Rattle.kube_reflect.specs.Subscribers.{Ring}
 use Rattle.kube_reflect.specs.Writers.{Writing, with_event}
@@ -42,8 +43,8 @@ fails-at p (y ∷ xs) (suc i) x h e f = ap (λ b. p y && b) (fails-at p xs i x (
     and-false false = refl
 
 -- a writer that keeps this
-abbrev pub writing : {O : Type 0} → Keeping O → ℕ → Option Ring → Book → Writing O
-writing k readers ring book = record { kind = k.kind; kept = k.kept; events = k.events; readers = readers; ring = ring; book = book }
+abbrev pub writing : {O : Type 0} → Keeping O → List (Entry O) → ℕ → Option Ring → Book → Writing O
+writing k shown readers ring book = record { kind = k.kind; kept = k.kept; events = k.events; shown = shown; readers = readers; ring = ring; book = book }
 
 module _ {O : Type 0} (meta : O → ObjectMeta) where
   pub made-then : (kind : ObjectType) (kept new : Kept O) (events log : List (Event O)) (event : Event O) → IsMade meta (record { kind = kind; kept = kept; events = events })
@@ -61,10 +62,10 @@ module _ {O : Type 0} (meta : O → ObjectMeta) where
     made-all k (e ∷ es) made = made-all (keeping_with value meta k e) es (made-with k e made)
 
     -- events that are applied to what is kept are applied to the writer
-    pub all-applied : (k : Keeping O) (readers : ℕ) (ring : Option Ring) (book : Book) (events : List (Event A))
-        → writing (fold (keeping_with value meta) k events) readers ring book ≡ fold (with_event value meta) (writing k readers ring book) events
-    all-applied k readers ring book [] = refl
-    all-applied k readers ring book (e ∷ es) = all-applied (keeping_with value meta k e) readers ring book es
+    pub all-applied : (k : Keeping O) (shown : List (Entry O)) (readers : ℕ) (ring : Option Ring) (book : Book) (events : List (Event A))
+        → writing (fold (keeping_with value meta) k events) shown readers ring book ≡ fold (with_event value meta) (writing k shown readers ring book) events
+    all-applied k shown readers ring book [] = refl
+    all-applied k shown readers ring book (e ∷ es) = all-applied (keeping_with value meta k e) shown readers ring book es
 
   -- an object beside its key, told in two parts
   pub beside-key : (kind kind' : ObjectType) (r : Reference) (o o' x : O) → kind' ≡ kind → x ≡ o → r ≡ key_of kind (meta x) → o' ≡ o

@@ -1,12 +1,12 @@
 -- What a search of an index says of stored items. Items are seen as references with objects.
-use Rattle.std.proofs.Common.{◌≡◌, ◌≢◌, ℕ, zero, suc, ◌+◌, ◌<◌, List, [], ◌∷◌, ◌++◌, length, get_or, map, set, take, Option, Some, Result, Ok, Err, refl, sym, ◌∙◌, ap, subst, arith}
+use Rattle.std.proofs.Common.{◌≡◌, ◌≢◌, ℕ, zero, suc, ◌<◌, List, [], ◌∷◌, ◌++◌, length, get_or, map, take, Some, Result, Ok, Err, refl, sym, ◌∙◌, ap, subst, arith}
 use Rattle.std.specs.Prelude.{slice_get}
 use Rattle.std.specs.List.{insert, remove}
 use Rattle.std.proofs.lemmas.List.{map-append}
 use Rattle.kube_meta.specs.Reference.{Reference}
 use Rattle.kube_reflect.specs.Indexes.{reference_cmp, no_reference, references, closed_up, IsIndex, IsSearched}
 use Rattle.kube_reflect.proofs.Indexing.{distinct, absent, indexed_more, indexed_less}
-use Rattle.kube_reflect.proofs.Indexed.{at, NoneBefore, NoOther, length-references, references-removed, references-written}
+use Rattle.kube_reflect.proofs.Indexed.{at, NoneBefore, NoOther, length-references, references-removed}
 use Rattle.kube_reflect.proofs.Ordering.{reference_total}
 
 -- the item at a place

@@ -17,3 +17,13 @@ pub mod Lending
 pub mod DelayedInits
 pub mod Once
 pub mod Fates
+pub mod Entries
+pub mod Books
+pub mod Ties
+pub mod Copies
+pub mod Ruled
+pub mod Hands
+pub mod Shelves
+pub mod Behind
+pub mod Looks
+pub mod Shareds

@@ -10,31 +10,38 @@ use Rattle.kube_meta.specs.declared.poll.Next.{Next}
 use Rattle.kube_watch.specs.declared.event.Event.{Event}
 use Rattle.kube_watch.specs.Events.{event_map}
 use Rattle.kube_reflect.specs.Cached.{Kept, applied, nothing}
+use Rattle.kube_reflect.specs.declared.copies.law.Entry.{Entry}
+use Rattle.kube_reflect.specs.Entries.{with_publish}
 use Rattle.kube_reflect.specs.Subscribers.{Ring, is_full, offered, subscribed, free_number, with_waiting, waiting_for, closed, first_stored, given, left}
 
--- the type of its objects, what its events made, all events that it has applied, how many reader places it has left, its
--- ring where it is shared, and the book that tells it from other writers
+-- the type of its objects, what its events made, all events that it has applied, the list that its publishes made readable,
+-- how many reader places it has left, its ring where it is shared, and the book that tells it from other writers
 pub record Writing (O : Type 0) : Type 0 where
   pub kind : ObjectType
   pub kept : Kept O
   pub events : List (Event O)
+  pub shown : List (Entry O)
   pub readers : ℕ
   pub ring : Option Ring
   pub book : Book
 
--- a handle that reads: the book of its writer
-pub record Reader : Type 0 where
+-- a handle that reads: the book of its writer, the type of its objects, and the list that it read or learnt
+pub record Reader (O : Type 0) : Type 0 where
   pub book : Book
+  pub kind : ObjectType
+  pub seen : List (Entry O)
 
--- what a publish made readable: the book of its writer, and the events that it had applied
+-- what a publish made readable: the book of its writer, the events that it had applied, and the list with where publishes
+-- were
 pub record Notice (O : Type 0) : Type 0 where
   pub book : Book
   pub events : List (Event O)
+  pub shown : List (Entry O)
 
--- what a writer leaves: its book, and the events that it had applied
+-- what a writer leaves: its book, and the list that it made readable
 pub record Left (O : Type 0) : Type 0 where
   pub book : Book
-  pub events : List (Event O)
+  pub shown : List (Entry O)
 
 -- the number of a subscriber, and whether its handle could have no memory
 pub record Handle : Type 0 where
@@ -47,7 +54,15 @@ fresh number = record { number = number; is_spent = false }
 module _ {O : Type 0} where
   -- a writer to which nothing was applied
   abbrev pub new_writer : ObjectType → ℕ → Option Ring → Book → Writing O
-  new_writer kind readers ring book = record { kind = kind; kept = nothing; events = []; readers = readers; ring = ring; book = book }
+  new_writer kind readers ring book = record { kind = kind; kept = nothing; events = []; shown = []; readers = readers; ring = ring; book = book }
+
+  -- a handle of a writer, which has read nothing
+  abbrev pub new_reader : Writing O → Reader O
+  new_reader w = record { book = w.book; kind = w.kind; seen = [] }
+
+  -- after a publish
+  abbrev pub published : Writing O → Writing O
+  published w = record w { shown = with_publish w.shown w.events }
 
   abbrev pub waits_for : Writing O → ℕ → Option (List Reference)
   waits_for w number = elim (w.ring) [ None ↦ None | Some ring ↦ waiting_for ring number ]

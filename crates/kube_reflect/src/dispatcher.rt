@@ -3,7 +3,7 @@
 ghost use Rattle.std.specs.Prelude.{◌≡◌, ◌↔◌, ◌-◌, [], true, false, Some, IfOk, IfSome, IsNone, OnOk, OnErr, IsErr};
 ghost use Rattle.std.specs.Arc.{arc_value};
 ghost use Rattle.kube_reflect.specs.Subscribers.{next_map};
-ghost use Rattle.kube_reflect.specs.Writers.{fresh, is_live, AllStay, OthersStay, next_number, with_subscriber, without_subscriber, references_for, answer_for, after_answer};
+ghost use Rattle.kube_reflect.specs.Writers.{fresh, is_live, AllStay, OthersStay, new_reader, next_number, with_subscriber, without_subscriber, references_for, answer_for, after_answer};
 
 use crate::store::{Store, Writer};
 use kube_meta::{Next, NoMemory, Resource};
@@ -103,7 +103,7 @@ impl<K: Resource> ReflectHandle<K> {
         requires { is_live writer.old self.now.number ≡ true }
         ensures none { IsNone result ↔ (writer.old.readers ≡ 0) }
         ensures writer { writer.new ≡ record writer.old { readers = writer.old.readers - 1 } }
-        ensures store { IfSome result (λ s. s.book ≡ writer.old.book) }
+        ensures store { IfSome result (λ s. s ≡ new_reader writer.old) }
         ensures live { AllStay writer.old writer.new }
     {
         writer.as_reader()

@@ -6,12 +6,11 @@ ghost use Rattle.std.specs.Arc.{arc_value};
 ghost use Rattle.kube_meta.specs.Keys.{reference_of, key_of, is_named};
 ghost use Rattle.kube_watch.specs.Events.{event_map};
 ghost use Rattle.kube_reflect.specs.Cached.{nothing, has_name};
-ghost use Rattle.kube_reflect.specs.Published.{keeping_with};
+ghost use Rattle.kube_reflect.specs.Published.{IsMade, keeping_with};
 
 use crate::cache::Cache;
 use crate::history::{History, no_events, one_more};
 use crate::made::{Made, key};
-use crate::readable::Readable;
 use crate::store::WriteError;
 use kube_meta::{NoMemory, ObjectRef, Resource};
 use kube_watch::Event;
@@ -90,10 +89,18 @@ impl<K: Resource> Keeper<K> {
     }
 
     // The events that were applied, for contracts.
-    pub(crate) fn history(&self) -> History<K>
-        ensures { result.log ≡ self.now.events }
+    pub(crate) fn history(&self) -> &History<K>
+        ensures { result.now.log ≡ self.now.events }
     {
-        self.history.again()
+        &self.history
+    }
+
+    // What they made.
+    pub(crate) fn made(&self) -> &Made<K>
+        ensures made { result.now ≡ self.now.kept }
+        ensures by_events { IsMade K.meta_of self.now }
+    {
+        &self.made
     }
 
     // The reference of a named object, alone.
@@ -145,16 +152,5 @@ impl<K: Resource> Keeper<K> {
         self.made = made;
         self.history = history;
         Ok(())
-    }
-
-    // What readers are to read: all that is stored now. `has_ended` tells them that no more follows.
-    pub(crate) fn show(&self, alloc: Global, has_ended: bool) -> Result<Readable<K>, NoMemory>
-        ensures { IfOk result (λ r. r ≡ record { cache = self.now.kept.cache; is_ready = self.now.kept.is_ready; has_ended = has_ended }) }
-    {
-        Ok(Readable {
-            cache: self.made.cache().copy(alloc)?,
-            is_ready: self.made.is_ready(),
-            has_ended,
-        })
     }
 }

@@ -3,6 +3,7 @@
 #![tactic(auto)]
 
 pub mod cache;
+mod copies;
 pub mod delayed_init;
 pub mod dispatcher;
 mod held;
@@ -12,12 +13,10 @@ pub mod laws;
 pub mod laws_of_exchanges;
 mod made;
 mod places;
-mod readable;
 pub mod reader;
 pub mod reflecting;
 pub mod reflector;
 mod ring;
-mod sign;
 pub mod steps;
 pub mod store;
 mod stored;

@@ -70,8 +70,8 @@ impl<K: Resource, St: Drop> Reflector<K, St> {
 
     /// The writer, to which all events that were given were applied, and the one that waits where there is one.
     pub fn writer(&mut self) -> &mut Writer<K>
-        ensures* lends { sem 𝓛 (Lends (reflector_row K.row St.row K.DynamicType.row K.Resource K.DynamicType.PartialEq (record { hash_input = K.DynamicType.hash_input }))
-            (writer_row K.row K.DynamicType.row K.Resource K.DynamicType.PartialEq (record { hash_input = K.DynamicType.hash_input })) self.entry result (with_writer self.old)) }
+        ensures* lends { sem 𝓛 (Lends (reflector_row K.row St.row K.DynamicType.row K.Resource (record {}) (record {}) K.DynamicType.PartialEq (record { hash_input = K.DynamicType.hash_input }))
+            (writer_row K.row K.DynamicType.row K.Resource (record {}) (record {}) K.DynamicType.PartialEq (record { hash_input = K.DynamicType.hash_input })) self.entry result (with_writer self.old)) }
         ensures value { result.now ≡ self.old.writer }
     {
         &mut self.writer

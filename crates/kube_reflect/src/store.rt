@@ -1,30 +1,31 @@
 //! The one that writes a cache (kube-runtime's `reflector::store`).
 
-ghost use Rattle.std.specs.Prelude.{◌≡◌, ◌↔◌, ◌≤◌, ◌-◌, [], ◌∷◌, length, map, true, false, Some, None, IfOk, IfErr, IfSome, IsNone, OnOk, OnErr, IsErrOf, is_some};
+ghost use Rattle.std.specs.Prelude.{◌≡◌, ◌↔◌, ◌⊎◌, ◌≤◌, ◌<◌, ◌-◌, ◌^◌, [], ◌∷◌, ◌++◌, length, map, true, false, Some, None, IfOk, IfErr, IfSome, IsNone, OnOk, OnErr, IsErrOf, is_some};
 ghost use Rattle.std.specs.Arc.{arc_value};
 ghost use Rattle.std.specs.List.{fold, list_all};
 ghost use Rattle.kube_meta.specs.Keys.{reference_of, key_of, is_named};
 ghost use Rattle.kube_watch.specs.Events.{event_map};
 ghost use Rattle.kube_reflect.specs.Cached.{has_name};
+ghost use Rattle.kube_reflect.specs.declared.copies.law.Entry.TheVariants.{End};
+ghost use Rattle.kube_reflect.specs.Entries.{told_in, ended, with_publish, IsPublished};
+ghost use Rattle.kube_reflect.specs.Shareds.{Tells, HasShown};
 ghost use Rattle.kube_reflect.specs.Subscribers.{new_ring, next_map};
-ghost use Rattle.kube_reflect.specs.Writers.{new_writer, with_event, has_live, fresh, is_live, AllStay, is_lagged, next_number, with_offer, with_subscriber, without_subscriber, with_close, references_for, answer_for, after_answer};
+ghost use Rattle.kube_reflect.specs.Writers.{new_writer, new_reader, published, with_event, has_live, fresh, is_live, AllStay, is_lagged, next_number, with_offer, with_subscriber, without_subscriber, with_close, references_for, answer_for, after_answer};
 
 use crate::cache::Cache;
+use crate::copies::shared::Shared;
 use crate::dispatcher::ReflectHandle;
 use crate::keeper::Keeper;
-use crate::readable::Readable;
-use crate::reader::Copies;
 pub use crate::reader::{Ended, Published, Store, WriterDropped};
 pub use crate::ring::OfferError;
 use crate::ring::Ring;
-use crate::sign::{Sign, new_sign};
-use kube_meta::{Next, NoMemory, ObjectRef, Resource};
+use kube_meta::{Next, NoMemory, ObjectRef, Resource, TypeInfo};
 use kube_watch::Event;
 use std::alloc::Global;
 use std::collections::VecDeque;
 use std::marker::Model;
-use std::mem::replace;
-use std::sync::{Arc, RwLock, Wait};
+use std::slice::from_ref;
+use std::sync::{Arc, Wait};
 use thiserror::Error;
 
 /// Why an event was not applied.
@@ -53,46 +54,44 @@ impl From<NoMemory> for WriteError {
 /// shared.
 ///
 /// Contracts see it as the type of its objects, all events that it has applied, what they made (the cache, the list under
-/// way and whether a list was complete), how many reader places it has left, its ring of offers, and its book, which tells it from other writers.
+/// way and whether a list was complete), the list that its publishes made readable, how many reader places it has left, its
+/// ring of offers, and its book, which tells it from other writers.
 #[derive(Drop)]
 pub struct Writer<K: Resource> {
     keeper: Keeper<K>,
     ring: Option<Ring<K>>,
-    copies: Copies<K>,
-    places: Vec<Copies<K>>,
-    sign: Sign,
+    count: u64,
+    shared: Shared<K>,
 }
 
 impl<K: Resource> Model for Writer<K> {
-    ghost use Rattle.std.specs.Prelude.{length};
+    ghost use Rattle.kube_reflect.specs.Shareds.{Tells};
     ghost use Rattle.kube_reflect.specs.Writers.{Writing};
 
     ghost Value = { Writing K };
 
-    ghost view = { λ w. record { kind = w.keeper.kind; kept = w.keeper.kept; events = w.keeper.events; readers = length w.places.items; ring = w.ring; book = w.sign.book } };
+    ghost view = { λ w. record { kind = w.keeper.kind; kept = w.keeper.kept; events = w.keeper.events; shown = w.shared.named; readers = w.shared.readers; ring = w.ring; book = w.shared.home.book } };
+
+    ghost invariant = { λ w. Tells K.type_of w.keeper w.count w.shared };
 }
 
-/// So many reader places.
-fn make_places<K: Resource>(
+/// Makes readable what is kept.
+#[tactic(auto, using(crate::proofs::Telling::made_told))]
+fn show_kept<K: Resource, R: Wait>(
+    rt: &R,
     alloc: Global,
-    copies: &Copies<K>,
-    readers: u32,
-) -> Result<Vec<Copies<K>>, NoMemory>
-    ensures { IfOk result (λ v. length v.items ≡ readers) }
+    keeper: &Keeper<K>,
+    count: u64,
+    shared: &mut Shared<K>,
+) -> Result<(), NoMemory>
+    requires { Tells K.type_of keeper.now count shared.old }
+    ensures tells { Tells K.type_of keeper.now count shared.new }
+    ensures home { shared.new.home ≡ shared.old.home }
+    ensures readers { shared.new.readers ≡ shared.old.readers }
+    ensures named { (shared.new.named ≡ shared.old.named) ⊎ (shared.new.named ≡ with_publish shared.old.named keeper.now.events) }
+    ensures shown { OnOk result (HasShown shared.old shared.new keeper.now.events) }
 {
-    let mut places = Vec::new(alloc);
-    for _reader in 0..readers {
-        places.push(Arc::try_clone(copies)?)?;
-    }
-    Ok(places)
-}
-
-/// Puts what readers are to read in the place of what they read until now.
-fn put_out<R: Wait, K: Resource>(rt: &R, copies: &RwLock<Readable<K>>, readable: Readable<K>) {
-    let mut shown = copies.write(rt);
-    let old = replace(&mut *shown, readable);
-    drop(shown);
-    drop(old);
+    shared.publish(rt, alloc, keeper.made(), keeper.history(), count)
 }
 
 /// A writer of an empty cache, and its first store handle. `readers` is how many handles there are, this one included.
@@ -106,7 +105,7 @@ pub fn store<K: Resource<DynamicType = ()>>(
 ) -> Result<(Store<K>, Writer<K>), NoMemory>
     requires { 1 ≤ readers }
     ensures writer { IfOk result (λ p. p.1 ≡ new_writer (K.type_of tt) (readers - 1) None p.1.book) }
-    ensures store { IfOk result (λ p. p.0.book ≡ p.1.book) }
+    ensures store { IfOk result (λ p. p.0 ≡ new_reader p.1) }
 {
     with_first(Writer::new(alloc, (), readers)?)
 }
@@ -125,7 +124,7 @@ pub fn store_shared<K: Resource<DynamicType = ()>>(
     requires room { 1 ≤ buf_size }
     requires readers { 1 ≤ readers }
     ensures writer { IfOk result (λ p. p.1 ≡ new_writer (K.type_of tt) (readers - 1) (Some (new_ring buf_size)) p.1.book) }
-    ensures store { IfOk result (λ p. p.0.book ≡ p.1.book) }
+    ensures store { IfOk result (λ p. p.0 ≡ new_reader p.1) }
 {
     with_first(Writer::new_shared(alloc, buf_size, (), readers)?)
 }
@@ -133,7 +132,7 @@ pub fn store_shared<K: Resource<DynamicType = ()>>(
 /// A writer with a place left, and the handle that takes it.
 fn with_first<K: Resource>(writer: Writer<K>) -> Result<(Store<K>, Writer<K>), NoMemory>
     requires { 1 ≤ writer.readers }
-    ensures { IfOk result (λ p. (p.1 ≡ record writer { readers = writer.readers - 1 }) × (p.0.book ≡ writer.book)) }
+    ensures { IfOk result (λ p. (p.1 ≡ record writer { readers = writer.readers - 1 }) × (p.0 ≡ new_reader p.1)) }
 {
     let mut writer = writer;
     match writer.as_reader() {
@@ -183,15 +182,12 @@ impl<K: Resource> Writer<K> {
     ) -> Result<Writer<K>, NoMemory>
         ensures { IfOk result (λ w. w ≡ new_writer (K.type_of t) readers ring w.book) }
     {
-        let keeper = Keeper::new(alloc, t);
-        let copies = Arc::new(alloc, RwLock::new(keeper.show(alloc, false)?))?;
-        let places = make_places(alloc, &copies, readers)?;
+        let dyntype = Arc::new(alloc, t.share(alloc)?)?;
         Ok(Writer {
-            keeper,
+            keeper: Keeper::new(alloc, t),
             ring,
-            copies,
-            places,
-            sign: new_sign(),
+            count: 0,
+            shared: Shared::new(alloc, dyntype, readers)?,
         })
     }
 
@@ -199,47 +195,74 @@ impl<K: Resource> Writer<K> {
     pub fn as_reader(&mut self) -> Option<Store<K>>
         ensures none { IsNone result ↔ (self.old.readers ≡ 0) }
         ensures writer { self.new ≡ record self.old { readers = self.old.readers - 1 } }
-        ensures store { IfSome result (λ s. s.book ≡ self.old.book) }
+        ensures store { IfSome result (λ s. s ≡ new_reader self.old) }
     {
-        let copies = self.places.pop()?;
-        Some(Store::new(copies, self.sign.again()))
+        let handle = self.shared.as_reader()?;
+        Some(Store::new(handle))
     }
 
-    /// Makes readable what is stored now: handles then read this cache. The note is one of this writer. After want of memory
-    /// handles read what they read before.
+    /// Makes readable what is stored now: handles then read this cache. The note names all events that were applied. Where
+    /// this waits, it waits for reads that began before.
+    ///
+    /// The first publish copies the cache, and hands each handle what it reads with. A writer that is dropped after it
+    /// leaves its copies in memory, for the handles that read them.
     ///
     /// # Errors
     ///
-    /// `NoMemory` where there is none for the copy that is read; nothing was published then.
+    /// `NoMemory` where memory could not be had. Handles read then what they read before, or all of it; the next publish
+    /// goes on from there.
     pub fn publish<R: Wait>(&mut self, rt: &R, alloc: Global) -> Result<Published<K>, NoMemory>
-        ensures writer { self.new ≡ self.old }
+        ensures rest { self.new ≡ record self.old { shown = self.new.shown } }
+        ensures writer { OnOk result (self.new ≡ published self.old) }
         ensures note { IfOk result (λ n. n.book ≡ self.old.book) }
         ensures events { IfOk result (λ n. n.events ≡ self.old.events) }
+        ensures shown { IfOk result (λ n. n.shown ≡ self.new.shown) }
+        ensures list { IfOk result (λ n. IsPublished n.shown n.events) }
+        ensures err { OnErr result ((self.new ≡ self.old) ⊎ (self.new ≡ published self.old)) }
     {
-        let readable = self.keeper.show(alloc, false)?;
-        put_out(rt, &self.copies, readable);
-        Ok(Published::new(self.sign.again(), self.keeper.history()))
+        show_kept(rt, alloc, &self.keeper, self.count, &mut self.shared)?;
+        let note = Published::new(self.shared.mark(), self.keeper.history().again());
+        Ok(note)
     }
 
-    /// Makes readable what is stored now, and that no more follows. After want of memory nothing is published, and the
-    /// writer comes back as it was.
+    /// Makes readable what is stored now, and that no more follows. After want of memory the writer comes back as it was, or
+    /// as a publish left it.
     ///
     /// # Errors
     ///
-    /// `NoMemory`, with the writer, where there is none for the copy that is read.
+    /// `NoMemory`, with the writer, where memory could not be had.
     pub fn end<R: Wait>(self, rt: &R, alloc: Global) -> Result<Ended<K>, (Writer<K>, NoMemory)>
         ensures ended { IfOk result (λ e. e.book ≡ self.book) }
-        ensures events { IfOk result (λ e. e.events ≡ self.events) }
-        ensures err { IfErr result (λ e. e.0 ≡ self) }
+        ensures events { IfOk result (λ e. told_in e.shown ≡ ended self.events) }
+        ensures shown { IfOk result (λ e. e.shown ≡ (published self).shown ++ End ∷ []) }
+        ensures err { IfErr result (λ e. (e.0 ≡ self) ⊎ (e.0 ≡ published self)) }
     {
-        match self.keeper.show(alloc, true) {
-            Ok(readable) => {
-                put_out(rt, &self.copies, readable);
-                let history = self.keeper.history();
-                let Writer { copies, sign, .. } = self;
-                Ok(Ended::new(copies, sign, history))
+        let Writer {
+            keeper,
+            ring,
+            count,
+            mut shared,
+        } = self;
+        if let Err(error) = show_kept(rt, alloc, &keeper, count, &mut shared) {
+            let writer = Writer {
+                keeper,
+                ring,
+                count,
+                shared,
+            };
+            return Err((writer, error));
+        }
+        match shared.add_end() {
+            Ok(()) => Ok(Ended::new(shared.finish(rt))),
+            Err(error) => {
+                let writer = Writer {
+                    keeper,
+                    ring,
+                    count,
+                    shared,
+                };
+                Err((writer, error))
             }
-            Err(error) => Err((self, error)),
         }
     }
 
@@ -274,7 +297,14 @@ impl<K: Resource> Writer<K> {
         ensures err { OnErr result (self.new ≡ self.old) }
         ensures live { AllStay self.old self.new }
     {
-        self.keeper.apply(alloc, event)
+        if self.count + 1 >= 1 << 62 {
+            return Err(WriteError::NoMemory);
+        }
+        let ops = self.shared.prepare(alloc, from_ref(event))?;
+        self.keeper.apply(alloc, event)?;
+        self.shared.add(ops);
+        self.count += 1;
+        Ok(())
     }
 
     /// Applies all of these events in order, or none, as those of a whole list, or of a page of it. See
@@ -296,7 +326,15 @@ impl<K: Resource> Writer<K> {
         ensures err { OnErr result (self.new ≡ self.old) }
         ensures live { AllStay self.old self.new }
     {
-        self.keeper.apply_all(alloc, events)
+        let count = events.len() as u64;
+        if count >= (1 << 62) - self.count {
+            return Err(WriteError::NoMemory);
+        }
+        let ops = self.shared.prepare(alloc, events)?;
+        self.keeper.apply_all(alloc, events)?;
+        self.shared.add(ops);
+        self.count += count;
+        Ok(())
     }
 
     /// Adds a subscriber, which takes what is offered from now on. None where the writer is not shared.

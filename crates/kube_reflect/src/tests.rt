@@ -1,6 +1,7 @@
 //! Each public call, and the rows that were worked out by hand.
 
 mod delayed_init;
+mod many;
 mod node;
 mod objects;
 mod readers;

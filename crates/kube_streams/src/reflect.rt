@@ -48,8 +48,8 @@ impl<S: Drop, K: Resource> Reflect<S, K> {
 
     /// The writer, to which all events that were given were applied.
     pub fn writer(&mut self) -> &mut Writer<K>
-        ensures* lends { sem 𝓛 (Lends (reflect_row S.row K.row K.DynamicType.row K.Resource K.DynamicType.PartialEq (record { hash_input = K.DynamicType.hash_input }))
-            (writer_row K.row K.DynamicType.row K.Resource K.DynamicType.PartialEq (record { hash_input = K.DynamicType.hash_input })) self.entry result (with_writer self.old)) }
+        ensures* lends { sem 𝓛 (Lends (reflect_row S.row K.row K.DynamicType.row K.Resource (record {}) (record {}) K.DynamicType.PartialEq (record { hash_input = K.DynamicType.hash_input }))
+            (writer_row K.row K.DynamicType.row K.Resource (record {}) (record {}) K.DynamicType.PartialEq (record { hash_input = K.DynamicType.hash_input })) self.entry result (with_writer self.old)) }
         ensures value { result.now ≡ self.old.writer }
     {
         &mut self.writer

@@ -156,6 +156,28 @@ const READ: &[Row] = &[
         ],
     ),
     (
+        "what was read stays until it is deleted",
+        Kind::ConfigMap,
+        &[
+            Event(Apply(Named("a")), APPLIED),
+            Publish,
+            Read(All(&["a"])),
+            Event(Apply(Named("b")), APPLIED),
+            Publish,
+            Read(All(&["a", "b"])),
+            Event(Delete(Named("a")), APPLIED),
+            Read(Get(Kind::ConfigMap, "b", "", "b")),
+            Publish,
+            Read(All(&["b"])),
+            Publish,
+            Read(All(&["b"])),
+            Event(Delete(Named("b")), APPLIED),
+            Read(All(&["b"])),
+            Publish,
+            Read(All(&[])),
+        ],
+    ),
+    (
         "what is deleted is no longer read",
         Kind::ConfigMap,
         &[

@@ -84,7 +84,7 @@ fn is_stored(alloc: Global, cache: &Cache<DynamicObject>, look: &Look) -> Result
 }
 
 /// Whether that is found in what a handle reads.
-fn is_read<R: Wait>(
+pub fn is_read<R: Wait>(
     rt: &R,
     alloc: Global,
     reads: &mut Reads,

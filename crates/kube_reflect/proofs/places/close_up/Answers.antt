@@ -1,4 +1,4 @@
-use Rattle.std.proofs.Common.{◌∙◌, ap, length, set, arith, get_or}
+use Rattle.std.proofs.Common.{◌∙◌, ap, set, arith, get_or}
 use Rattle.std.proofs.lemmas.List.{get_or_default}
 use Rattle.std.proofs.lemmas.List.Edits.{map_over_more}
 use Rattle.kube_reflect.specs.Indexes.{closed_up}

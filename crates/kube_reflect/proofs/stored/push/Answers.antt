@@ -1,4 +1,4 @@
-use Rattle.std.proofs.Common.{◌≡◌, ◌∙◌, ◌++◌, ◌∷◌, [], ap, sym, subst, arith, map, length, rules}
+use Rattle.std.proofs.Common.{◌≡◌, ◌∙◌, ◌++◌, ◌∷◌, [], ap, sym, subst, arith, map, rules}
 use Rattle.std.specs.List.{insert}
 use Rattle.std.specs.Arc.{arc_value}
 use Rattle.std.proofs.lemmas.Grind.{common_steps}
@@ -7,7 +7,7 @@ use Rattle.kube_meta.specs.Reference.{Reference}
 use Rattle.kube_meta.specs.Keys.{reference_of}
 use Rattle.kube_reflect.specs.declared.stored.Stored.{Stored}
 use Rattle.kube_reflect.specs.Indexes.{references, IsIndex}
-use Rattle.kube_reflect.specs.Views.{stored_of, all_stored}
+use Rattle.kube_reflect.specs.Views.{stored_of}
 use Rattle.kube_reflect.proofs.Indexed.{put_last, length-references}
 use Rattle.kube_reflect.proofs.Searched.{nowhere, indexed_pushed}
 use Rattle.kube_reflect.proofs.stored.push.Goals as goal

@@ -1,4 +1,4 @@
-use Rattle.std.proofs.Common.{◌≡◌, ◌∙◌, ap, sym, subst, arith, map, get_or, length, drop, Ok, Err}
+use Rattle.std.proofs.Common.{◌∙◌, ap, sym, subst, arith, map, get_or, length, drop, Ok, Err}
 use Rattle.std.specs.List.{remove}
 use Rattle.std.proofs.lemmas.List.{get_or_default}
 use Rattle.kube_meta.specs.Keys.{reference_of}

@@ -1,12 +1,10 @@
-use Rattle.std.proofs.Common.{◌≡◌, IfOk, List, map, subst, ◌∙◌}
-use Rattle.kube_meta.specs.Reference.{Reference}
+use Rattle.std.proofs.Common.{◌≡◌, map, subst}
+use Rattle.std.specs.Prelude.{IfOk}
 use Rattle.kube_meta.specs.Keys.{reference_of}
+use Rattle.kube_reflect.proofs.Looking.{read_stored}
 use Rattle.kube_reflect.proofs.reader.Store.keys.Goals as goal
 
 pub returns-clause-read : goal.returns-clause-read
 returns-clause-read g c =
-    let p = c.cache.ensures.published in (
-      p.0,
-      subst (λ (s : List (Reference × g.row.K.Denot)). IfOk c.keys.result (λ v. map (reference_of g.K.Resource.type_of) v.items ≡ map (λ e. e.0) s))
-          (c.cache.ensures.cache ∙ p.1.cache) c.keys.ensures,
-    )
+    let stored = read_stored g.K.Resource.type_of g.K.Resource.meta_of c.enter-reading.new.self c.leave.new.self _ _ _ c.enter-reading.ensures.made c.made.ensures c.cache.ensures c.leave.ensures in
+    subst (λ s. IfOk c.keys-keys.result (λ v. map (reference_of g.K.Resource.type_of) v.items ≡ map (λ e. e.0) s)) stored c.keys-keys.ensures
