@@ -7,7 +7,7 @@ use Rattle.serde_json.specs.Written.{compact_text}
 use Rattle.serde_json.proofs.Texts.{print-outline}
 use Rattle.kube_text.specs.Shown.{tokens_of}
 
-printed : (d : Data) → print (tokens_of d) ≡ compact_text d
+pub printed : (d : Data) → print (tokens_of d) ≡ compact_text d
 unfolding tokens_of
 printed d = print-outline d
 

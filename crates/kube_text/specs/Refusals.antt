@@ -39,7 +39,6 @@ refusal_members (refusals.Moment turn) rest = turn_members turn (codes "moment")
 refusal_members (refusals.NotRunning turn finish) rest = finish_members finish turn (codes "not running") rest
 refusal_members (refusals.Twice turn finish) rest = finish_members finish turn (codes "twice") rest
 refusal_members (refusals.Unnamed source turn) rest = unnamed_members source turn rest
-refusal_members refusals.NotBuilt rest = member (codes "error") (string (codes "not built")) rest
 
 unfoldable pub refusal_data : Refusal → Data
 refusal_data r = object (refusal_members r no_members)

@@ -16,8 +16,7 @@ use Rattle.kube_model.specs.declared.error.Error.{Error}
 use Rattle.kube_model.specs.declared.error.Error.TheVariants as errors
 use Rattle.kube_model.specs.declared.turn.Stop.{Stop}
 use Rattle.kube_model.specs.declared.turn.Stop.TheVariants as stops
-use Rattle.json.specs.Token.{Token}
-use Rattle.kube_text.specs.Shown.{tokens_of, or_null, array_of, member_if}
+use Rattle.kube_text.specs.Shown.{or_null, array_of, member_if}
 
 -- ---- references, reasons
 
@@ -136,11 +135,6 @@ taken_members t rest =
 
 unfoldable pub taken_data : Taken ObjectData → Data
 taken_data t = object (taken_members t no_members)
-
--- nothing where nothing was taken
-abbrev pub taken_tokens : Option (Taken ObjectData) → List Token
-taken_tokens None = []
-taken_tokens (Some t) = tokens_of (taken_data t)
 
 -- ---- records
 

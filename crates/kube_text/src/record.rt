@@ -1,22 +1,30 @@
 //! Records of a trace, a line each.
 
-ghost use Rattle.std.specs.Prelude.{◌≡◌, ◌++◌, List, IfOk, OnOk, map, codes};
-ghost use Rattle.std.specs.List.{filter_map};
+ghost use Rattle.std.specs.Prelude.{◌≡◌, ◌≤◌, ◌++◌, List, false, true, OnOk, OnErr, IsErrOf, map, option_map, codes};
+ghost use Rattle.std.specs.Arc.{arc_value};
+ghost use Rattle.std.specs.Io.KnownBytes.{Appends};
 ghost use Rattle.serde_json.specs.Data.{member as data_member};
+ghost use Rattle.kube_meta.specs.Writing.{object_data};
 ghost use Rattle.kube_model.specs.declared.turn.Stop.{Stop as stop_type};
-ghost use Rattle.kube_text.specs.Shown.{ShowsMembers, tokens_of, array_of};
-ghost use Rattle.kube_text.specs.TraceText.{ShownFinish, text_or_null, finish_members, finish_data, stop_word as stop_word_of, stop_data, taken_data, line_members, line_data, line_text};
-ghost use Rattle.kube_object.specs.Named.{named_type};
+ghost use Rattle.kube_text.specs.Causes.{Rose};
+ghost use Rattle.kube_text.specs.Part.{AppendsPart};
+ghost use Rattle.kube_text.specs.Pieces.{AddsMembers, BreaksOffMembers};
+ghost use Rattle.kube_text.specs.Shown.{ShowsMembers, tokens_of, array_of, member_if as data_member_if};
+ghost use Rattle.kube_text.specs.TraceText.{ShownFinish, text_or_null, finish_members, finish_data, stop_word as stop_word_of, stop_data, line_members, line_text};
 ghost use Rattle.kube_text.specs.TraceView.{error_text, seen_finish, seen_record};
-ghost use Rattle.kube_turn.specs.Views.{taken_of};
 
-use crate::show::{Show, member, member_if};
-use crate::taken::show_takes;
+use crate::failed::Unwritten;
+use crate::output::write_all;
+use crate::pieces::{write_list, write_member};
+use crate::show::{Show, member};
+use crate::sink::Sink;
+use crate::taken::write_takes;
 use json::Writer;
 use kube_meta::{Action, List, Text};
 use kube_object::ScriptObject;
-use kube_turn::{Finished, Stop, Taken, TurnRecord};
+use kube_turn::{Finished, Stop, TurnRecord};
 use std::alloc::{AllocError, Global};
+use std::sync::Arc;
 
 /// The record of a turn. A reconcile's fault is a text.
 pub type ScriptRecord = TurnRecord<ScriptObject, Text>;
@@ -98,67 +106,65 @@ fn stop_word(stop: &Stop) -> &'static str
     }
 }
 
-/// Shows the record of the turn of this number.
-#[tactic(auto, using(crate::proofs::Shown::object_shown), unfolding(crate::specs::TraceText::line_data))]
-fn show_record(
+/// Writes the record of the turn of this number, counted from 0, as a line.
+///
+/// No more is held of the line than [`PIECE`](crate::pieces::PIECE) bytes and an item or a member: where it is longer
+/// what is held is written, and the line goes on. Where that fails the first bytes of the line were written, or none.
+pub fn write_record<W: Sink>(
     alloc: Global,
-    out: &mut Writer,
     turn: u64,
     record: &ScriptRecord,
-) -> Result<(), AllocError>
-    ensures before { OnOk result (out.new.before ≡ out.old.before) }
-    ensures tokens { OnOk result (out.new.tokens ≡ out.old.tokens ++ tokens_of (line_data (seen_record turn «record».now))) }
+    sink: &mut W,
+) -> Result<(), Unwritten>
+    ensures all { OnOk result (Appends (W.written sink.old) (W.written sink.new) (line_text (seen_record turn «record».now))) }
+    ensures part { OnErr result (AppendsPart (W.written sink.old) (W.written sink.new) (line_text (seen_record turn «record».now))) }
+    ensures fault { IsErrOf result Unwritten.Fault → Rose (W.faults sink.old) (W.faults sink.new) }
+    ensures later { W.faults sink.old ≤ W.faults sink.new }
 {
-    out.begin_object()?;
-    show_members(alloc, out, turn, record)?;
-    out.end_object()?;
+    let line = Vec::from_slice(alloc, b"{")?;
+    let mut line = write_members(alloc, sink, line, turn, record)?;
+    line.extend_from_slice(b"}\n")?;
+    write_all(sink, &line)?;
     Ok(())
 }
 
-#[tactic(auto, unfolding(crate::specs::TraceText::line_members))]
-fn show_members(
+/// Adds the members of a record, by the bytes of their names.
+fn write_members<W: Sink>(
     alloc: Global,
-    out: &mut Writer,
+    sink: &mut W,
+    line: Vec<u8>,
     turn: u64,
     record: &ScriptRecord,
-) -> Result<(), AllocError>
-    ensures before { OnOk result (out.new.before ≡ out.old.before) }
-    ensures members { ShowsMembers result out.old out.new (line_members (seen_record turn «record».now)) }
+) -> Result<Vec<u8>, Unwritten>
+    ensures adds { AddsMembers result (W.written sink.old) (W.written sink.new) line.items false (line_members (seen_record turn «record».now)) }
+    ensures part { BreaksOffMembers result (W.written sink.old) (W.written sink.new) line.items false (line_members (seen_record turn «record».now)) }
+    ensures fault { IsErrOf result Unwritten.Fault → Rose (W.faults sink.old) (W.faults sink.new) }
+    ensures later { W.faults sink.old ≤ W.faults sink.new }
 {
-    member(alloc, out, "asks", &record.exchanges)?;
-    member(alloc, out, "at", &record.at.0)?;
-    member(alloc, out, "ended", &record.ended)?;
-    member(alloc, out, "finished", &record.finished)?;
-    member(alloc, out, "stops", &record.stops)?;
-    member_if(alloc, out, "store", &record.store)?;
-    takes_member(alloc, out, &record.taken)?;
-    member(alloc, out, "turn", &turn)?;
-    Ok(())
+    let line = write_list(alloc, sink, line, false, "asks", &record.exchanges)?;
+    let line = write_member(alloc, sink, line, true, "at", &record.at.0)?;
+    let line = write_member(alloc, sink, line, true, "ended", &record.ended)?;
+    let line = write_list(alloc, sink, line, true, "finished", &record.finished)?;
+    let line = write_list(alloc, sink, line, true, "stops", &record.stops)?;
+    let line = write_store(alloc, sink, line, &record.store)?;
+    let line = write_takes(alloc, sink, line, &record.taken)?;
+    write_member(alloc, sink, line, true, "turn", &turn)
 }
 
-/// What was taken.
-#[tactic(auto, using(crate::proofs::Shown::member_shown))]
-fn takes_member(
+/// Adds the stored objects, where they are shown.
+fn write_store<W: Sink>(
     alloc: Global,
-    out: &mut Writer,
-    taken: &List<Taken<ScriptObject>>,
-) -> Result<(), AllocError>
-    ensures before { OnOk result (out.new.before ≡ out.old.before) }
-    ensures members { ShowsMembers result out.old out.new (data_member (codes "taken") (array_of taken_data (filter_map (taken_of named_type) taken.now))) }
+    sink: &mut W,
+    line: Vec<u8>,
+    store: &Option<List<Arc<ScriptObject>>>,
+) -> Result<Vec<u8>, Unwritten>
+    ensures adds { AddsMembers result (W.written sink.old) (W.written sink.new) line.items true (data_member_if (codes "store") (option_map (array_of object_data) (option_map (map arc_value) store.now))) }
+    ensures part { BreaksOffMembers result (W.written sink.old) (W.written sink.new) line.items true (data_member_if (codes "store") (option_map (array_of object_data) (option_map (map arc_value) store.now))) }
+    ensures fault { IsErrOf result Unwritten.Fault → Rose (W.faults sink.old) (W.faults sink.new) }
+    ensures later { W.faults sink.old ≤ W.faults sink.new }
 {
-    out.key("taken")?;
-    show_takes(alloc, out, taken.as_slice())?;
-    Ok(())
-}
-
-/// The record of the turn of this number, counted from 0, as a line.
-#[tactic(auto, using(crate::proofs::Text::closed))]
-pub fn record_line(alloc: Global, turn: u64, record: &ScriptRecord) -> Result<Vec<u8>, AllocError>
-    ensures { IfOk result (λ line. line.items ≡ line_text (seen_record turn «record».now)) }
-{
-    let mut writer = Writer::new(Vec::new(alloc));
-    show_record(alloc, &mut writer, turn, record)?;
-    let mut line = writer.into_inner();
-    line.push(b'\n')?;
-    Ok(line)
+    match store {
+        None => Ok(line),
+        Some(store) => write_list(alloc, sink, line, true, "store", store),
+    }
 }

@@ -32,8 +32,6 @@ pub enum Refusal {
     Twice { turn: u32, finish: u64 },
     /// An object without a name came from the source.
     Unnamed { source: u32, turn: u32 },
-    /// The script has related sources, which are not built.
-    NotBuilt,
 }
 
 impl Show for Refusal {
@@ -68,7 +66,6 @@ fn show_members(alloc: Global, out: &mut Writer, refusal: &Refusal) -> Result<()
         }
         Refusal::Twice { turn, finish } => show_finish(alloc, out, finish, turn, "twice")?,
         Refusal::Unnamed { source, turn } => show_unnamed(alloc, out, source, turn)?,
-        Refusal::NotBuilt => text_member(out, "error", "not built")?,
     }
     Ok(())
 }

@@ -97,11 +97,10 @@ enum Why {
     NotRunning,
     Twice,
     Unnamed,
-    NotBuilt,
 }
 
 /// Refusals at the place `/a` or at turn 1, finish 2 and source 3, and the line of each.
-const REFUSED: [(Why, &str); 10] = [
+const REFUSED: [(Why, &str); 9] = [
     (Why::Usage, r#"{"error":"usage"}"#),
     (Why::TooLong, r#"{"error":"script","fault":"too long"}"#),
     (Why::Syntax, r#"{"error":"script","fault":"syntax"}"#),
@@ -123,7 +122,6 @@ const REFUSED: [(Why, &str); 10] = [
         r#"{"error":"turn","finish":2,"turn":1,"why":"twice"}"#,
     ),
     (Why::Unnamed, r#"{"error":"unnamed","source":3,"turn":1}"#),
-    (Why::NotBuilt, r#"{"error":"not built"}"#),
 ];
 
 fn refusal(alloc: Global, why: Why) -> Result<Refusal, NoMemory> {
@@ -141,7 +139,6 @@ fn refusal(alloc: Global, why: Why) -> Result<Refusal, NoMemory> {
         Why::NotRunning => Ok(Refusal::NotRunning { turn: 1, finish: 2 }),
         Why::Twice => Ok(Refusal::Twice { turn: 1, finish: 2 }),
         Why::Unnamed => Ok(Refusal::Unnamed { source: 3, turn: 1 }),
-        Why::NotBuilt => Ok(Refusal::NotBuilt),
     }
 }
 

@@ -1,6 +1,8 @@
 //! A record with calls, answers, errors, finishes, stops and takes of every kind.
 
-use crate::record::{ScriptRecord, record_line};
+use crate::failed::Unwritten;
+use crate::record::{ScriptRecord, write_record};
+use crate::sink::VecSink;
 use crate::tests::line;
 use kube_meta::{
     Action, ApiResource, DynamicObject, List, Moment, NoMemory, ObjectMeta, ObjectRef, Text,
@@ -10,7 +12,7 @@ use kube_object::ScriptObject;
 use kube_turn::{
     Answer, Call, Finished, ReconcileReason, ReconcileRequest, SourceExchange, Stop, Taken,
 };
-use std::alloc::Global;
+use std::alloc::{AllocError, Global};
 use std::process::Abort;
 use std::sync::Arc;
 use std::test::Fail;
@@ -361,10 +363,68 @@ fn every_kind(alloc: Global) -> Result<ScriptRecord, NoMemory> {
     })
 }
 
+/// What a sink holds whose write of this number fails, and whether the record's line was written.
+fn written(
+    alloc: Global,
+    record: &ScriptRecord,
+    failing: u64,
+) -> Result<(Vec<u8>, Result<(), Unwritten>), AllocError> {
+    let mut sink = VecSink::new(alloc, vec![in alloc; failing]?, usize::MAX);
+    let answer = write_record(alloc, 9, record, &mut sink);
+    Ok((Vec::from_slice(alloc, sink.as_slice())?, answer))
+}
+
 #[test]
 fn every_kind_is_written(rt: HostRuntime) -> Result<(), Fail> {
     let alloc = rt.alloc();
-    let written = record_line(alloc, 9, &every_kind(alloc)?)?;
-    assert_eq!(rt; written.as_slice(), line(alloc, EVERY_KIND)?.as_slice());
+    let (bytes, answer) = written(alloc, &every_kind(alloc)?, 0)?;
+    assert!(rt; answer.is_ok());
+    assert_eq!(rt; bytes.as_slice(), line(alloc, EVERY_KIND)?.as_slice());
+    Ok(())
+}
+
+/// A record that shows three thousand stored objects, and tells of nothing else.
+fn full_store(alloc: Global) -> Result<ScriptRecord, NoMemory> {
+    let one = object(alloc)?;
+    let mut store = List::new(alloc);
+    for _ in 0..3000 {
+        store.push(one.clone()?)?;
+    }
+    Ok(ScriptRecord {
+        at: Moment(0),
+        finished: List::new(alloc),
+        exchanges: List::new(alloc),
+        stops: List::new(alloc),
+        taken: List::new(alloc),
+        store: Some(store),
+        runner: None,
+        ended: false,
+    })
+}
+
+/// The number of a write that fails, and how many bytes of that record's line were written before it.
+const PIECES: [(u64, usize); 4] = [(1, 0), (2, 65_555), (3, 131_119), (4, 196_683)];
+
+/// Whether the write of this number fails, after the first bytes of the line, so many, were written.
+fn breaks_off(
+    alloc: Global,
+    record: &ScriptRecord,
+    line: &[u8],
+    (failing, count): (u64, usize),
+) -> Result<bool, AllocError> {
+    let (bytes, answer) = written(alloc, record, failing)?;
+    Ok(answer == Err(Unwritten::Fault) && bytes.len() == count && line.starts_with(&bytes))
+}
+
+#[test]
+fn a_long_line_is_written_in_pieces(rt: HostRuntime) -> Result<(), Fail> {
+    let alloc = rt.alloc();
+    let record = full_store(alloc)?;
+    // There is no fifth write.
+    let (line, answer) = written(alloc, &record, 5)?;
+    assert!(rt; answer.is_ok());
+    for piece in PIECES {
+        assert!(rt; breaks_off(alloc, &record, &line, piece)?);
+    }
     Ok(())
 }

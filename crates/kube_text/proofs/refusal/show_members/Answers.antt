@@ -8,6 +8,3 @@ returns-in_ok-show_placed-in-Fraction-clause-members c rest = rw c.in-Fraction.i
 
 pub returns-in_ok-show_finish-in-NotRunning-clause-members : goal.returns-in_ok-show_finish-in-NotRunning-clause-members
 returns-in_ok-show_finish-in-NotRunning-clause-members c rest = rw c.in-NotRunning.is (c.in_ok-show_finish-in-NotRunning.ensures.members rest)
-
-pub returns-in_ok-text_member-in-NotBuilt-clause-members : goal.returns-in_ok-text_member-in-NotBuilt-clause-members
-returns-in_ok-text_member-in-NotBuilt-clause-members c rest = rw c.in-NotBuilt.is (c.in_ok-text_member-in-NotBuilt.ensures.members rest)
