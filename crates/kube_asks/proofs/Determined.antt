@@ -35,7 +35,7 @@ module _ {V : Type 0} (t : ObjectType) (meta : V → ObjectMeta) (answers : V �
   part-same o a b p q = p.2 ∙ (ap (mapped_requests t (meta o)) (once o p.0 q.0 p.1 q.1) ∙ sym q.2)
 
   -- one raw form has one exchange
-  mapped-same : {O : Type 0} (version : V → Option (List ℕ)) (settings : Settings) (own : List (Dated O)) (at : ℕ) (x y : Exchange O) (raw : Raw V)
+  pub mapped-same : {O : Type 0} (version : V → Option (List ℕ)) (settings : Settings) (own : List (Dated O)) (at : ℕ) (x y : Exchange O) (raw : Raw V)
       → IsOwedNext (Watched settings) own at x → IsOwedNext (Watched settings) own at y → x.source ≡ y.source
       → IsRecordedMapped version (IsMappedTo t meta answers) settings (exchanges_in own) raw x → IsRecordedMapped version (IsMappedTo t meta answers) settings (exchanges_in own) raw y → x ≡ y
   mapped-same version settings own at x y raw f g source r q =

@@ -32,7 +32,7 @@ module _ {O B R S : Type 0} (w : World O B) (root_polls : R → List (Dated O) �
   abbrev Polled : List (Dated O) → R → S → List (Dated O) → R → S → Type 0
   Polled before r s ds r' s' = ArePolled root_polls related_polls before r s ds r' s'
 
-  polled-split : (before : List (Dated O)) (r : R) (s : S) (ds es : List (Dated O)) (r'' : R) (s'' : S) → Polled before r s (ds ++ es) r'' s'' → (r' : R) × (s' : S) × Polled before r s ds r' s' × Polled (before ++ ds) r' s' es r'' s''
+  pub polled-split : (before : List (Dated O)) (r : R) (s : S) (ds es : List (Dated O)) (r'' : R) (s'' : S) → Polled before r s (ds ++ es) r'' s'' → (r' : R) × (s' : S) × Polled before r s ds r' s' × Polled (before ++ ds) r' s' es r'' s''
   polled-split before r s [] es r'' s'' p = (r, s, (refl, refl), subst (λ b. Polled b r s es r'' s'') (sym (append-nil before)) p)
   polled-split before r s (d ∷ ds) es r'' s'' p =
       let q = polled-split (before ++ d ∷ []) p.0 p.1 ds es r'' s'' p.3 in
@@ -65,7 +65,7 @@ module _ {O B R S : Type 0} (w : World O B) (root_polls : R → List (Dated O) �
         (subst (λ v. Polled (all ++ record { at = t.at; exchange = v } ∷ []) z.0 z.1 (dated t.at ys) q' u') (sym one.0) z.3) in
         (λ i. one.0 i ∷ rest.0 i, rest.1, rest.2)
 
-    turn-same : (policy : ℕ → O → Option ℕ) (h : List (Step O)) (t : Turn) (f g : TurnRecord O) (r r' q q' : R) (s s' u u' : S) → AreRootsAlike r q → AreSetsAlike s u → IsRecord w policy h t (unread f) → IsRecord w policy h t (unread g)
+    pub turn-same : (policy : ℕ → O → Option ℕ) (h : List (Step O)) (t : Turn) (f g : TurnRecord O) (r r' q q' : R) (s s' u u' : S) → AreRootsAlike r q → AreSetsAlike s u → IsRecord w policy h t (unread f) → IsRecord w policy h t (unread g)
         → Polled (exchanges h) r s (dated f.at f.exchanges) r' s' → Polled (exchanges h) q u (dated g.at g.exchanges) q' u' → (f ≡ g) × AreRootsAlike r' q' × AreSetsAlike s' u'
     turn-same policy h t f g r r' q q' s s' u u' a b k l p z =
         let f-at : f.at ≡ t.at = ap (λ (v : TurnRecord O). v.at) k.determined in
@@ -76,7 +76,7 @@ module _ {O B R S : Type 0} (w : World O B) (root_polls : R → List (Dated O) �
         let ended = finishes-same policy (running h) t.finishes f.finished g.finished k.finishes l.finishes in
         (k.determined ∙ (ap₂ (λ gs xs. record_with w h t nothing_read gs xs) ended asked.0 ∙ sym l.determined), asked.1, asked.2)
 
-    after-one : (policy : ℕ → O → Option ℕ) (h : List (Step O)) (t : Turn) (f : TurnRecord O) → IsRecord w policy h t (unread f) → exchanges h ++ dated f.at f.exchanges ≡ exchanges (h ++ step t (unread f) ∷ [])
+    pub after-one : (policy : ℕ → O → Option ℕ) (h : List (Step O)) (t : Turn) (f : TurnRecord O) → IsRecord w policy h t (unread f) → exchanges h ++ dated f.at f.exchanges ≡ exchanges (h ++ step t (unread f) ∷ [])
     after-one policy h t f k =
         ap (λ n. exchanges h ++ dated n f.exchanges) (ap (λ (v : TurnRecord O). v.at) k.determined)
         ∙ sym (flat_map-append (λ (v : Step O). dated v.turn.at v.made.exchanges) h (step t (unread f) ∷ []) ∙ ap (λ ds. exchanges h ++ ds) (append-nil (dated t.at f.exchanges)))

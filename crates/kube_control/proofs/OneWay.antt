@@ -25,14 +25,14 @@ module _ {O B : Type 0} (w : World O B) (settings : Settings) (watched : feed_of
   over_at ds at = is_window_over (window_of (Watched settings)) (silent_since (dated_of 0 ds)) at
 
   -- what fits of the root
-  record FitsRoot (ds : List (Dated O)) (at : ℕ) (x : Exchange O) : Type 0 where
-    source : x.source ≡ 0
-    owes : x.call ≡ owed (Watched settings) (exchanges_of 0 ds)
-    idle : IsTrue (is_next x.call) → IsTrue (idle_fits (over_at ds at) x.answer)
-    error : ErrorFits (mark (exchanges_of 0 ds) x)
-    requests : x.requests ≡ requests_of_watch w (exchanges_of 0 ds) x
+  pub record FitsRoot (ds : List (Dated O)) (at : ℕ) (x : Exchange O) : Type 0 where
+    pub source : x.source ≡ 0
+    pub owes : x.call ≡ owed (Watched settings) (exchanges_of 0 ds)
+    pub idle : IsTrue (is_next x.call) → IsTrue (idle_fits (over_at ds at) x.answer)
+    pub error : ErrorFits (mark (exchanges_of 0 ds) x)
+    pub requests : x.requests ≡ requests_of_watch w (exchanges_of 0 ds) x
 
-  fits-root : (ds : List (Dated O)) (at : ℕ) (x : Exchange O) → x.source ≡ 0 → IsFitting w ds at x → FitsRoot ds at x
+  pub fits-root : (ds : List (Dated O)) (at : ℕ) (x : Exchange O) → x.source ≡ 0 → IsFitting w ds at x → FitsRoot ds at x
   fits-root ds at x root f = record {
     source = root;
     owes = subst (λ s. x.call ≡ owed (feed_of w s) (exchanges_of s ds)) root f.owes ∙ ap (λ feed. owed feed (exchanges_of 0 ds)) watched;
@@ -44,7 +44,7 @@ module _ {O B : Type 0} (w : World O B) (settings : Settings) (watched : feed_of
   }
 
   -- one raw form has one exchange
-  same-exchange : (ds : List (Dated O)) (at : ℕ) (x y : Exchange O) (raw : Raw O) → FitsRoot ds at x → FitsRoot ds at y → IsRecorded version settings raw x → IsRecorded version settings raw y → x ≡ y
+  pub same-exchange : (ds : List (Dated O)) (at : ℕ) (x y : Exchange O) (raw : Raw O) → FitsRoot ds at x → FitsRoot ds at y → IsRecorded version settings raw x → IsRecorded version settings raw y → x ≡ y
   same-exchange ds at x y raw f g r q =
       let own = exchanges_of 0 ds in
       let call : x.call ≡ y.call = f.owes ∙ sym g.owes in

@@ -13,6 +13,8 @@ use Rattle.kube_model.specs.Raw.{grown_by}
 use Rattle.kube_model.specs.Takes.{running}
 use Rattle.kube_model.specs.Traces.{IsRefusedAfter, IsTrace, IsValid, Refusal, has_ended, refusal, step, steps, unread}
 use Rattle.kube_streams.specs.declared.backoff.Backoff as backoff
+use Rattle.kube_reflect.specs.Cached.{Kept}
+use Rattle.kube_core.specs.Cores.{Parts}
 use Rattle.kube_asks.specs.Asking.{Asking}
 use Rattle.kube_asks.specs.declared.asks.AskFault.{AskFault}
 use Rattle.kube_asks.specs.declared.asks.AskFault.TheVariants as faults
@@ -88,21 +90,21 @@ module _ {R S B O D : Type 0} (root : root_source.Ghosts R O D) (related : relat
       }
 
   -- a turn that was broken off
-  pub broken-is : (f : AskFault) (h : List (Step O)) (t : Turn) (c c0 : Con) (r : R) (s : S) (had has : Option (List (Reference × O))) (ts : List (Taken O)) → c0 ≡ c
-      → IsValid h t → AreEndedBy root related w h t f [] c0.asks.root c0.asks.related r s → AreFirstTakes w h t ts → has ≡ grown_by had (handed_by ts)
-      → IsBrokenOff root related delays object w f h t c.asks.root c.asks.related r s had has
-  broken-is f h t c c0 r s had has ts same valid ended first handed-so = record {
+  pub broken-is : (f : AskFault) (h : List (Step O)) (t : Turn) (c c0 : Con) (kept : Kept O) (r : R) (s : S) (had has : Option (List (Reference × O))) (ts : List (Taken O)) → c0 ≡ c
+      → IsValid h t → AreEndedBy root related w h t f kept [] c0.asks.root c0.asks.related r s → AreFirstTakes w h t ts → has ≡ grown_by had (handed_by ts)
+      → IsBrokenOff root related delays object w f h t c.asks.root c.asks.related kept r s had has
+  broken-is f h t c c0 kept r s had has ts same valid ended first handed-so = record {
     valid = if-unnamed f (IsValid h t) valid;
-    ended = subst (λ (z : Con). AreEndedBy root related w h t f [] z.asks.root z.asks.related r s) same ended;
+    ended = subst (λ (z : Con). AreEndedBy root related w h t f kept [] z.asks.root z.asks.related r s) same ended;
     taken = ts;
     first = first;
     handed = handed-so;
   }
 
   -- nothing was asked, and nothing handed over
-  pub nothing-lost : (h : List (Step O)) (t : Turn) (c : Con) (had : Option (List (Reference × O))) → IsWatching root related delays object w h c
-      → IsBrokenOff root related delays object w faults.NoMemory h t c.asks.root c.asks.related c.asks.root c.asks.related had had
-  nothing-lost h t c had k = record {
+  pub nothing-lost : (h : List (Step O)) (t : Turn) (c : Con) (kept : Kept O) (had : Option (List (Reference × O))) → IsWatching root related delays object w h c
+      → IsBrokenOff root related delays object w faults.NoMemory h t c.asks.root c.asks.related kept c.asks.root c.asks.related had had
+  nothing-lost h t c kept had k = record {
     valid = tt;
     ended = record {
       made = [];
@@ -173,7 +175,7 @@ module _ {R S B O D : Type 0} (root : root_source.Ghosts R O D) (related : relat
       )
 
       pub run-broken : (f : AskFault) (c'' : Con) (had has' has : Option (List (Reference × O))) → slice_get all (length rs) ≡ Some t → has' ≡ grown_by had (handed_by (taken_by rs))
-          → IsBrokenOff root related delays object w f (h ++ so-far) t c'.asks.root c'.asks.related c''.asks.root c''.asks.related has' has → WereBrokenOff root related delays object w f h all c rs c'' had has
+          → IsBrokenOff root related delays object w f (h ++ so-far) t c'.asks.root c'.asks.related c''.core.writer.kept c''.asks.root c''.asks.related has' has → WereBrokenOff root related delays object w f h all c rs c'' had has
       run-broken f c'' had has' has next grew b = record {
         traced = subst (λ us. IsTrace w (answered_by rs) h us (map unread rs)) front k.traced;
         all_named = subst (λ us. AreNamedTurns w (RootIsNamed w) h (steps us (map unread rs))) front k.all_named;
@@ -184,14 +186,14 @@ module _ {R S B O D : Type 0} (root : root_source.Ghosts R O D) (related : relat
         next = next;
         going = subst (λ us. has_ended (h ++ steps us (map unread rs)) ≡ false) front (open-yet going);
         broken =
-            subst (λ us. IsBrokenOff root related delays object w f (h ++ steps us (map unread rs)) t c'.asks.root c'.asks.related c''.asks.root c''.asks.related (grown_by had (handed_by (taken_by rs))) has) front
-            (subst (λ z. IsBrokenOff root related delays object w f (h ++ so-far) t c'.asks.root c'.asks.related c''.asks.root c''.asks.related z has) grew b);
+            subst (λ us. IsBrokenOff root related delays object w f (h ++ steps us (map unread rs)) t c'.asks.root c'.asks.related c''.core.writer.kept c''.asks.root c''.asks.related (grown_by had (handed_by (taken_by rs))) has) front
+            (subst (λ z. IsBrokenOff root related delays object w f (h ++ so-far) t c'.asks.root c'.asks.related c''.core.writer.kept c''.asks.root c''.asks.related z has) grew b);
       }
 
   -- what is said of the sources alone holds of any controller with the same
-  pub broken-same : (f : AskFault) (h : List (Step O)) (all : List Turn) (c : Con) (rs : List (TurnRecord O)) (c' c'' : Con) (had has : Option (List (Reference × O))) → c''.asks ≡ c'.asks
+  pub broken-same : (f : AskFault) (h : List (Step O)) (all : List Turn) (c : Con) (rs : List (TurnRecord O)) (c' c'' : Con) (had has : Option (List (Reference × O))) → c''.asks ≡ c'.asks → c''.core ≡ c'.core
       → WereBrokenOff root related delays object w f h all c rs c' had has → WereBrokenOff root related delays object w f h all c rs c'' had has
-  broken-same f h all c rs c' c'' had has e b = record {
+  broken-same f h all c rs c' c'' had has e same b = record {
     traced = b.traced;
     all_named = b.all_named;
     reached_root = b.reached_root;
@@ -202,8 +204,11 @@ module _ {R S B O D : Type 0} (root : root_source.Ghosts R O D) (related : relat
     going = b.going;
     broken =
         subst
-        (λ (a : Asking R S B). IsBrokenOff root related delays object w f (h ++ steps (take (length rs) all) (map unread rs)) b.turn b.reached_root b.reached_related a.root a.related (grown_by had (handed_by (taken_by rs))) has)
-        (sym e) b.broken;
+        (λ (a : Asking R S B). IsBrokenOff root related delays object w f (h ++ steps (take (length rs) all) (map unread rs)) b.turn b.reached_root b.reached_related c''.core.writer.kept a.root a.related (grown_by had (handed_by (taken_by rs))) has)
+        (sym e)
+        (subst
+        (λ (p : Parts O D). IsBrokenOff root related delays object w f (h ++ steps (take (length rs) all) (map unread rs)) b.turn b.reached_root b.reached_related p.writer.kept c'.asks.root c'.asks.related (grown_by had (handed_by (taken_by rs))) has)
+        (sym same) b.broken);
   }
 
   pub never-spent : (h : List (Step O)) (all : List Turn) (c : Con) (rs : List (TurnRecord O)) (c' : Con) (had has : Option (List (Reference × O))) → WereBrokenOff root related delays object w faults.Spent h all c rs c' had has → ⊥

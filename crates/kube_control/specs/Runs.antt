@@ -10,6 +10,7 @@ use Rattle.kube_model.specs.Raw.{grown_by}
 use Rattle.kube_model.specs.Takes.{running}
 use Rattle.kube_model.specs.Traces.{IsRecord, IsTrace, IsValid, has_ended, last_moment, step, steps, unread}
 use Rattle.kube_streams.specs.declared.backoff.Backoff as backoff
+use Rattle.kube_reflect.specs.Cached.{Kept}
 use Rattle.kube_asks.specs.declared.asks.AskFault.{AskFault}
 use Rattle.kube_asks.specs.declared.root.RootSource as root_source
 use Rattle.kube_asks.specs.declared.set.RelatedSet as related_set
@@ -57,10 +58,10 @@ module _ {R S B O D : Type 0} (root : root_source.Ghosts R O D) (related : relat
     pub polled : ArePolled root.polls related.polls (exchanges h) c.asks.root c.asks.related (dated_in rs) c'.asks.root c'.asks.related
     pub watching : IsWatching (h ++ steps ts (map unread rs)) c'
 
-  -- a fault broke a turn off after this history; where an object has no name the turn is valid. What is told of the sources is what was asked until then, and had and has are what the reconciler tells that it was handed: the turn's first takes, at most
-  pub record IsBrokenOff (f : AskFault) (h : List (Step O)) (t : Turn) (r : R) (s : S) (r' : R) (s' : S) (had has : Option (List (Reference × O))) : Type 0 where
+  -- a fault broke a turn off after this history; where an object has no name the turn is valid. What is told of the sources is what was asked until then, kept is what was kept then, and had and has are what the reconciler tells that it was handed: the turn's first takes, at most
+  pub record IsBrokenOff (f : AskFault) (h : List (Step O)) (t : Turn) (r : R) (s : S) (kept : Kept O) (r' : R) (s' : S) (had has : Option (List (Reference × O))) : Type 0 where
     pub valid : IfUnnamedAsk f (λ source. IsValid h t)
-    pub ended : AreEndedBy root related w h t f [] r s r' s'
+    pub ended : AreEndedBy root related w h t f kept [] r s r' s'
     pub taken : List (Taken O)
     pub first : AreFirstTakes w h t taken
     pub handed : has ≡ grown_by had (handed_by taken)
@@ -75,4 +76,4 @@ module _ {R S B O D : Type 0} (root : root_source.Ghosts R O D) (related : relat
     pub turn : Turn
     pub next : slice_get ts (length rs) ≡ Some turn
     pub going : has_ended (h ++ steps (take (length rs) ts) (map unread rs)) ≡ false
-    pub broken : IsBrokenOff f (h ++ steps (take (length rs) ts) (map unread rs)) turn reached_root reached_related c'.asks.root c'.asks.related (grown_by had (handed_by (taken_by rs))) has
+    pub broken : IsBrokenOff f (h ++ steps (take (length rs) ts) (map unread rs)) turn reached_root reached_related c'.core.writer.kept c'.asks.root c'.asks.related (grown_by had (handed_by (taken_by rs))) has

@@ -1,12 +1,11 @@
 -- Requests that are made together, and references in their order.
-use Rattle.std.proofs.Common.{◌≡◌, ℕ, ◌+◌, Bool, true, false, List, [], ◌∷◌, ◌++◌, map, length, if◌then◌else◌, refl, sym, ap, subst, ◌∙◌, append_assoc, append-nil, arith}
+use Rattle.std.proofs.Common.{◌≡◌, ℕ, ◌+◌, Bool, true, false, List, [], ◌∷◌, ◌++◌, map, length, take, drop, cond, if◌then◌else◌, refl, sym, ap, subst, ◌∙◌, append_assoc, append-nil, one-add, arith}
 use Rattle.std.specs.List.{prefix_len, insert}
 use Rattle.kube_meta.specs.Reference.{ObjectType}
 use Rattle.kube_model.specs.History.{Message}
 use Rattle.kube_model.specs.Queue.{QueueEvent, insert_by, sorted_by}
 use Rattle.kube_model.specs.Requests.{Timed, requested_at}
 use Rattle.kube_model.specs.Takes.{Running}
-use Rattle.kube_sched.proofs.Lists.{insert-place}
 use Rattle.kube_history.specs.CoreWorld.{CoreWorld}
 use Rattle.kube_history.specs.TurnCalls.{with_requests}
 use Rattle.kube_history.proofs.TurnCalls.{requests-join}
@@ -15,6 +14,18 @@ use Rattle.kube_turn.specs.Views.{message_of}
 use Rattle.kube_core.specs.Pendings.{Parts, Stands}
 
 -- In order.
+
+-- an element put where the first stands that doesn't come before it
+insert-front : {A : Type 0} (before : A → A → Bool) (x : A) (ys : List A)
+    → take (prefix_len (λ y. before y x) ys) ys ++ x ∷ drop (prefix_len (λ y. before y x) ys) ys ≡ insert_by before x ys
+insert-front before x [] = refl
+insert-front before x (y ∷ ys) = go (before y x) (insert-front before x ys)
+  where
+    go : (b : Bool) → take (prefix_len (λ z. before z x) ys) ys ++ x ∷ drop (prefix_len (λ z. before z x) ys) ys ≡ insert_by before x ys
+        → take (cond b (1 + prefix_len (λ z. before z x) ys) 0) (y ∷ ys) ++ x ∷ drop (cond b (1 + prefix_len (λ z. before z x) ys) 0) (y ∷ ys)
+        ≡ (if b then y ∷ insert_by before x ys else x ∷ y ∷ ys)
+    go true e = rw one-add (ap (λ zs. y ∷ zs) e)
+    go false e = refl
 
 module _ {A B : Type 0} (f : A → B) (before : B → B → Bool) where
   insert-seen : (x : A) (ys : List A) → map f (insert_by (λ a b. before (f a) (f b)) x ys) ≡ insert_by before (f x) (map f ys)
@@ -29,8 +40,7 @@ module _ {A B : Type 0} (f : A → B) (before : B → B → Bool) where
   -- one more, behind those that come before it
   pub inserted : (xs : List A) (n : ℕ) (x : A) → n ≡ prefix_len (λ y. before (f y) (f x)) xs → map f (insert xs n x) ≡ insert_by before (f x) (map f xs)
   inserted xs n x e =
-      let z : n ≡ 0 + prefix_len (λ y. before (f y) (f x)) xs = omega (arith, e) in
-      ap (λ k. map f (insert xs k x)) z ∙ (ap (map f) (insert-place (λ a b. before (f a) (f b)) x 0 xs) ∙ insert-seen x xs)
+      ap (λ k. map f (insert xs k x)) e ∙ (ap (map f) (insert-front (λ a b. before (f a) (f b)) x xs) ∙ insert-seen x xs)
 
 module _ {A : Type 0} (before : A → A → Bool) where
   -- these, each put among others that are in order

@@ -31,8 +31,8 @@ module _ {O A : Type 0} (value : A → O) (meta : O → ObjectMeta) where
   kind-all w (e ∷ es) = kind-all (with_event value meta w e) es
 
   pub handles-all : (w : Writing O) (events : List (Event A)) → HasSameHandles w (fold (with_event value meta) w events)
-  handles-all w [] = record { book = refl; readers = refl }
-  handles-all w (e ∷ es) = let r = handles-all (with_event value meta w e) es in record { book = r.book; readers = r.readers }
+  handles-all w [] = record { book = refl; readers = refl; shown = refl }
+  handles-all w (e ∷ es) = let r = handles-all (with_event value meta w e) es in record { book = r.book; readers = r.readers; shown = r.shown }
 
 module _ {K : Type 0} (meta : K → ObjectMeta) where
   -- one of the root

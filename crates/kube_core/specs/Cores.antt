@@ -23,10 +23,12 @@ pub record Parts (K D : Type 0) : Type 0 where
   pub clock : Moment
   pub is_shut : Bool
 
--- handles that were given before are handles of this writer as well, and as many may still be given
+-- handles that were given before are handles of this writer as well, as many may still be given, and nothing more was
+-- published
 pub record HasSameHandles {K : Type 0} (old new : Writing K) : Type 0 where
   pub book : new.book ≡ old.book
   pub readers : new.readers ≡ old.readers
+  pub shown : new.shown ≡ old.shown
 
 -- the same with this room for requests
 abbrev pub with_room : {K D : Type 0} → Parts K D → ℕ → Parts K D

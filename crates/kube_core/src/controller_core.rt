@@ -1,7 +1,7 @@
 //! What decides in a controller: what is stored, what waits, and what runs (kube-runtime's `Controller` and `applier`,
 //! without their streams).
 
-ghost use Rattle.std.specs.Prelude.{◌≡◌, ◌↔◌, ◌≤◌, ◌+◌, ◌-◌, ◌++◌, ◌∷◌, ◌&&◌, not, true, false, [], List, Some, None, IfOk, IfSome, IsNone, OnOk, OnErr, option_copied, length, map};
+ghost use Rattle.std.specs.Prelude.{◌≡◌, ◌↔◌, ◌⊎◌, ◌≤◌, ◌+◌, ◌-◌, ◌++◌, ◌∷◌, ◌&&◌, not, true, false, [], List, Some, None, IfOk, IfSome, IsNone, OnOk, OnErr, option_copied, length, map};
 ghost use Rattle.std.specs.Option.{option_map};
 ghost use Rattle.std.specs.Arc.{arc_value};
 ghost use Rattle.kube_meta.specs.Keys.{reference_of};
@@ -11,7 +11,8 @@ ghost use Rattle.kube_model.specs.Queue.{QueueEvent, waiting};
 ghost use Rattle.kube_model.specs.Requests.{requested_at};
 ghost use Rattle.kube_model.specs.Takes.{Running, runs};
 ghost use Rattle.kube_reflect.specs.Exchanged.{IsLeftBy, MayFollow, all_keyed};
-ghost use Rattle.kube_reflect.specs.Writers.{new_writer};
+ghost use Rattle.kube_reflect.specs.Entries.{IsPublished};
+ghost use Rattle.kube_reflect.specs.Writers.{new_writer, published};
 ghost use Rattle.kube_history.specs.CoreWorld.{CoreWorld};
 ghost use Rattle.kube_history.specs.CoreEvents.{CoreEvent, Answered, Requested, Reloaded, Finished, Settled, Took, Shut, answers_in, cache_of, clock_of, next_taken, queue_of, running_of, was_shut};
 ghost use Rattle.kube_history.specs.Legal.{MayBeAnswered};
@@ -104,11 +105,15 @@ impl<K: Resource> Core<K> {
     ///
     /// # Errors
     ///
-    /// `NoMemory` where there is none for what is read; nothing was published then.
+    /// `NoMemory` where there is none for what is read: handles then read what they read before, or all of it.
     pub fn publish<R: Wait>(&mut self, rt: &R, alloc: Global) -> Result<Published<K>, NoMemory>
         ensures note { IfOk result (λ n. n.book ≡ self.old.writer.book) }
         ensures events { IfOk result (λ n. n.events ≡ self.old.writer.events) }
-        ensures same { self.new ≡ self.old }
+        ensures shown { IfOk result (λ n. (n.shown ≡ self.new.writer.shown) × IsPublished n.shown n.events) }
+        ensures writer { OnOk result (self.new.writer ≡ published self.old.writer) }
+        ensures err { OnErr result ((self.new.writer ≡ self.old.writer) ⊎ (self.new.writer ≡ published self.old.writer)) }
+        ensures rest { self.new ≡ record self.old { writer = record self.old.writer { shown = self.new.writer.shown } } }
+        ensures stands { (core : CoreWorld K) (es : List (CoreEvent K)) → StandsFor K.type_of K.meta_of core es self.old → StandsFor K.type_of K.meta_of core es self.new }
     {
         self.writer.publish(rt, alloc)
     }

@@ -19,6 +19,8 @@ use Rattle.kube_history.proofs.Answerable.{answerable, shaped}
 use Rattle.kube_history.proofs.Segments.{answers-append}
 use Rattle.kube_history.proofs.TurnParts.{turn-fits}
 use Rattle.kube_streams.specs.declared.backoff.Backoff as backoff
+use Rattle.kube_reflect.specs.Cached.{Kept}
+use Rattle.kube_reflect.specs.Exchanged.{IsLeftBy}
 use Rattle.kube_core.specs.Cores.{Parts, StandsFor as CoreStands}
 use Rattle.kube_asks.specs.Asking.{Asking, AskStands, IsNextAsked, IsPolledAt, IsBrokenAt, IsLostAt, IfUnnamed, IsWorldOf, with_asked}
 use Rattle.kube_asks.specs.declared.asks.AskFault.{AskFault}
@@ -137,13 +139,16 @@ module _ {R S B O D : Type 0} (root : root_source.Ghosts R O D) (related : relat
 
     pub ended-next : (f : AskFault) → (f ≡ faults.NoMemory → (source : ℕ) × IsLostAt root.polls related.polls root.loses related.loses (AllStand root related a.root a.related) at a.root a.related a'.root a'.related source × Found (Some source))
         → IfUnnamed f (λ source. IsBrokenAt root.breaks related.breaks at a.root a.related a'.root a'.related source × Found (Some source)) → (f ≡ faults.Spent → a.is_spent ≡ true)
-        → AreEndedBy root related w h t f xs a.root a.related a'.root a'.related
+        → AreEndedBy root related w h t f core.writer.kept xs a.root a.related a'.root a'.related
+    unfolding cut-none
     ended-next faults.NoMemory lost unnamed only =
         let l = lost refl in
         cut-none (IsLostNext root related) (AskedOnce l.0 (found-is (Some l.0) l.2) (subst (λ n. IsLostAt root.polls related.polls root.loses related.loses (AllStand root related a.root a.related) n a.root a.related a'.root a'.related l.0) (sym now) l.1))
-    ended-next (faults.Unnamed source) lost unnamed only =
-        cut-none (λ next n p q p' q'. IsUnnamedNext root related next n p q p' q' source)
-        (record { next_is = found-is (Some source) unnamed.1; broken = subst (λ n. IsBrokenAt root.breaks related.breaks n a.root a.related a'.root a'.related source) (sym now) unnamed.0 })
+    ended-next (faults.Unnamed source) lost unnamed only = (
+      cut-none (λ next n p q p' q'. IsUnnamedNext root related next n p q p' q' source)
+          (record { next_is = found-is (Some source) unnamed.1; broken = subst (λ n. IsBrokenAt root.breaks related.breaks n a.root a.related a'.root a'.related source) (sym now) unnamed.0 }),
+      subst (λ ds. IsLeftBy w.key (exchanges_of 0 ds) core.writer.kept) (may.answers ∙ ap (exchanges_with h t) (sym (append-nil xs))) may.core_stands.stored,
+    )
     ended-next faults.Spent lost unnamed only = absurd (let e : false ≡ true = sym may.unspent ∙ only refl in cc)
 
     module _ (x : Exchange O) (next : IsNextAsked w t.budget (exchanges h) (dated t.at xs) at (Some x) × AskStands w (root.stands a'.root) (related.stands a'.related) (length (related.feeds a.related)) t.budget (exchanges h) (with_asked (dated t.at xs) at (Some x)) a'.kept)
@@ -221,10 +226,11 @@ module _ {R S B O D : Type 0} (root : root_source.Ghosts R O D) (related : relat
   }
 
   pub ended-more : (f : AskFault) (es : List (CoreEvent O)) (a : Asking R S B) (xs : List (Exchange O)) (b : Asking R S B) (core' : Parts O D) (r : R) (s : S) → AreAsked root related delays object w h t es a xs b core'
-      → AreEndedBy root related w h t f xs b.root b.related r s → AreEndedBy root related w h t f [] a.root a.related r s
-  ended-more faults.NoMemory es a xs b core' r s k e = cut-more (IsLostNext root related) es a xs b core' r s k e
-  ended-more (faults.Unnamed source) es a xs b core' r s k e = cut-more (λ next n p q p' q'. IsUnnamedNext root related next n p q p' q' source) es a xs b core' r s k e
-  ended-more faults.Spent es a xs b core' r s k e = absurd e
+      → (kept : Kept O) → AreEndedBy root related w h t f kept xs b.root b.related r s → AreEndedBy root related w h t f kept [] a.root a.related r s
+  unfolding cut-more
+  ended-more faults.NoMemory es a xs b core' r s k kept e = cut-more (IsLostNext root related) es a xs b core' r s k e
+  ended-more (faults.Unnamed source) es a xs b core' r s k kept e = (cut-more (λ next n p q p' q'. IsUnnamedNext root related next n p q p' q' source) es a xs b core' r s k e.0, e.1)
+  ended-more faults.Spent es a xs b core' r s k kept e = absurd e
 
   -- nothing more was asked, and memory was wanting
   pub asked-lost : (es : List (CoreEvent O)) (a : Asking R S B) (xs : List (Exchange O)) (b : Asking R S B) (core' : Parts O D) → AreAsked root related delays object w h t es a xs b core'

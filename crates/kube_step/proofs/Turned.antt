@@ -16,6 +16,7 @@ use Rattle.kube_history.specs.Agrees.{Agrees}
 use Rattle.kube_history.specs.Legal.{AreLegal}
 use Rattle.kube_history.proofs.Segments.{running-append}
 use Rattle.kube_streams.specs.declared.backoff.Backoff as backoff
+use Rattle.kube_reflect.specs.Cached.{Kept}
 use Rattle.kube_core.specs.Cores.{Parts, StandsFor as CoreStands}
 use Rattle.kube_asks.specs.Asking.{Asking, AskStands, asking_begun}
 use Rattle.kube_asks.specs.declared.asks.AskFault.{AskFault}
@@ -122,11 +123,12 @@ module _ {R S B O D : Type 0} (root : root_source.Ghosts R O D) (related : relat
         (subst (λ us. CoreStands object.type_of object.meta_of (core_world w) us core2) (open-events w h t es may.parts.agrees closed k e fs) core_stands)
 
     -- a fault of what follows is one of the turn
-    pub ended-first : (f : AskFault) (r : R) (s : S) → not closed ≡ true × ((us : List (CoreEvent O)) → MayAsk root related delays object w h t [] us a1 core2 → AreEndedBy root related w h t f [] a1.root a1.related r s)
-        → AreEndedBy root related w h t f [] a.root a.related r s
-    ended-first f r s e =
-        subst (λ p. AreEndedBy root related w h t f [] p a.related r s) same-root
-        (subst (λ q. AreEndedBy root related w h t f [] a1.root q r s) same-related
+    pub ended-first : (f : AskFault) (kept : Kept O) (r : R) (s : S)
+        → not closed ≡ true × ((us : List (CoreEvent O)) → MayAsk root related delays object w h t [] us a1 core2 → AreEndedBy root related w h t f kept [] a1.root a1.related r s)
+        → AreEndedBy root related w h t f kept [] a.root a.related r s
+    ended-first f kept r s e =
+        subst (λ p. AreEndedBy root related w h t f kept [] p a.related r s) same-root
+        (subst (λ q. AreEndedBy root related w h t f kept [] a1.root q r s) same-related
         (e.1 (es ++ map (finish_event t.at) fs) (may-first (not-false closed e.0))))
 
     module _ (v : IsValid h t) (z : AreFinishesOf (answered_in fs) (running h) t.finishes fs) where

@@ -12,6 +12,8 @@ use Rattle.kube_history.specs.CoreEvents.{CoreEvent, Answered, answers_in}
 use Rattle.kube_history.specs.Agrees.{EachFits}
 use Rattle.kube_streams.specs.declared.backoff.Backoff as backoff
 use Rattle.kube_watch.specs.Stands.{exchanges_in}
+use Rattle.kube_reflect.specs.Cached.{Kept}
+use Rattle.kube_reflect.specs.Exchanged.{IsLeftBy}
 use Rattle.kube_core.specs.Cores.{Parts, StandsFor as CoreStands}
 use Rattle.kube_asks.specs.declared.asks.AskFault.{AskFault}
 use Rattle.kube_asks.specs.declared.asks.AskFault.TheVariants as faults
@@ -52,11 +54,16 @@ module _ {R S O D : Type 0} (root : root_source.Ghosts R O D) (related : related
       pub stand : AllStand reached_root reached_related (exchanges_with h t (before ++ made))
       pub rest : Ends (next_source w h t (before ++ made)) t.at reached_root reached_related r' s'
 
-    -- so did a fault
-    abbrev pub AreEndedBy : AskFault → List (Exchange O) → R → S → R → S → Type 0
-    AreEndedBy faults.NoMemory before r s r' s' = AreCutOff IsLostNext before r s r' s'
-    AreEndedBy (faults.Unnamed source) before r s r' s' = AreCutOff (λ next at p q p' q'. IsUnnamedNext next at p q p' q' source) before r s r' s'
-    AreEndedBy faults.Spent before r s r' s' = ⊥
+    -- what is kept is the store, and the list under way, that the history and these exchanges of the turn left
+    abbrev pub IsLeftAfter : List (Exchange O) → Kept O → Type 0
+    IsLeftAfter xs kept = IsLeftBy w.key (exchanges_of 0 (exchanges_with h t xs)) kept
+
+    -- so did a fault. Where an object came without a name, what is kept is what came before it left
+    abbrev pub AreEndedBy : AskFault → Kept O → List (Exchange O) → R → S → R → S → Type 0
+    AreEndedBy faults.NoMemory kept before r s r' s' = AreCutOff IsLostNext before r s r' s'
+    AreEndedBy (faults.Unnamed source) kept before r s r' s' =
+        (cut : AreCutOff (λ next at p q p' q'. IsUnnamedNext next at p q p' q' source) before r s r' s') × IsLeftAfter (before ++ cut.made) kept
+    AreEndedBy faults.Spent kept before r s r' s' = ⊥
 
 module _ {R S B O D : Type 0} (root : root_source.Ghosts R O D) (related : related_set.Ghosts S O D) (delays : backoff.Ghosts B) (object : resource.Ghosts O D) (w : World O B) (h : List (Step O)) (t : Turn) where
   -- an open turn after a history may go on after these exchanges of it; these events are those of what decides. The root lists and watches

@@ -60,7 +60,7 @@ fn ask_one<R: RootSource, S: RelatedSet<R::Object>, B: Backoff>(
         → IsAsked R.RootSource S.RelatedSet B.Backoff R.Object.Resource w h t xs es asks.old (option_map (exchange_of R.Object.type_of) o) asks.new core.new) }
     ensures ended { IfErr result (λ f. (w : World R.Object B) (h : List (Step R.Object)) (t : Turn) (xs : List (Exchange R.Object)) (es : List (CoreEvent R.Object)) → t.at ≡ now.0
         → MayAsk R.RootSource S.RelatedSet B.Backoff R.Object.Resource w h t xs es asks.old core.old
-        → AreEndedBy R.RootSource S.RelatedSet w h t f xs asks.old.root asks.old.related asks.new.root asks.new.related) }
+        → AreEndedBy R.RootSource S.RelatedSet w h t f core.new.writer.kept xs asks.old.root asks.old.related asks.new.root asks.new.related) }
     ensures unnamed { IfErr result (λ f. IfUnnamedAsk f (λ source. core.new ≡ core.old)) }
 {
     let Some(exchange) = asks.next(alloc, now)? else {
@@ -96,7 +96,7 @@ pub fn ask_all<R: RootSource, S: RelatedSet<R::Object>, B: Backoff>(
         × (next_source w h t (map (exchange_of R.Object.type_of) xs) ≡ None)) }
     ensures ended { IfErr result (λ f. (w : World R.Object B) (h : List (Step R.Object)) (t : Turn) (es : List (CoreEvent R.Object)) → t.at ≡ now.0
         → MayAsk R.RootSource S.RelatedSet B.Backoff R.Object.Resource w h t [] es asks.old core.old
-        → AreEndedBy R.RootSource S.RelatedSet w h t f [] asks.old.root asks.old.related asks.new.root asks.new.related) }
+        → AreEndedBy R.RootSource S.RelatedSet w h t f core.new.writer.kept [] asks.old.root asks.old.related asks.new.root asks.new.related) }
     ensures unnamed { IfErr result (λ f. IfUnnamedAsk f (λ source. (w : World R.Object B) (h : List (Step R.Object)) (t : Turn) (es : List (CoreEvent R.Object)) → t.at ≡ now.0
         → MayAsk R.RootSource S.RelatedSet B.Backoff R.Object.Resource w h t [] es asks.old core.old
         → (xs : List (Exchange R.Object)) × EachIsNext w h t [] xs × CoreStands R.Object.type_of R.Object.meta_of (core_world w) (es ++ map (Answered t.at) xs) core.new)) }

@@ -162,7 +162,7 @@ where
     ensures something { IfOk result (λ m. AllByRecursion (IsSomething R.Object.type_of) m.taken) }
     ensures ended { IfErr result (λ f. (w : World R.Object B) (h : List (Step R.Object)) (t : PlainTurn) (es : List (CoreEvent R.Object)) → t.at ≡ at.0 → t.reload ≡ reload → t.on ≡ map (reference_of R.Object.type_of) on
         → MayAsk R.RootSource S.RelatedSet B.Backoff R.Object.Resource w h t [] es asks.old core.old
-        → AreEndedBy R.RootSource S.RelatedSet w h t f [] asks.old.root asks.old.related asks.new.root asks.new.related) }
+        → AreEndedBy R.RootSource S.RelatedSet w h t f core.new.writer.kept [] asks.old.root asks.old.related asks.new.root asks.new.related) }
     ensures handed_before { OnErr result ((ts : List (PlainTaken R.Object)) × (Rc.handed reconciler.new ≡ grown_by (Rc.handed reconciler.old) (handed_by ts))
         × ((w : World R.Object B) (h : List (Step R.Object)) (t : PlainTurn) (es : List (CoreEvent R.Object)) → t.at ≡ at.0 → t.reload ≡ reload → t.on ≡ map (reference_of R.Object.type_of) on
         → MayAsk R.RootSource S.RelatedSet B.Backoff R.Object.Resource w h t [] es asks.old core.old
@@ -210,7 +210,7 @@ where
     ensures something { IfOk result (λ m. AllByRecursion (IsSomething R.Object.type_of) m.taken) }
     ensures ended { IfErr result (λ f. (goes_on ≡ true) × ((w : World R.Object B) (h : List (Step R.Object)) (t : PlainTurn) (es : List (CoreEvent R.Object)) → t.at ≡ at.0 → t.reload ≡ reload → t.on ≡ map (reference_of R.Object.type_of) on
         → MayAsk R.RootSource S.RelatedSet B.Backoff R.Object.Resource w h t [] es asks.old core.old
-        → AreEndedBy R.RootSource S.RelatedSet w h t f [] asks.old.root asks.old.related asks.new.root asks.new.related)) }
+        → AreEndedBy R.RootSource S.RelatedSet w h t f core.new.writer.kept [] asks.old.root asks.old.related asks.new.root asks.new.related)) }
     ensures handed_before { OnErr result ((ts : List (PlainTaken R.Object)) × (Rc.handed reconciler.new ≡ grown_by (Rc.handed reconciler.old) (handed_by ts))
         × ((w : World R.Object B) (h : List (Step R.Object)) (t : PlainTurn) (es : List (CoreEvent R.Object)) → t.at ≡ at.0 → t.reload ≡ reload → t.on ≡ map (reference_of R.Object.type_of) on
         → MayAsk R.RootSource S.RelatedSet B.Backoff R.Object.Resource w h t [] es asks.old core.old
@@ -286,7 +286,7 @@ where
     ensures something { IfOk result (λ r. AllByRecursion (IsSomething R.Object.type_of) r.taken) }
     ensures ended { IfErr result (λ f. (w : World R.Object B) (h : List (Step R.Object))
         → MayGoOn R.RootSource S.RelatedSet B.Backoff R.Object.Resource w h asks.old core.old → IsValid h (turn_of R.Object.type_of turn)
-        → AreEndedBy R.RootSource S.RelatedSet w h (turn_of R.Object.type_of turn) f [] asks.old.root asks.old.related asks.new.root asks.new.related) }
+        → AreEndedBy R.RootSource S.RelatedSet w h (turn_of R.Object.type_of turn) f core.new.writer.kept [] asks.old.root asks.old.related asks.new.root asks.new.related) }
     ensures handed_before { OnErr result ((ts : List (PlainTaken R.Object)) × (Rc.handed reconciler.new ≡ grown_by (Rc.handed reconciler.old) (handed_by ts))
         × ((w : World R.Object B) (h : List (Step R.Object))
         → MayGoOn R.RootSource S.RelatedSet B.Backoff R.Object.Resource w h asks.old core.old → IsValid h (turn_of R.Object.type_of turn)

@@ -1,12 +1,14 @@
 //! Controllers that have not run yet, and what can be seen of one.
 
-ghost use Rattle.std.specs.Prelude.{◌≡◌, ◌↔◌, ◌-◌, [], List, IfOk, IfSome, IsNone, Some, None, if◌then◌else◌};
+ghost use Rattle.std.specs.Prelude.{◌≡◌, ◌↔◌, ◌⊎◌, ◌-◌, [], List, IfOk, IfSome, IsNone, OnOk, OnErr, Some, None, if◌then◌else◌};
 ghost use Rattle.kube_model.specs.World.{World};
 ghost use Rattle.kube_model.specs.History.{Step};
 ghost use Rattle.kube_model.specs.Stored.{store_after};
 ghost use Rattle.kube_watch.specs.Stands.{api_of, config_of};
 ghost use Rattle.kube_streams.specs.Backoffs.{ResetTimer, Exponential, default_backoff};
 ghost use Rattle.kube_reflect.specs.Exchanged.{all_keyed};
+ghost use Rattle.kube_reflect.specs.Entries.{IsPublished};
+ghost use Rattle.kube_reflect.specs.Writers.{published};
 ghost use Rattle.kube_step.specs.Controllers.{IsWorldOfAsks};
 ghost use Rattle.kube_control.specs.Controllers.{StandsFor};
 
@@ -151,7 +153,7 @@ impl<A: ApiMode, S: RelatedSet<A::Value>, B: Backoff> Controller<WatchRoot<A>, S
     ///
     /// # Errors
     ///
-    /// `NoMemory` where there is none for what is read; nothing was published then.
+    /// `NoMemory` where there is none for what is read: handles then read what they read before, or all of it.
     pub fn publish<W: Wait>(
         &mut self,
         rt: &W,
@@ -159,7 +161,12 @@ impl<A: ApiMode, S: RelatedSet<A::Value>, B: Backoff> Controller<WatchRoot<A>, S
     ) -> Result<Published<A::Value>, NoMemory>
         ensures note { IfOk result (λ n. n.book ≡ self.old.core.writer.book) }
         ensures events { IfOk result (λ n. n.events ≡ self.old.core.writer.events) }
-        ensures same { self.new ≡ self.old }
+        ensures shown { IfOk result (λ n. (n.shown ≡ self.new.core.writer.shown) × IsPublished n.shown n.events) }
+        ensures writer { OnOk result (self.new.core.writer ≡ published self.old.core.writer) }
+        ensures err { OnErr result ((self.new.core.writer ≡ self.old.core.writer) ⊎ (self.new.core.writer ≡ published self.old.core.writer)) }
+        ensures rest { self.new ≡ record self.old { core = record self.old.core { writer = record self.old.core.writer { shown = self.new.core.writer.shown } } } }
+        ensures stands { (w : World A.Value B) (h : List (Step A.Value)) → StandsFor ⟦<WatchRoot<A> as RootSource>⟧ S.RelatedSet B.Backoff A.Value.Resource w h self.old
+            → StandsFor ⟦<WatchRoot<A> as RootSource>⟧ S.RelatedSet B.Backoff A.Value.Resource w h self.new }
     {
         self.core.publish(rt, alloc)
     }

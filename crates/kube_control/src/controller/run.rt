@@ -125,7 +125,8 @@ impl<A: ApiMode, S: RelatedSet<A::Value>, B: Backoff> Controller<WatchRoot<A>, S
             × ArePolled ⟦<WatchRoot<A> as RootSource>⟧.polls S.polls (exchanges h) self.old.asks.root self.old.asks.related (dated_in (records_of A.Value.type_of (records_before e))) self.new.asks.root self.new.asks.related
             × StandsFor ⟦<WatchRoot<A> as RootSource>⟧ S.RelatedSet B.Backoff A.Value.Resource w (h ++ steps (take turn (turns_of A.Value.type_of turns.items)) (map unread (records_of A.Value.type_of (records_before e)))) self.new))) }
 
-        // An object without a name came from its source, asked by the next call of the turn after those that were taken.
+        // An object without a name came from its source, asked by the next call of the turn after those that were taken. What
+        // is stored then is what came before it.
         ensures unnamed { IfErr result (λ e. IfUnnamed e (λ turn source. (turn ≡ length (records_before e))
             × ((w : World A.Value B) (h : List (Step A.Value)) → StandsFor ⟦<WatchRoot<A> as RootSource>⟧ S.RelatedSet B.Backoff A.Value.Resource w h self.old
             → WereBrokenOff ⟦<WatchRoot<A> as RootSource>⟧ S.RelatedSet B.Backoff A.Value.Resource w (AskFault.Unnamed source) h (turns_of A.Value.type_of turns.items) self.old (records_of A.Value.type_of (records_before e)) self.new (Rc.handed reconciler.old) (Rc.handed reconciler.new)))) }

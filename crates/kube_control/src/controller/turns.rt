@@ -75,7 +75,7 @@ where
     ensures refused { IfErr result (λ s. IfRefusedTurn s (λ why. (controller.new ≡ controller.old) × (Rc.handed reconciler.new ≡ Rc.handed reconciler.old)
         × ((w : World R.Object B) (h : List (Step R.Object)) → IsWatching R.RootSource S.RelatedSet B.Backoff R.Object.Resource w h controller.old → refusal h (turn_of R.Object.type_of turn) ≡ Some why))) }
     ensures broken { IfErr result (λ s. IfFaulted s (λ f. (w : World R.Object B) (h : List (Step R.Object)) → IsWatching R.RootSource S.RelatedSet B.Backoff R.Object.Resource w h controller.old
-        → IsBrokenOff R.RootSource S.RelatedSet B.Backoff R.Object.Resource w f h (turn_of R.Object.type_of turn) controller.old.asks.root controller.old.asks.related controller.new.asks.root controller.new.asks.related
+        → IsBrokenOff R.RootSource S.RelatedSet B.Backoff R.Object.Resource w f h (turn_of R.Object.type_of turn) controller.old.asks.root controller.old.asks.related controller.new.core.writer.kept controller.new.asks.root controller.new.asks.related
         (Rc.handed reconciler.old) (Rc.handed reconciler.new))) }
     ensures starts_nothing { IfErr result (λ s. IfFaulted s (λ f. IfUnnamedAsk f (λ source. Rc.handed reconciler.new ≡ Rc.handed reconciler.old))) }
 {
@@ -146,7 +146,7 @@ where
     ensures refused { IfErr result (λ s. IfRefusedTurn s (λ why. (controller.new ≡ controller.old) × (Rc.handed reconciler.new ≡ Rc.handed reconciler.old)
         × ((w : World R.Object B) (h : List (Step R.Object)) → IsWatching R.RootSource S.RelatedSet B.Backoff R.Object.Resource w h controller.old → refusal h (turn_of R.Object.type_of turn) ≡ Some why))) }
     ensures broken { IfErr result (λ s. IfFaulted s (λ f. (w : World R.Object B) (h : List (Step R.Object)) → IsWatching R.RootSource S.RelatedSet B.Backoff R.Object.Resource w h controller.old
-        → IsBrokenOff R.RootSource S.RelatedSet B.Backoff R.Object.Resource w f h (turn_of R.Object.type_of turn) controller.old.asks.root controller.old.asks.related controller.new.asks.root controller.new.asks.related
+        → IsBrokenOff R.RootSource S.RelatedSet B.Backoff R.Object.Resource w f h (turn_of R.Object.type_of turn) controller.old.asks.root controller.old.asks.related controller.new.core.writer.kept controller.new.asks.root controller.new.asks.related
         (Rc.handed reconciler.old) (Rc.handed reconciler.new))) }
     ensures starts_nothing { IfErr result (λ s. IfFaulted s (λ f. IfUnnamedAsk f (λ source. Rc.handed reconciler.new ≡ Rc.handed reconciler.old))) }
 {

@@ -29,7 +29,7 @@ loop-all-preserved g c =
       related = e.related;
       feeds = e.feeds ∙ i.feeds;
       clock = e.clock;
-      handles = record { book = e.handles.book ∙ i.handles.book; readers = e.handles.readers ∙ i.handles.readers };
+      handles = record { book = e.handles.book ∙ i.handles.book; readers = e.handles.readers ∙ i.handles.readers; shown = e.handles.shown ∙ i.handles.shown };
       asked = λ w h t es at may.
           let k = i.asked w h t es at may in
           let xs = map f c.loop-all.all in
@@ -56,7 +56,7 @@ returns-in_err-exchange-clause-ended g c =
     rw (p.1, p.2) (λ w h t es at may.
     let k = c.loop-all.invariant.asked w h t es at may in
     let xs = map f c.loop-all.all in
-    ended-more g.R.RootSource g.S.RelatedSet g.B.Backoff g.R.Object.Resource w h t c.in_err-exchange.field-0.0 es c.args.asks.now xs c.loop-all.asks c.loop-all.core c.ask_one.new.asks.root c.ask_one.new.asks.related k
+    ended-more g.R.RootSource g.S.RelatedSet g.B.Backoff g.R.Object.Resource w h t c.in_err-exchange.field-0.0 es c.args.asks.now xs c.loop-all.asks c.loop-all.core c.ask_one.new.asks.root c.ask_one.new.asks.related k c.ask_one.new.core.writer.kept
     (c.in_err-exchange.ensures.ended w h t xs (es ++ map (Answered t.at) xs) at k.may))
 
 pub returns-in_err-exchange-clause-unnamed : goal.returns-in_err-exchange-clause-unnamed

@@ -42,7 +42,7 @@ returns-in_err-made-clause-ended g c =
     let ran = running-first w h t may.parts.events may.parts.agrees c.close-closed.result k in
     let begun = c.begin.ensures.stands w may.parts.budget may.parts.before may.parts.mine may.parts.asks_stand in
     let done = c.in_ok-finished.ensures.stands (core_world w) first h t first-stands ran v refl in
-    ended-first g.R.RootSource g.S.RelatedSet g.B.Backoff g.R.Object.Resource w h t c.args.asks.now c.args.core.now may c.begin.new.self c.from.result.items c.from.ensures c.begin.ensures.begun begun c.close-closed.result k fs c.finish_all.new.core done c.in_err-made.field-0.0 c.go_on_where.new.asks.root c.go_on_where.new.asks.related
+    ended-first g.R.RootSource g.S.RelatedSet g.B.Backoff g.R.Object.Resource w h t c.args.asks.now c.args.core.now may c.begin.new.self c.from.result.items c.from.ensures c.begin.ensures.begun begun c.close-closed.result k fs c.finish_all.new.core done c.in_err-made.field-0.0 c.go_on_where.new.core.writer.kept c.go_on_where.new.asks.root c.go_on_where.new.asks.related
     (c.in_err-made.ensures.ended.0, λ us m. c.in_err-made.ensures.ended.1 w h t us refl refl refl m))
 
 pub returns-in_err-made-clause-handed_before : goal.returns-in_err-made-clause-handed_before

@@ -12,7 +12,7 @@ use Rattle.kube_control.proofs.controller.turns.next_turn.Goals as goal
 pub returns-in_err-why-clause-broken : goal.returns-in_err-why-clause-broken
 returns-in_err-why-clause-broken g c =
     let p = err_from_is_err_and c.from_residual.result c.from_residual.ensures.1 in
-    rw (p.1, p.2) (λ w h k. nothing-lost g.R.RootSource g.S.RelatedSet g.B.Backoff g.R.Object.Resource w h (turn_of g.R.Object.Resource.type_of c.args.turn) c.args.controller.now (g.Rc.Reconciler.handed c.args.reconciler.now) k)
+    rw (p.1, p.2) (λ w h k. nothing-lost g.R.RootSource g.S.RelatedSet g.B.Backoff g.R.Object.Resource w h (turn_of g.R.Object.Resource.type_of c.args.turn) c.args.controller.now c.args.controller.now.core.writer.kept (g.Rc.Reconciler.handed c.args.reconciler.now) k)
 
 pub returns-in-Some-clause-refused : goal.returns-in-Some-clause-refused
 returns-in-Some-clause-refused g c = (
@@ -40,7 +40,7 @@ returns-in_err-record-clause-broken g c =
     let is = ap (λ (m : Moment). m.0) (c.last_moment-last.ensures.last (omega (arith, clock, behind, last))) ∙ last in
     let why = c.in_ok-why.ensures.why (core_world w) k.may.parts.events h k.may.parts.core_stands k.may.parts.agrees.running is in
     let valid = sym why ∙ ap (option_map refusal_of) c.in_default.is in
-    broken-is g.R.RootSource g.S.RelatedSet g.B.Backoff g.R.Object.Resource w _ h (turn_of g.R.Object.Resource.type_of c.args.turn) c.args.controller.now _ c.take_turn.new.asks.root c.take_turn.new.asks.related
+    broken-is g.R.RootSource g.S.RelatedSet g.B.Backoff g.R.Object.Resource w _ h (turn_of g.R.Object.Resource.type_of c.args.turn) c.args.controller.now _ c.take_turn.new.core.writer.kept c.take_turn.new.asks.root c.take_turn.new.asks.related
     (g.Rc.Reconciler.handed c.args.reconciler.now) (g.Rc.Reconciler.handed c.take_turn.new.reconciler) before.0 c.controller.view_is valid (c.in_err-record.ensures.ended w h k.may valid) (before.2 w h k.may valid) before.1)
 
 pub returns-clause-next : goal.returns-clause-next

@@ -25,7 +25,7 @@ loop-turn-preserved g c =
       feeds = e.feeds ∙ now.feeds;
       root = e.root;
       related = e.related;
-      handles = record { book = e.handles.book ∙ now.handles.book; readers = e.handles.readers ∙ now.handles.readers };
+      handles = record { book = e.handles.book ∙ now.handles.book; readers = e.handles.readers ∙ now.handles.readers; shown = e.handles.shown ∙ now.handles.shown };
       spent = e.spent ∙ now.spent;
       short = short-more g.R.RootSource g.S.RelatedSet g.B.Backoff g.R.Object.Resource (Answers g.P.Fn c.args.error_policy.now (arc_value c.args.context.now)) c.in-Some.turn c.loop-turn.yielded c.loop-turn.records.items c.args.controller.now c.loop-turn.controller c.add_turn.new.controller (g.Rc.Reconciler.handed c.args.reconciler.now) (g.Rc.Reconciler.handed c.loop-turn.reconciler) (g.Rc.Reconciler.handed c.add_turn.new.reconciler) c.add_turn.new.records.items e.ended e.next now.short;
       done = λ w h k. done-more g.R.RootSource g.S.RelatedSet g.B.Backoff g.R.Object.Resource (Answers g.P.Fn c.args.error_policy.now (arc_value c.args.context.now)) c.in-Some.turn c.loop-turn.yielded c.loop-turn.records.items c.args.controller.now c.loop-turn.controller c.add_turn.new.controller (g.Rc.Reconciler.handed c.args.reconciler.now) (g.Rc.Reconciler.handed c.loop-turn.reconciler) (g.Rc.Reconciler.handed c.add_turn.new.reconciler) c.add_turn.new.records.items e.ended e.next w h now.short (now.done w h k);

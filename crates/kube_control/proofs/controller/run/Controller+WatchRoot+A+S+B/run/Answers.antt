@@ -151,7 +151,7 @@ returns-in-Err-Faulted-Unnamed-clause-unnamed g c =
           let k =
           watching-is _ g.S.RelatedSet g.B.Backoff g.A.Value.Resource w h c.args.self.now s (settings_in c.args.self.now.asks.root.watcher) refl
           (λ named own at x old new p. recorded-named (version_of g.A.Value.Resource.meta_of) g.A.Value.Resource.meta_of w named own x p.call.raw p.call.recorded.answer p.call.recorded.items p.named) in
-          broken-same _ g.S.RelatedSet g.B.Backoff g.A.Value.Resource w (faults.Unnamed c.in-Err-Faulted-Unnamed.source) h (turns_of g.A.Value.Resource.type_of c.args.turns.items) c.args.self.now (records_of g.A.Value.Resource.type_of c.take_turns.new.records.items) c.take_turns.new.controller c.fail.new.self (g.Rc.Reconciler.handed c.args.reconciler.now) (g.Rc.Reconciler.handed c.take_turns.new.reconciler) (ap (λ (z : Controlling _ _ _ _ _). z.asks) c.fail.ensures.spent) (b w h k),
+          broken-same _ g.S.RelatedSet g.B.Backoff g.A.Value.Resource w (faults.Unnamed c.in-Err-Faulted-Unnamed.source) h (turns_of g.A.Value.Resource.type_of c.args.turns.items) c.args.self.now (records_of g.A.Value.Resource.type_of c.take_turns.new.records.items) c.take_turns.new.controller c.fail.new.self (g.Rc.Reconciler.handed c.args.reconciler.now) (g.Rc.Reconciler.handed c.take_turns.new.reconciler) (ap (λ (z : Controlling _ _ _ _ _). z.asks) c.fail.ensures.spent) (ap (λ (z : Controlling _ _ _ _ _). z.core) c.fail.ensures.spent) (b w h k),
     )
 
 pub returns-in-Err-Faulted-Unnamed-clause-policy_before : goal.returns-in-Err-Faulted-Unnamed-clause-policy_before
@@ -173,7 +173,7 @@ returns-in-Err-Faulted-NoMemory-clause-no_memory g c =
     let k =
     watching-is _ g.S.RelatedSet g.B.Backoff g.A.Value.Resource w h c.args.self.now s (settings_in c.args.self.now.asks.root.watcher) refl
     (λ named own at x old new p. recorded-named (version_of g.A.Value.Resource.meta_of) g.A.Value.Resource.meta_of w named own x p.call.raw p.call.recorded.answer p.call.recorded.items p.named) in
-    broken-same _ g.S.RelatedSet g.B.Backoff g.A.Value.Resource w faults.NoMemory h (turns_of g.A.Value.Resource.type_of c.args.turns.items) c.args.self.now (records_of g.A.Value.Resource.type_of c.take_turns.new.records.items) c.take_turns.new.controller c.fail-in-Err-Faulted-NoMemory.new.self (g.Rc.Reconciler.handed c.args.reconciler.now) (g.Rc.Reconciler.handed c.take_turns.new.reconciler) (ap (λ (z : Controlling _ _ _ _ _). z.asks) c.fail-in-Err-Faulted-NoMemory.ensures.spent) (b w h k))
+    broken-same _ g.S.RelatedSet g.B.Backoff g.A.Value.Resource w faults.NoMemory h (turns_of g.A.Value.Resource.type_of c.args.turns.items) c.args.self.now (records_of g.A.Value.Resource.type_of c.take_turns.new.records.items) c.take_turns.new.controller c.fail-in-Err-Faulted-NoMemory.new.self (g.Rc.Reconciler.handed c.args.reconciler.now) (g.Rc.Reconciler.handed c.take_turns.new.reconciler) (ap (λ (z : Controlling _ _ _ _ _). z.asks) c.fail-in-Err-Faulted-NoMemory.ensures.spent) (ap (λ (z : Controlling _ _ _ _ _). z.core) c.fail-in-Err-Faulted-NoMemory.ensures.spent) (b w h k))
 
 pub returns-in-Err-Faulted-NoMemory-clause-policy_before : goal.returns-in-Err-Faulted-NoMemory-clause-policy_before
 returns-in-Err-Faulted-NoMemory-clause-policy_before g c =
