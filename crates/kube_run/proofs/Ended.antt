@@ -1,41 +1,90 @@
 -- What a run of a script's controller answers where a turn ends it, from what the run of a controller promises.
-use Rattle.std.proofs.Common.{◌≡◌, ℕ, zero, suc, ◌≤◌, false, List, [], ◌∷◌, ◌++◌, map, take, length, slice_get, Some, refl, sym, ap, subst, ◌∙◌, arith}
+use Rattle.std.proofs.Common.{◌≡◌, ◌<◌, ◌-◌, nat_lt, ℕ, zero, suc, ◌≤◌, false, List, [], ◌∷◌, ◌++◌, map, take, length, slice_get, Option, Some, refl, sym, ap, subst, ◌∙◌, append-nil, arith}
+use Rattle.std.specs.Prelude.{⊤}
 use Rattle.std.proofs.lemmas.List.{length-map}
 use Rattle.kube_meta.specs.Reading.{ObjectData}
 use Rattle.kube_meta.specs.declared.action.Action.{Action}
-use Rattle.kube_model.specs.History.{Dated, Exchange, Step, Turn, TurnRecord, dated, dated_of, exchanges_of, exchanges_with}
-use Rattle.kube_model.specs.Named.{AreNamedTurns, EachIsNamed, IsOwedForm, IsUnnamedAt, OfCall, RootIsNamed}
+use Rattle.kube_model.specs.History.{Dated, Exchange, Step, Turn, TurnRecord, dated, dated_of, exchanges, exchanges_of, exchanges_with}
+use Rattle.kube_model.specs.Named.{AreNamedTurns, EachIsNamed, IsOwedForm, IsUnnamedAt, OfCall, RootIsNamed, has_names}
+use Rattle.kube_model.specs.Raw.{Raw}
 use Rattle.kube_model.specs.Traces.{EachIsNext, IsRefusedAfter, IsTrace, IsValid, Refusal, has_ended, steps, unread}
 use Rattle.kube_model.specs.Turns.{next_source}
-use Rattle.kube_model.specs.World.{Watched}
-use Rattle.kube_asks.specs.Asking.{IsBrokenAt}
+use Rattle.kube_model.specs.World.{Watched, feed_of}
+use Rattle.kube_api.specs.TestScript as api
+use Rattle.kube_asks.specs.Asking.{IsBrokenAt, SourcesStand}
+use Rattle.kube_asks.specs.Mapped.{RelatedStands}
+use Rattle.kube_asks.specs.Places.{ChangesAt, Either, HoldsAt}
 use Rattle.kube_asks.specs.Roots.{IsRootBroken, RootStands}
-use Rattle.kube_asks.specs.declared.sets.NoRelated.{NoRelated}
 use Rattle.kube_object.specs.Named.{named_type}
 use Rattle.kube_script.specs.Script.{Script}
-use Rattle.kube_script.specs.Told.{api_at_first}
 use Rattle.kube_step.specs.Calls.{ArePolled, dated_in}
 use Rattle.kube_step.specs.Policies.{answered_by}
 use Rattle.kube_text.specs.TraceText.{lines_of}
 use Rattle.kube_turn.specs.Records.{records_of, record_of, turn_of, turns_of}
-use Rattle.kube_watch.specs.Configs.{settings_of}
 use Rattle.kube_watch.specs.Stands.{api_of, settings_in}
 use Rattle.kube_control.specs.Runs.{AreFinishedIn}
-use Rattle.kube_run.specs.Played.{AreAnswered, IsPlayedTo, IsRefusedNext, IsUnnamedNext, all_faults, first_turns, has_name, policies_in, script_world, turns_in, version_of}
+use Rattle.kube_run.specs.Played.{Api, Apis, AreAnswered, IsPlayedTo, IsRefusedNext, IsUnnamedNext, all_faults, api_at, apis_at_first, first_turns, has_name, policies_in, script_world, turns_in, type_in, version_of}
 use Rattle.kube_run.specs.Runs.{HasLines}
 use Rattle.kube_run.proofs.Policies.{Held, Turns, faults_of, few-records, refused-by, same-lines, trace-by}
-use Rattle.kube_run.proofs.Polled.{Root, asked, meta_of, polled-answered, related_polls, root_polls}
-
--- no poll of a script's root changes how it lists and watches
-pub stays : (own : List (Dated ObjectData)) (now : ℕ) (old : Root) (x : Exchange ObjectData) (new : Root) → root_polls old own now x new → settings_in new.watcher ≡ settings_in old.watcher
-stays own now old x new p = ap settings_of p.config
+use Rattle.kube_run.specs.Sources.{Source}
+use Rattle.kube_run.proofs.Once.{fed-at}
+use Rattle.kube_run.proofs.Polled.{AreOfScript, Root, Sources, apis_in, asked, at-place, changed-there, list_of, meta_of, polled-answered, related_polls, root_polls, source_breaks, unnamed-at}
 
 -- what breaks a script's root
 abbrev pub root_breaks : Root → ℕ → Root → Type 0
 root_breaks old now new = IsRootBroken meta_of asked now old new
 
-abbrev pub related_breaks : NoRelated → ℕ → ℕ → NoRelated → Type 0
-related_breaks old place now new = ⊥
+-- what breaks its related sources
+abbrev pub related_breaks : Sources → ℕ → ℕ → Sources → Type 0
+related_breaks s p now s' = Either (nat_lt p 0) (⊥ × (s'.rest ≡ s.rest)) (ChangesAt (λ t u. source_breaks t now u) (p - 0) (list_of s) (list_of s') × (s'.first ≡ s.first))
+
+-- the exchanges that they stand for
+abbrev pub related_stands : Sources → ℕ → List (Dated ObjectData) → Type 0
+related_stands s p own = Either (nat_lt p 0) ⊤ (HoldsAt (λ (t : Source). RelatedStands own t.watcher) (list_of s) (p - 0))
+
+abbrev pub root_stands : Root → List (Dated ObjectData) → Type 0
+root_stands r own = RootStands meta_of own r
+
+abbrev pub count_of : Sources → ℕ
+count_of s = length ([] ++ map (λ (t : Source). Some (settings_in t.watcher)) (list_of s))
+
+-- the call that brought an object without a name to a source, after these exchanges
+record IsCall (s : Script) (a : Apis) (ds : List (Dated ObjectData)) (at source : ℕ) : Type 0 where
+  pub asked_api : Api
+  pub is_asked : api_at a source ≡ Some asked_api
+  pub raw : Raw ObjectData
+  pub after : Api
+  pub moved : api.IsMove asked_api at raw after
+  pub owes : IsOwedForm has_name version_of (feed_of (script_world s) source) (exchanges_of source ds) (OfCall raw)
+  pub unnamed : has_names has_name version_of (exchanges_of source ds) (OfCall raw) ≡ false
+
+call-at : (s : Script) (ds : List (Dated ObjectData)) (at : ℕ) (r r' : Root) (v v' : Sources) (source : ℕ) → AreOfScript s r v → SourcesStand (root_stands r) (related_stands v) (count_of v) ds
+    → IsBrokenAt root_breaks related_breaks at r v r' v' source → IsCall s (apis_in r v) ds at source
+call-at s ds at r r' v v' zero k st b = record {
+  asked_api = api_of r.watcher;
+  is_asked = refl;
+  raw = b.0.raw;
+  after = api_of r'.watcher;
+  moved = b.0.moved;
+  owes = subst (λ z. IsOwedForm has_name version_of (Watched z) (exchanges_of 0 ds) (OfCall b.0.raw)) k.settings (b.0.owes (dated_of 0 ds) st.root);
+  unnamed = b.0.unnamed (dated_of 0 ds) st.root;
+}
+call-at s ds at r r' v v' (suc place) k st b =
+    let own = dated_of (suc place) ds in
+    let here = at-place (λ p. ChangesAt (λ t u. source_breaks t at u) p (list_of v) (list_of v') × (v'.first ≡ v.first)) (⊥ × (v'.rest ≡ v.rest)) place b.0 in
+    let there = changed-there (λ t u. source_breaks t at u) place (list_of v) (list_of v') here.0 in
+    let few : place < count_of v = let e = length-map (list_of v) (λ (t : Source). Some (settings_in t.watcher)) in omega (arith, there, e) in
+    let stands = at-place (λ p. HoldsAt (λ (t : Source). RelatedStands own t.watcher) (list_of v) p) ⊤ place (st.related place few) in
+    let made = unnamed-at (type_in s) s.related (list_of v) (list_of v') place own at k.rows stands here.0 in
+    record {
+      asked_api = made.asked_api;
+      is_asked = made.is_asked;
+      raw = made.raw;
+      after = made.after;
+      moved = made.moved;
+      owes = subst (λ feed. IsOwedForm has_name version_of feed (exchanges_of (suc place) ds) (OfCall made.raw)) (sym (fed-at s.related place made.row made.there)) made.owes;
+      unnamed = made.unnamed;
+    }
 
 take-map : {A B : Type 0} (f : A → B) (n : ℕ) (xs : List A) → take n (map f xs) ≡ map f (take n xs)
 take-map f zero xs = refl
@@ -78,24 +127,24 @@ module _ (policy : ObjectData → List ℕ → Action → Type 0) where
       pub front-lines : HasLines s rs
       front-lines = same-lines policy 0 [] ts rs few finished ∙ ap (λ fs. lines_of 0 fs rows) lines
 
-      module _ (named : AreNamedTurns (script_world s) (RootIsNamed (script_world s)) [] (steps (take (length rows) (turns_of named_type ts)) (map unread rows))) (root reached : Root) (none none' : NoRelated)
-          (root_api : api_of root.watcher ≡ api_at_first s.root) (settings : settings_in root.watcher ≡ s.root.watcher) (polled : ArePolled root_polls related_polls [] root none (dated_in rows) reached none') where
-        answered : AreAnswered s.root.watcher (api_of root.watcher) (dated_in rows) (api_of reached.watcher) × (settings_in reached.watcher ≡ s.root.watcher)
-        answered = polled-answered stays s.root.watcher [] root none (dated_in rows) reached none' settings polled
+      module _ (named : AreNamedTurns (script_world s) (RootIsNamed (script_world s)) [] (steps (take (length rows) (turns_of named_type ts)) (map unread rows))) (root reached : Root) (set set' : Sources)
+          (apis : apis_in root set ≡ apis_at_first s) (of_script : AreOfScript s root set) (polled : ArePolled root_polls related_polls [] root set (dated_in rows) reached set') where
+        answered : AreAnswered s [] (apis_in root set) (dated_in rows) (apis_in reached set') × AreOfScript s reached set'
+        answered = polled-answered s [] root set (dated_in rows) reached set' of_script polled
 
-        pub front : IsPlayedTo s (first_turns s rows) rows (api_of reached.watcher)
+        pub front : IsPlayedTo s (first_turns s rows) rows (apis_in reached set')
         front = record {
           trace =
               subst (λ us. IsTrace (script_world s) (policies_in s) [] us (map unread rows)) (sym fronts ∙ first-are)
               (trace-by (script_world s) policy s.error_requeue says (answered_by rows) [] (take (length rs) ts) rs (finished-front [] ts rs finished) traced-front);
           named = subst (λ us. AreNamedTurns (script_world s) (RootIsNamed (script_world s)) [] (steps us (map unread rows))) first-are named;
-          answered = subst (λ a. AreAnswered s.root.watcher a (dated_in rows) (api_of reached.watcher)) root_api answered.0;
+          answered = subst (λ a. AreAnswered s [] a (dated_in rows) (apis_in reached set')) apis answered.0;
         }
 
         -- the next turn is refused
         pub refused-next : (why : Refusal) → IsRefusedAfter (script_world s) (answered_by rows) [] (turns_of named_type ts) (map unread rows) why → IsRefusedNext s rows why
         refused-next why k = record {
-          played = (api_of reached.watcher, front);
+          played = (apis_in reached set', front);
           refused =
               subst (λ us. IsRefusedAfter (script_world s) (policies_in s) [] us (map unread rows) why) turns
               (refused-by (script_world s) policy s.error_requeue says (answered_by rows) [] ts rs why finished k);
@@ -106,32 +155,28 @@ module _ (policy : ObjectData → List ℕ → Action → Type 0) where
           abbrev hist : List (Step ObjectData)
           hist = steps (take (length rows) (turns_of named_type ts)) (map unread rows)
 
-          pub unnamed-next : (source : ℕ) (made : List (Exchange ObjectData)) (r2 r3 : Root) (n2 n3 : NoRelated) → IsValid hist t → EachIsNext (script_world s) hist t [] made → EachIsNamed (script_world s) (RootIsNamed (script_world s)) hist t [] made
-              → ArePolled root_polls related_polls (exchanges_with hist t []) reached none' (dated t.at made) r2 n2 → RootStands meta_of (dated_of 0 (exchanges_with hist t made)) r2 → next_source (script_world s) hist t made ≡ Some source
-              → IsBrokenAt root_breaks related_breaks t.at r2 n2 r3 n3 source → IsUnnamedNext s rows source
-          unnamed-next zero made r2 r3 n2 n3 valid asks each polled' stand next_is broken =
-              let more = polled-answered stays s.root.watcher (exchanges_with hist t []) reached none' (dated t.at made) r2 n2 answered.1 polled' in
-              let call = broken.0 in record {
-                left = api_of reached.watcher;
+          pub unnamed-next : (source : ℕ) (made : List (Exchange ObjectData)) (r2 r3 : Root) (n2 n3 : Sources) → IsValid hist t → EachIsNext (script_world s) hist t [] made → EachIsNamed (script_world s) (RootIsNamed (script_world s)) hist t [] made
+              → ArePolled root_polls related_polls (exchanges_with hist t []) reached set' (dated t.at made) r2 n2 → SourcesStand (root_stands r2) (related_stands n2) (count_of n2) (exchanges_with hist t made)
+              → next_source (script_world s) hist t made ≡ Some source → IsBrokenAt root_breaks related_breaks t.at r2 n2 r3 n3 source → IsUnnamedNext s rows source
+          unnamed-next source made r2 r3 n2 n3 valid asks each polled' stand next_is broken =
+              let more = polled-answered s (exchanges_with hist t []) reached set' (dated t.at made) r2 n2 answered.1 polled' in
+              let call = call-at s (exchanges_with hist t made) t.at r2 r3 n2 n3 source more.1 stand broken in record {
+                left = apis_in reached set';
                 played = front;
                 turn = t;
                 there = subst (λ us. slice_get us (length rows) ≡ Some t) turns next;
                 going = subst (λ us. has_ended (steps us (map unread rows)) ≡ false) first-are going;
                 before = made;
-                reached = api_of r2.watcher;
-                answered = more.0;
+                reached = apis_in r2 n2;
+                answered =
+                    subst (λ us. AreAnswered s (exchanges (steps us (map unread rows))) (apis_in reached set') (dated t.at made) (apis_in r2 n2)) first-are
+                    (subst (λ ds. AreAnswered s ds (apis_in reached set') (dated t.at made) (apis_in r2 n2)) (append-nil (exchanges hist)) more.0);
+                asked = call.asked_api;
+                is_asked = call.is_asked;
                 raw = call.raw;
-                after = api_of r3.watcher;
+                after = call.after;
                 moved = call.moved;
                 unnamed =
-                    subst (λ us. IsUnnamedAt (script_world s) (RootIsNamed (script_world s)) has_name version_of (steps us (map unread rows)) t made 0 (OfCall call.raw)) first-are
-                    (record {
-                      valid = valid;
-                      made = asks;
-                      each_named = each;
-                      next = next_is;
-                      owes = subst (λ z. IsOwedForm has_name version_of (Watched z) (exchanges_of 0 (exchanges_with hist t made)) (OfCall call.raw)) more.1 (call.owes (dated_of 0 (exchanges_with hist t made)) stand);
-                      unnamed = call.unnamed (dated_of 0 (exchanges_with hist t made)) stand;
-                    });
+                    subst (λ us. IsUnnamedAt (script_world s) (RootIsNamed (script_world s)) has_name version_of (steps us (map unread rows)) t made source (OfCall call.raw)) first-are
+                    (record { valid = valid; made = asks; each_named = each; next = next_is; owes = call.owes; unnamed = call.unnamed });
               }
-          unnamed-next (suc place) made r2 r3 n2 n3 valid asks each polled' stand next_is broken = absurd broken.0

@@ -5,7 +5,7 @@ use Rattle.kube_meta.specs.Reading.{ObjectData}
 use Rattle.kube_model.specs.declared.call.Answer.{Answer}
 use Rattle.kube_model.specs.declared.call.Answer.TheVariants.{Page, Opened, Added, Modified, Deleted, Bookmark, ErrorItem, Fault, End, NotReady, Idle, Item, Spent}
 use Rattle.kube_model.specs.Fits.{brings_references, has_references}
-use Rattle.kube_model.specs.History.{Exchange, Step, Turn, TurnRecord, dated, exchanges_of, exchanges_with}
+use Rattle.kube_model.specs.History.{Dated, Exchange, Step, Turn, TurnRecord, dated, exchanges, exchanges_of, exchanges_with}
 use Rattle.kube_model.specs.Named.{AreNamed, AreNamedTurns, EachIsNamed, IsOwedForm, OfCall, RootIsNamed, has_names}
 use Rattle.kube_model.specs.Owed.{is_initial, mark, owed}
 use Rattle.kube_model.specs.Raw.{Raw}
@@ -13,19 +13,24 @@ use Rattle.kube_model.specs.Recorded.{AsItCame, IsAnsweredBy, IsRecorded, PastIt
 use Rattle.kube_model.specs.Traces.{EachIsNext, IsRecord, IsRefusedAfter, IsTrace, Refusal as TurnRefusal, has_ended, refusal, step, steps, unread}
 use Rattle.kube_model.specs.Turns.{next_source}
 use Rattle.kube_model.specs.World.{Watched, feed_of}
+use Rattle.kube_api.specs.TestScript as api
+use Rattle.kube_asks.specs.Asking.{IsPolledAt}
+use Rattle.kube_asks.specs.Places.{ChangesAt}
+use Rattle.kube_asks.proofs.OneExchange.{not-item}
 use Rattle.kube_step.specs.Calls.{dated_in}
-use Rattle.kube_script.specs.Script.{Related, Script}
-use Rattle.kube_script.specs.Told.{api_at_first}
+use Rattle.kube_step.proofs.Traced.{exchanges-are}
+use Rattle.kube_control.proofs.OneTrace.{polled-split}
+use Rattle.kube_script.specs.Script.{Script}
 use Rattle.kube_script.specs.Whole.{Cause}
 use Rattle.kube_text.specs.Refusals.{refusal_text}
 use Rattle.kube_text.specs.TraceText.{Line, line_of, line_text, lines_of, lines_text}
 use Rattle.kube_text.specs.declared.refusal.Refusal.{Refusal}
 use Rattle.kube_text.specs.declared.refusal.Refusal.TheVariants as refusals
-use Rattle.kube_run.specs.Played.{AreAnswered, IsCutBy, IsCutOff, IsFront, IsPlayed, IsPlayedFront, IsPlayedTo, IsRefusedNext, IsUnnamedNext, IsWhole, all_faults, first_turns, has_name, made_by, policies_in, refusal_at, script_world, trace_text, turns_in, version_of}
-use Rattle.kube_run.specs.Served.{Ends, IsBadRun, IsBegun, IsDone, IsRunBegun, refusal_of}
+use Rattle.kube_run.specs.Played.{Api, Apis, AreAnswered, IsAnsweredMapped, IsCutBy, IsCutOff, IsFront, IsPlayed, IsPlayedFront, IsPlayedTo, IsRefusedNext, IsUnnamedNext, IsWhole, RelatedAnswers, all_faults, api_at, first_turns, has_name, made_by, policies_in, refusal_at, root_answers, script_world, trace_text, turns_in, type_in, version_of}
+use Rattle.kube_run.specs.Served.{Ends, IsBegun, refusal_of}
 use Rattle.kube_run.specs.declared.status.Status.{Status}
 use Rattle.kube_run.specs.declared.status.Status.TheVariants as status
-use Rattle.kube_run.proofs.Once.{Api, answered-at, answered-split, asks-begin, feed-past, none-is-some, not-item, one-way, some-same, traces-begin}
+use Rattle.kube_run.proofs.Once.{asks-compare, fed-at, none-is-some, one-way, polls-determined, same-left, script-begins, some-same}
 
 abbrev Records : Type 0
 Records = List (TurnRecord ObjectData)
@@ -91,6 +96,13 @@ either-less (suc m) (suc n) = go (either-less m n)
     go (inl h) = inl (omega (arith, h))
     go (inr h) = inr (omega (arith, h))
 
+-- what an element at a place became
+changed-at : {A : Type 0} (P : A → A → Type 0) (place : ℕ) (olds news : List A) (a : A) → ChangesAt P place olds news → slice_get olds place ≡ Some a → (b : A) × P a b
+changed-at P place [] news a f e = absurd f
+changed-at P place (x ∷ olds) [] a f e = absurd f
+changed-at P zero (x ∷ olds) (b ∷ news) a f e = (b, subst (λ v. P v b) (some-same x a e) f.0)
+changed-at P (suc place) (x ∷ olds) (b ∷ news) a f e = changed-at P place olds news a f.1 e
+
 -- ---- steps
 
 steps-append : (ts us : List Turn) (rs qs : Records) → length ts ≡ length rs → steps (ts ++ us) (map unread (rs ++ qs)) ≡ steps ts (map unread rs) ++ steps us (map unread qs)
@@ -145,7 +157,7 @@ module _ (s : Script) where
       go : IsAnsweredBy version_of raw z.answer → ⊥
       go (AsItCame f) =
           let b = brings_references (is_initial own) false (answer_of version_of raw.answer) in
-          let apart : z.answer ≡ Item → ⊥ = not-item raw z.answer r.answer in
+          let apart : z.answer ≡ Item → ⊥ = not-item version_of raw z.answer r.answer in
           let same : has_references (mark own z) ≡ b =
           brings-any (is_initial own) _ false z.answer apart ∙ ap (brings_references (is_initial own) false) f in
           names-hold b (list_all has_name (items_of raw.answer)) (λ h. ap (list_all has_name) (sym r.items) ∙ all-named z.items (n (same ∙ h))) e
@@ -156,21 +168,17 @@ module _ (s : Script) where
           unready : false ≡ true → ⊥
           unready x = absurd (cc)
 
-  root-form : (own : List (Exchange ObjectData)) (source : ℕ) (raw : Raw ObjectData) → IsOwedForm has_name version_of (feed_of (script_world s) source) own (OfCall raw) → source ≡ 0
-  root-form own zero raw h = refl
-  root-form own (suc n) raw h = absurd (subst (λ feed. IsOwedForm has_name version_of feed own (OfCall raw)) (feed-past s n) h)
-
 -- ---- turns that end a run
 
 -- a turn after these records is there, and has no record that goes on from them
 record IsStop (s : Script) (rs : Records) : Type 0 where
-  pub left : Api
+  pub left : Apis
   pub played : IsPlayedTo s (first_turns s rs) rs left
   pub turn : Turn
   pub there : slice_get (turns_in s) (length rs) ≡ Some turn
   pub going : has_ended (made_by (first_turns s rs) rs) ≡ false
-  pub apart : (r : TurnRecord ObjectData) (c : Api) → IsRecord (script_world s) (policies_in s 0) (made_by (first_turns s rs) rs) turn (unread r)
-      → EachIsNamed (script_world s) (RootIsNamed (script_world s)) (made_by (first_turns s rs) rs) turn [] r.exchanges → AreAnswered s.root.watcher left (dated r.at r.exchanges) c → ⊥
+  pub apart : (r : TurnRecord ObjectData) (c : Apis) → IsRecord (script_world s) (policies_in s 0) (made_by (first_turns s rs) rs) turn (unread r)
+      → EachIsNamed (script_world s) (RootIsNamed (script_world s)) (made_by (first_turns s rs) rs) turn [] r.exchanges → AreAnswered s (exchanges (made_by (first_turns s rs) rs)) left (dated r.at r.exchanges) c → ⊥
 
 module _ (s : Script) where
   -- the refused turn
@@ -210,29 +218,95 @@ module _ (s : Script) where
         apart = λ r c made names answered. none-is-some (refusal (made_by (first_turns s rs) rs) here.turn) why made.valid here.cause;
       }
 
-  unnamed-apart : (rs : Records) (source : ℕ) (u : IsUnnamedNext s rs source) (r : TurnRecord ObjectData) (c : Api) → IsRecord (script_world s) (policies_in s 0) (made_by (first_turns s rs) rs) u.turn (unread r)
-      → EachIsNamed (script_world s) (RootIsNamed (script_world s)) (made_by (first_turns s rs) rs) u.turn [] r.exchanges → AreAnswered s.root.watcher u.left (dated r.at r.exchanges) c → ⊥
+  -- the history of these records
+  abbrev hist_of : Records → List (Step ObjectData)
+  hist_of rs = made_by (first_turns s rs) rs
+
+  -- no exchange with its names comes where the script answers with an object that lacks one
+  apart-at : (ds : List (Dated ObjectData)) (at : ℕ) (z : Exchange ObjectData) (a b : Apis) (asked after : Api) (raw : Raw ObjectData) (source : ℕ) → z.source ≡ source → z.call ≡ owed (feed_of (script_world s) z.source) (exchanges_of z.source ds)
+      → RootIsNamed (script_world s) z.source (exchanges_of z.source ds) z → api_at a source ≡ Some asked → api.IsMove asked at raw after → IsOwedForm has_name version_of (feed_of (script_world s) source) (exchanges_of source ds) (OfCall raw)
+      → has_names has_name version_of (exchanges_of source ds) (OfCall raw) ≡ false → IsPolledAt (root_answers s) (RelatedAnswers s) ds at z a.root a.related b.root b.related source → ⊥
+  apart-at ds at z a b asked after raw zero mine owes named is_asked moved form unnamed p =
+      let owes' : z.call ≡ owed (Watched s.root.watcher) (exchanges_of 0 ds) = subst (λ n. z.call ≡ owed (feed_of (script_world s) n) (exchanges_of n ds)) mine owes in
+      let call : p.0.raw.call ≡ raw.call = some-same p.0.raw.call raw.call (sym p.0.recorded.call ∙ ap (raw_call s.root.watcher) owes' ∙ form.0) in
+      let one = one-way a.root at p.0.raw raw b.root after p.0.moved (subst (λ v. api.IsMove v at raw after) (sym (some-same a.root asked is_asked)) moved) call in
+      names-apart s (exchanges_of 0 ds) z raw (subst (λ v. IsRecorded version_of s.root.watcher v z) one.0 p.0.recorded) (subst (λ n. RootIsNamed (script_world s) n (exchanges_of n ds) z) mine named) unnamed
+  apart-at ds at z a b asked after raw (suc place) mine owes named is_asked moved form unnamed p =
+      let row = p.0.row in
+      let fed = fed-at s.related place row p.0.there in
+      let made = changed-at (λ c d. IsAnsweredMapped (type_in s) row (exchanges_of (suc place) ds) c at z d) place a.related b.related asked p.0.answered is_asked in
+      let owes' : z.call ≡ owed (Watched row.source.watcher) (exchanges_of (suc place) ds) =
+      subst (λ n. z.call ≡ owed (feed_of (script_world s) n) (exchanges_of n ds)) mine owes ∙ ap (λ feed. owed feed (exchanges_of (suc place) ds)) fed in
+      let form' = subst (λ feed. IsOwedForm has_name version_of feed (exchanges_of (suc place) ds) (OfCall raw)) fed form in
+      let call : made.1.raw.call ≡ raw.call = some-same made.1.raw.call raw.call (sym made.1.recorded.call ∙ ap (raw_call row.source.watcher) owes' ∙ form'.0) in
+      let one = one-way asked at made.1.raw raw made.0 after made.1.moved moved call in
+      let e : true ≡ false = sym made.1.named ∙ (ap (λ v. has_names has_name version_of (exchanges_of (suc place) ds) (OfCall v)) one.0 ∙ unnamed) in
+      absurd (cc)
+
+  -- so no exchange with its names follows those that were made before such an object came
+  apart-next : (rs : Records) (source : ℕ) (u : IsUnnamedNext s rs source) (left : Apis) (xs : List (Exchange ObjectData)) (z : Exchange ObjectData) (zs : List (Exchange ObjectData)) → xs ≡ u.before ++ z ∷ zs
+      → EachIsNamed (script_world s) (RootIsNamed (script_world s)) (made_by (first_turns s rs) rs) u.turn [] xs → EachIsNext (script_world s) (made_by (first_turns s rs) rs) u.turn u.before (z ∷ zs)
+      → AreAnswered s (exchanges_with (made_by (first_turns s rs) rs) u.turn u.before) u.reached (dated u.turn.at (z ∷ zs)) left → ⊥
+  apart-next rs source u left xs z zs same names each made =
+      let h = made_by (first_turns s rs) rs in
+      let ds = exchanges_with h u.turn u.before in
+      let mine : z.source ≡ source = some-same z.source source (sym each.0.source ∙ u.unnamed.next) in
+      let all = subst (λ vs. EachIsNamed (script_world s) (RootIsNamed (script_world s)) h u.turn [] vs) same names in
+      apart-at ds u.turn.at z u.reached (record { root = made.0; related = made.1 }) u.asked u.after u.raw source mine each.0.fits.owes (named-at s h u.turn [] u.before z zs all) u.is_asked u.moved u.unnamed.owes
+      u.unnamed.unnamed (subst (IsPolledAt (root_answers s) (RelatedAnswers s) ds u.turn.at z u.reached.root u.reached.related made.0 made.1) mine made.2)
+
+  -- asks of a turn after these records, by what the script answers
+  compared : (rs : Records) (t : Turn) (xs ys : List (Exchange ObjectData)) (a b c : Apis) → EachIsNext (script_world s) (made_by (first_turns s rs) rs) t [] xs → EachIsNext (script_world s) (made_by (first_turns s rs) rs) t [] ys
+      → AreAnswered s (exchanges (made_by (first_turns s rs) rs)) a (dated t.at xs) b → AreAnswered s (exchanges (made_by (first_turns s rs) rs)) a (dated t.at ys) c
+      → ((rest : List (Exchange ObjectData)) × (ys ≡ xs ++ rest) × EachIsNext (script_world s) (made_by (first_turns s rs) rs) t xs rest × AreAnswered s (exchanges_with (made_by (first_turns s rs) rs) t xs) b (dated t.at rest) c)
+      ⊎ ((rest : List (Exchange ObjectData)) × (xs ≡ ys ++ rest) × EachIsNext (script_world s) (made_by (first_turns s rs) rs) t ys rest × AreAnswered s (exchanges_with (made_by (first_turns s rs) rs) t ys) c (dated t.at rest) b)
+  compared rs t xs ys a b c k l p z =
+      let h = made_by (first_turns s rs) rs in
+      asks-compare (script_world s) (root_answers s) (RelatedAnswers s) (polls-determined s) h t [] xs ys (exchanges h) a.root b.root c.root a.related b.related c.related (sym (append-nil (exchanges h))) k l p z
+
+  unnamed-apart : (rs : Records) (source : ℕ) (u : IsUnnamedNext s rs source) (r : TurnRecord ObjectData) (c : Apis) → IsRecord (script_world s) (policies_in s 0) (made_by (first_turns s rs) rs) u.turn (unread r)
+      → EachIsNamed (script_world s) (RootIsNamed (script_world s)) (made_by (first_turns s rs) rs) u.turn [] r.exchanges → AreAnswered s (exchanges (made_by (first_turns s rs) rs)) u.left (dated r.at r.exchanges) c → ⊥
   unnamed-apart rs source u r c k names answered =
       let h = made_by (first_turns s rs) rs in
-      let p = asks-begin s h u.turn [] u.before r.exchanges u.left u.reached c u.unnamed.made k.asked k.done u.answered (answered-at s h u.turn r u.left c k answered) in
-      go p.0 p.1 p.2 p.3
+      let now = subst (λ at. AreAnswered s (exchanges h) u.left (dated at r.exchanges) c) (ap (λ (q : TurnRecord ObjectData). q.at) k.determined) answered in
+      go (compared rs u.turn u.before r.exchanges u.left u.reached c u.unnamed.made k.asked u.answered now)
     where
-      go : (rest : List (Exchange ObjectData)) → r.exchanges ≡ u.before ++ rest → EachIsNext (script_world s) (made_by (first_turns s rs) rs) u.turn u.before rest → AreAnswered s.root.watcher u.reached (dated u.turn.at rest) c → ⊥
-      go [] same each made =
-          none-is-some (next_source (script_world s) (made_by (first_turns s rs) rs) u.turn u.before) source
-          (subst (λ xs. next_source (script_world s) (made_by (first_turns s rs) rs) u.turn xs ≡ None) (same ∙ append-nil u.before) k.done) u.unnamed.next
-      go (z ∷ zs) same each made =
-          let ds = exchanges_with (made_by (first_turns s rs) rs) u.turn u.before in
-          let root : source ≡ 0 = root-form s (exchanges_of source ds) source u.raw u.unnamed.owes in
-          let mine : z.source ≡ 0 = some-same z.source source (sym each.0.source ∙ u.unnamed.next) ∙ root in
-          let owes : z.call ≡ owed (Watched s.root.watcher) (exchanges_of 0 ds) = subst (λ n. z.call ≡ owed (feed_of (script_world s) n) (exchanges_of n ds)) mine each.0.fits.owes in
-          let form = subst (λ n. IsOwedForm has_name version_of (feed_of (script_world s) n) (exchanges_of n ds) (OfCall u.raw)) root u.unnamed.owes in
-          let call : made.1.raw.call ≡ u.raw.call = some-same made.1.raw.call u.raw.call (sym made.1.recorded.call ∙ ap (raw_call s.root.watcher) owes ∙ form.0) in
-          let one = one-way u.reached u.turn.at made.1.raw u.raw made.0 u.after made.1.moved u.moved call in
-          let all = subst (λ xs. EachIsNamed (script_world s) (RootIsNamed (script_world s)) (made_by (first_turns s rs) rs) u.turn [] xs) same names in
-          let name = subst (λ n. RootIsNamed (script_world s) n (exchanges_of n ds) z) mine (named-at s (made_by (first_turns s rs) rs) u.turn [] u.before z zs all) in
-          names-apart s (exchanges_of 0 ds) z u.raw (subst (λ raw. IsRecorded version_of s.root.watcher raw z) one.0 made.1.recorded) name
-          (subst (λ n. has_names has_name version_of (exchanges_of n ds) (OfCall u.raw) ≡ false) root u.unnamed.unnamed)
+      go : ((rest : List (Exchange ObjectData)) × (r.exchanges ≡ u.before ++ rest) × EachIsNext (script_world s) (hist_of rs) u.turn u.before rest × AreAnswered s (exchanges_with (hist_of rs) u.turn u.before) u.reached (dated u.turn.at rest) c)
+          ⊎ ((rest : List (Exchange ObjectData)) × (u.before ≡ r.exchanges ++ rest) × EachIsNext (script_world s) (hist_of rs) u.turn r.exchanges rest × AreAnswered s (exchanges_with (hist_of rs) u.turn r.exchanges) c (dated u.turn.at rest) u.reached) → ⊥
+      go (inl ([], same, each, made)) =
+          none-is-some (next_source (script_world s) (hist_of rs) u.turn u.before) source (subst (λ xs. next_source (script_world s) (hist_of rs) u.turn xs ≡ None) (same ∙ append-nil u.before) k.done) u.unnamed.next
+      go (inl (z ∷ zs, same, each, made)) = apart-next rs source u c r.exchanges z zs same names each made
+      go (inr ([], same, each, made)) =
+          none-is-some (next_source (script_world s) (hist_of rs) u.turn u.before) source (subst (λ xs. next_source (script_world s) (hist_of rs) u.turn xs ≡ None) (sym (same ∙ append-nil r.exchanges)) k.done) u.unnamed.next
+      go (inr (z ∷ zs, same, each, made)) = none-is-some (next_source (script_world s) (hist_of rs) u.turn r.exchanges) z.source k.done each.0.source
+
+  -- such an object comes from one source
+  same-source : (rs : Records) (a b : ℕ) (u : IsUnnamedNext s rs a) (v : IsUnnamedNext s rs b) → a ≡ b
+  same-source rs a b u v =
+      let turn : v.turn ≡ u.turn = some-same v.turn u.turn (sym v.there ∙ u.there) in
+      let left : v.left ≡ u.left = same-left s (first_turns s rs) rs v.left u.left v.played.trace v.played.answered u.played.answered in
+      let h = made_by (first_turns s rs) rs in
+      let made = subst (λ t. EachIsNext (script_world s) h t [] v.before) turn v.unnamed.made in
+      let answered =
+      subst (λ (t : Turn). AreAnswered s (exchanges h) u.left (dated t.at v.before) v.reached) turn (subst (λ l. AreAnswered s (exchanges h) l (dated v.turn.at v.before) v.reached) left v.answered) in
+      go turn (compared rs u.turn u.before v.before u.left u.reached v.reached u.unnamed.made made u.answered answered)
+    where
+      same-next : v.turn ≡ u.turn → u.before ≡ v.before → a ≡ b
+      same-next turn same =
+          some-same a b
+          (sym u.unnamed.next ∙ (ap (next_source (script_world s) (hist_of rs) u.turn) same ∙ (ap (λ t. next_source (script_world s) (hist_of rs) t v.before) (sym turn) ∙ v.unnamed.next)))
+
+      go : v.turn ≡ u.turn
+          → ((rest : List (Exchange ObjectData)) × (v.before ≡ u.before ++ rest) × EachIsNext (script_world s) (hist_of rs) u.turn u.before rest × AreAnswered s (exchanges_with (hist_of rs) u.turn u.before) u.reached (dated u.turn.at rest) v.reached)
+          ⊎ ((rest : List (Exchange ObjectData)) × (u.before ≡ v.before ++ rest) × EachIsNext (script_world s) (hist_of rs) u.turn v.before rest × AreAnswered s (exchanges_with (hist_of rs) u.turn v.before) v.reached (dated u.turn.at rest) u.reached) → a ≡ b
+      go turn (inl ([], same, each, made)) = same-next turn (sym (same ∙ append-nil u.before))
+      go turn (inl (z ∷ zs, same, each, made)) =
+          absurd (apart-next rs a u v.reached v.before z zs same (subst (λ t. EachIsNamed (script_world s) (RootIsNamed (script_world s)) (hist_of rs) t [] v.before) turn v.unnamed.each_named) each made)
+      go turn (inr ([], same, each, made)) = same-next turn (same ∙ append-nil v.before)
+      go turn (inr (z ∷ zs, same, each, made)) =
+          absurd
+          (apart-next rs b v u.reached u.before z zs same (subst (λ t. EachIsNamed (script_world s) (RootIsNamed (script_world s)) (hist_of rs) t [] u.before) (sym turn) u.unnamed.each_named)
+          (subst (λ t. EachIsNext (script_world s) (hist_of rs) t v.before (z ∷ zs)) (sym turn) each) (subst (λ (t : Turn). AreAnswered s (exchanges_with (hist_of rs) t v.before) v.reached (dated t.at (z ∷ zs)) u.reached) (sym turn) made))
 
   unnamed-stop : (rs : Records) (source : ℕ) → IsUnnamedNext s rs source → IsStop s rs
   unnamed-stop rs source u = record { left = u.left; played = u.played; turn = u.turn; there = u.there; going = u.going; apart = unnamed-apart rs source u }
@@ -245,18 +319,18 @@ module _ (s : Script) where
   stop-front rs st = (st.left, st.played)
 
   -- no trace goes past such a turn
-  past-stop : (rs : Records) (st : IsStop s rs) (ts : List Turn) (qs : Records) (c : Api) → slice_get ts (length rs) ≡ Some st.turn → take (length rs) ts ≡ first_turns s rs → IsPlayedTo s ts qs c → ⊥
+  past-stop : (rs : Records) (st : IsStop s rs) (ts : List Turn) (qs : Records) (c : Apis) → slice_get ts (length rs) ≡ Some st.turn → take (length rs) ts ≡ first_turns s rs → IsPlayedTo s ts qs c → ⊥
   past-stop rs st ts qs c there front q =
       let n = length rs in
       let d = drop-there n ts st.turn there in
       let split : first_turns s rs ++ st.turn ∷ d.0 ≡ ts = ap₂ (λ us vs. us ++ vs) (sym front) (sym d.1) ∙ take-drop n ts in
       let p =
-      traces-begin s [] (first_turns s rs) (st.turn ∷ d.0) rs qs (api_at_first s.root) st.left c st.played.trace
+      script-begins s (first_turns s rs) (st.turn ∷ d.0) rs qs st.left c st.played.trace
       (subst (λ us. IsTrace (script_world s) (policies_in s) [] us (map unread qs)) (sym split) q.trace) st.played.answered q.answered in
       go d.0 split p.0 p.1 p.2 p.3
     where
       go : (more : List Turn) → first_turns s rs ++ st.turn ∷ more ≡ ts → (rest : Records) → qs ≡ rs ++ rest → IsTrace (script_world s) (policies_in s) (made_by (first_turns s rs) rs) (st.turn ∷ more) (map unread rest)
-          → AreAnswered s.root.watcher st.left (dated_in rest) c → ⊥
+          → AreAnswered s (dated_in rs) st.left (dated_in rest) c → ⊥
       go more split [] same trace answered = absurd (ended-apart trace st.going)
         where
           ended-apart : has_ended (made_by (first_turns s rs) rs) ≡ true → has_ended (made_by (first_turns s rs) rs) ≡ false → ⊥
@@ -267,8 +341,10 @@ module _ (s : Script) where
           let whole : made_by ts qs ≡ made_by (first_turns s rs) rs ++ steps (st.turn ∷ more) (map unread (r ∷ rest)) = ap₂ (λ us vs. steps us (map unread vs)) (sym split) same ∙ all in
           let names = named-after s [] (made_by (first_turns s rs) rs) (steps (st.turn ∷ more) (map unread (r ∷ rest)))
           (subst (λ ss. AreNamedTurns (script_world s) (RootIsNamed (script_world s)) [] ss) whole q.named) in
-          let made = answered-split s.root.watcher (dated r.at r.exchanges) (dated_in rest) st.left c answered in
-          st.apart r made.0 trace.1 names.0 made.1
+          let made = polled-split (script_world s) (root_answers s) (RelatedAnswers s) (dated_in rs) st.left.root st.left.related (dated r.at r.exchanges) (dated_in rest) c.root c.related answered in
+          let before : dated_in rs ≡ exchanges (made_by (first_turns s rs) rs) = sym (exchanges-are (script_world s) (policies_in s) [] (first_turns s rs) rs st.played.trace) in
+          let left : Apis = record { root = made.0; related = made.1 } in
+          st.apart r left trace.1 names.0 (subst (λ ds. AreAnswered s ds st.left (dated r.at r.exchanges) left) before made.2)
 
 -- ---- fronts
 
@@ -277,7 +353,7 @@ module _ (s : Script) where
   fronts : (rs qs : Records) → length rs ≤ length qs → IsPlayedFront s rs → IsPlayedFront s qs → (rest : Records) × (qs ≡ rs ++ rest)
   fronts rs qs h p q =
       let b =
-      traces-begin s [] (first_turns s rs) (drop (length rs) (first_turns s qs)) rs qs (api_at_first s.root) p.0 q.0 p.1.trace
+      script-begins s (first_turns s rs) (drop (length rs) (first_turns s qs)) rs qs p.0 q.0 p.1.trace
       (subst (λ us. IsTrace (script_world s) (policies_in s) [] us (map unread qs)) (sym (take-more (length rs) (length qs) (turns_in s) h)) q.1.trace) p.1.answered q.1.answered in
       (b.0, b.1)
 
@@ -291,7 +367,7 @@ module _ (s : Script) where
   whole-goes-on : (rs qs : Records) → IsPlayed s rs → IsPlayed s qs → (rest : Records) × (qs ≡ rs ++ rest)
   whole-goes-on rs qs p q =
       let b =
-      traces-begin s [] (turns_in s) [] rs qs (api_at_first s.root) p.0 q.0 p.1.trace
+      script-begins s (turns_in s) [] rs qs p.0 q.0 p.1.trace
       (subst (λ us. IsTrace (script_world s) (policies_in s) [] us (map unread qs)) (sym (append-nil (turns_in s))) q.1.trace) p.1.answered q.1.answered in
       (b.0, b.1)
 
@@ -329,9 +405,7 @@ module _ (s : Script) where
   same-cause rs a b (inl p) (inr q) = absurd (refused-or-not rs p.0 q.0 p.1 q.1)
   same-cause rs a b (inr p) (inl q) = absurd (refused-or-not rs q.0 p.0 q.1 p.1)
   same-cause rs a b (inr p) (inr q) =
-      let x : p.0 ≡ 0 = root-form s _ p.0 p.1.raw p.1.unnamed.owes in
-      let y : q.0 ≡ 0 = root-form s _ q.0 q.1.raw q.1.unnamed.owes in
-      p.2 ∙ ap (λ source. refusals.Unnamed source (length rs)) (x ∙ sym y) ∙ sym q.2
+      p.2 ∙ ap (λ source. refusals.Unnamed source (length rs)) (same-source s rs p.0 q.0 p.1 q.1) ∙ sym q.2
 
 -- ---- texts
 
@@ -367,7 +441,7 @@ module _ (s : Script) where
   front-of-whole : (xs ys : List ℕ) → IsFront s xs → IsWhole s ys → (rest : List ℕ) × (ys ≡ xs ++ rest)
   front-of-whole xs ys f w =
       let b =
-      traces-begin s [] (first_turns s f.0) (drop (length f.0) (turns_in s)) f.0 w.0 (api_at_first s.root) f.1.0 w.1.0 f.1.1.trace
+      script-begins s (first_turns s f.0) (drop (length f.0) (turns_in s)) f.0 w.0 f.1.0 w.1.0 f.1.1.trace
       (subst (λ us. IsTrace (script_world s) (policies_in s) [] us (map unread w.0)) (sym (take-drop (length f.0) (turns_in s))) w.1.1.trace) f.1.1.answered w.1.1.answered in
       (text_after f.0 b.0, w.2 ∙ (text-begins f.0 w.0 b.0 b.1 ∙ ap (λ text. text ++ text_after f.0 b.0) (sym f.2)))
 
@@ -401,39 +475,21 @@ module _ (s : Script) where
 
 -- ---- ends
 
--- how a run of a script ends
-abbrev RunEnds : List Related → Status → Script → List ℕ → Type 0
-RunEnds rs status.Done s xs = IsDone rs s xs
-RunEnds rs status.BadRun s xs = IsBadRun rs s xs
-RunEnds rs _ s xs = ⊥
-
-run-once : (rs : List Related) (s : Script) (d e : Status) (xs ys : List ℕ) → RunEnds rs d s xs → RunEnds rs e s ys → (d ≡ e) × (xs ≡ ys)
-run-once [] s status.Done status.Done xs ys h k = (refl, same-whole-text s xs ys h k)
-run-once [] s status.Done status.BadRun xs ys h k = absurd (cut-or-whole s ys xs k h)
-run-once [] s status.BadRun status.Done xs ys h k = absurd (cut-or-whole s xs ys h k)
-run-once [] s status.BadRun status.BadRun xs ys h k = (refl, same-cut-text s xs ys h k)
-run-once (r ∷ rs) s status.Done e xs ys h k = absurd h
-run-once (r ∷ rs) s status.BadRun status.Done xs ys h k = absurd k
-run-once (r ∷ rs) s status.BadRun status.BadRun xs ys h k = (refl, h ∙ sym k)
-run-once rs s status.Usage e xs ys h k = absurd h
-run-once rs s status.BadScript e xs ys h k = absurd h
-run-once rs s status.ReadFault e xs ys h k = absurd h
-run-once rs s status.WriteFault e xs ys h k = absurd h
-run-once rs s status.NoMemory e xs ys h k = absurd h
-run-once rs s d status.Usage xs ys h k = absurd k
-run-once rs s d status.BadScript xs ys h k = absurd k
-run-once rs s d status.ReadFault xs ys h k = absurd k
-run-once rs s d status.WriteFault xs ys h k = absurd k
-run-once rs s d status.NoMemory xs ys h k = absurd k
-
-ends-ok : (e : Status) (s : Script) (xs : List ℕ) → Ends e (Ok s) xs → RunEnds s.related e s xs
-ends-ok status.Done s xs h = h
-ends-ok status.BadRun s xs h = h
-ends-ok status.Usage s xs h = absurd h
-ends-ok status.BadScript s xs h = absurd h
-ends-ok status.ReadFault s xs h = absurd h
-ends-ok status.WriteFault s xs h = absurd h
-ends-ok status.NoMemory s xs h = absurd h
+run-once : (s : Script) (d e : Status) (xs ys : List ℕ) → Ends d (Ok s) xs → Ends e (Ok s) ys → (d ≡ e) × (xs ≡ ys)
+run-once s status.Done status.Done xs ys h k = (refl, same-whole-text s xs ys h k)
+run-once s status.Done status.BadRun xs ys h k = absurd (cut-or-whole s ys xs k h)
+run-once s status.BadRun status.Done xs ys h k = absurd (cut-or-whole s xs ys h k)
+run-once s status.BadRun status.BadRun xs ys h k = (refl, same-cut-text s xs ys h k)
+run-once s status.Usage e xs ys h k = absurd h
+run-once s status.BadScript e xs ys h k = absurd h
+run-once s status.ReadFault e xs ys h k = absurd h
+run-once s status.WriteFault e xs ys h k = absurd h
+run-once s status.NoMemory e xs ys h k = absurd h
+run-once s d status.Usage xs ys h k = absurd k
+run-once s d status.BadScript xs ys h k = absurd k
+run-once s d status.ReadFault xs ys h k = absurd k
+run-once s d status.WriteFault xs ys h k = absurd k
+run-once s d status.NoMemory xs ys h k = absurd k
 
 ends-err : (e : Status) (c : Cause) (xs : List ℕ) → Ends e (Err c) xs → (e ≡ status.BadScript) × (xs ≡ refusal_text (refusal_of c))
 ends-err status.BadScript c xs h = (refl, h)
@@ -445,7 +501,7 @@ ends-err status.WriteFault c xs h = absurd h
 ends-err status.NoMemory c xs h = absurd h
 
 pub ends-once : (input : Result Script Cause) (d e : Status) (xs ys : List ℕ) → Ends d input xs → Ends e input ys → (d ≡ e) × (xs ≡ ys)
-ends-once (Ok s) d e xs ys h k = run-once s.related s d e xs ys (ends-ok d s xs h) (ends-ok e s ys k)
+ends-once (Ok s) d e xs ys h k = run-once s d e xs ys h k
 ends-once (Err c) d e xs ys h k =
     let p = ends-err d c xs h in
     let q = ends-err e c ys k in
@@ -454,19 +510,17 @@ ends-once (Err c) d e xs ys h k =
 all-begins : (xs ys : List ℕ) → xs ≡ ys → (rest : List ℕ) × (ys ≡ xs ++ rest)
 all-begins xs ys e = ([], sym e ∙ sym (append-nil xs))
 
-run-begins : (rs : List Related) (s : Script) (e : Status) (xs ys : List ℕ) → IsRunBegun rs s xs → RunEnds rs e s ys → (rest : List ℕ) × (ys ≡ xs ++ rest)
-run-begins [] s status.Done xs ys (inl f) k = front-of-whole s xs ys f k
-run-begins [] s status.Done xs ys (inr c) k = absurd (cut-or-whole s xs ys c k)
-run-begins [] s status.BadRun xs ys (inl f) k = front-of-cut s xs ys f k
-run-begins [] s status.BadRun xs ys (inr c) k = all-begins xs ys (same-cut-text s xs ys c k)
-run-begins (r ∷ rs) s status.Done xs ys h k = absurd k
-run-begins (r ∷ rs) s status.BadRun xs ys h k = all-begins xs ys (h ∙ sym k)
-run-begins rs s status.Usage xs ys h k = absurd k
-run-begins rs s status.BadScript xs ys h k = absurd k
-run-begins rs s status.ReadFault xs ys h k = absurd k
-run-begins rs s status.WriteFault xs ys h k = absurd k
-run-begins rs s status.NoMemory xs ys h k = absurd k
+run-begins : (s : Script) (e : Status) (xs ys : List ℕ) → IsFront s xs ⊎ IsCutOff s xs → Ends e (Ok s) ys → (rest : List ℕ) × (ys ≡ xs ++ rest)
+run-begins s status.Done xs ys (inl f) k = front-of-whole s xs ys f k
+run-begins s status.Done xs ys (inr c) k = absurd (cut-or-whole s xs ys c k)
+run-begins s status.BadRun xs ys (inl f) k = front-of-cut s xs ys f k
+run-begins s status.BadRun xs ys (inr c) k = all-begins xs ys (same-cut-text s xs ys c k)
+run-begins s status.Usage xs ys h k = absurd k
+run-begins s status.BadScript xs ys h k = absurd k
+run-begins s status.ReadFault xs ys h k = absurd k
+run-begins s status.WriteFault xs ys h k = absurd k
+run-begins s status.NoMemory xs ys h k = absurd k
 
 pub begins-the-end : (input : Result Script Cause) (e : Status) (xs ys : List ℕ) → IsBegun input xs → Ends e input ys → (rest : List ℕ) × (ys ≡ xs ++ rest)
-begins-the-end (Ok s) e xs ys h k = run-begins s.related s e xs ys h (ends-ok e s ys k)
+begins-the-end (Ok s) e xs ys h k = run-begins s e xs ys h k
 begins-the-end (Err c) e xs ys h k = all-begins xs ys (h ∙ sym (ends-err e c ys k).1)

@@ -7,5 +7,6 @@ pub mod Once
 pub mod Ends
 pub mod Policies
 pub mod Polled
+pub mod First
 pub mod Plays
 pub mod Ended

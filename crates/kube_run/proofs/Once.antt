@@ -1,29 +1,31 @@
 -- What a script's controller makes is determined by the script.
-use Rattle.std.proofs.Common.{◌≡◌, ℕ, zero, suc, ◌+◌, Bool, true, false, IsTrue, List, [], ◌∷◌, ◌++◌, map, Option, Some, None, unwrap_or, refl, sym, ap, ap₂, subst, ◌∙◌, inl, inr, append-nil, append_assoc, arith}
-use Rattle.std.proofs.lemmas.Option.{slice_get_past}
+use Rattle.std.proofs.Common.{◌≡◌, ℕ, zero, suc, ◌+◌, Bool, true, false, List, [], ◌∷◌, ◌++◌, map, Option, Some, None, unwrap_or, slice_get, inl, inr, ◌⊎◌, refl, sym, ap, ap₂, subst, ◌∙◌, append-nil, append_assoc, length, length-append, arith}
+use Rattle.std.proofs.lemmas.List.{map-append}
+use Rattle.std.proofs.lemmas.Grind.{flat_map-append}
 use Rattle.kube_meta.specs.Reading.{ObjectData}
-use Rattle.kube_model.specs.declared.call.Call.{Call}
-use Rattle.kube_model.specs.declared.call.Call.TheVariants.{List as ListCall, Watch, Next, Stream}
-use Rattle.kube_model.specs.declared.call.Answer.{Answer}
-use Rattle.kube_model.specs.declared.call.Answer.TheVariants.{NotReady, Idle, Item}
-use Rattle.kube_model.specs.History.{Exchange, Dated, Finish, Finished, Outcome, Succeeded, Failed, Step, Turn, TurnRecord, dated, dated_of, exchanges_of, exchanges_with}
-use Rattle.kube_model.specs.Owed.{is_next, mark, owed}
-use Rattle.kube_model.specs.Fits.{ErrorFits, IsAnswered as IsAnsweredHere, IsFitting, IsOfSource, error_of, idle_fits, is_window_over, requests_of_watch, silent_since}
-use Rattle.kube_model.specs.Raw.{Raw, RawAnswer, NextAsked, Waits, Fails, GivesPage, Opens, GivesAdded, GivesModified, GivesDeleted, GivesBookmark, GivesError, Ends}
-use Rattle.kube_model.specs.Reads.{nothing_read}
-use Rattle.kube_model.specs.Recorded.{AsItCame, IsAnsweredBy, IsRecorded, PastItsWindow, answer_of, raw_call}
-use Rattle.kube_model.specs.Takes.{Running, running}
-use Rattle.kube_model.specs.Traces.{AreFinishesOf, EachIsNext, IsActionOf, IsRecord, IsTrace, handed_over, has_ended, step, steps, unread}
-use Rattle.kube_model.specs.Turns.{next_source, record_with}
-use Rattle.kube_model.specs.World.{Settings, Streamed, Watched, feed_of, window_of}
-use Rattle.kube_model.proofs.SameExchanges.{requests-same, error-same}
+use Rattle.kube_model.specs.Fits.{IsAnswered as IsAnsweredHere, IsFitting, idle_fits, is_window_over, silent_since}
+use Rattle.kube_model.specs.History.{Dated, Exchange, Step, Turn, TurnRecord, dated, dated_of, exchanges, exchanges_of, exchanges_with}
+use Rattle.kube_model.specs.Owed.{is_next, owed}
+use Rattle.kube_model.specs.Raw.{Raw}
+use Rattle.kube_model.specs.Recorded.{IsRecorded, IsRecordedMapped, raw_call}
+use Rattle.kube_model.specs.Mapping.{IsMappedTo}
+use Rattle.kube_meta.specs.Resources.{resource_type}
+use Rattle.kube_model.specs.Traces.{EachIsNext, IsRecord, IsTrace, has_ended, step, steps, unread}
+use Rattle.kube_model.specs.Turns.{next_source}
+use Rattle.kube_model.specs.World.{Feed, Streamed, Watched, World, feed_of, window_of}
 use Rattle.kube_api.specs.TestScript as api
-use Rattle.kube_step.specs.Calls.{dated_in}
-use Rattle.kube_script.specs.Script.{Script}
-use Rattle.kube_run.specs.Played.{AreAnswered, policies_in, script_world, version_of}
-
-abbrev pub Api : Type 0
-Api = api.Script ObjectData
+use Rattle.kube_watch.specs.Stands.{exchanges_in}
+use Rattle.kube_asks.specs.Asking.{IsPolledAt}
+use Rattle.kube_asks.specs.Determined.{IsOwedNext}
+use Rattle.kube_asks.specs.Places.{ChangesAt}
+use Rattle.kube_asks.proofs.Determined.{mapped-same}
+use Rattle.kube_step.specs.Calls.{ArePolled, dated_in}
+use Rattle.kube_control.proofs.Determined.{ArePollsDetermined}
+use Rattle.kube_control.proofs.OneTrace.{after-one, polled-split, turn-same}
+use Rattle.kube_control.proofs.OneWay.{fits-root, same-exchange}
+use Rattle.kube_script.specs.Script.{Related, Script}
+use Rattle.kube_run.specs.Mapped.{mapped_by}
+use Rattle.kube_run.specs.Played.{Api, Apis, AreAnswered, IsAnsweredMapped, RelatedAnswers, apis_at_first, policies_in, root_answers, script_world, type_in, version_of}
 
 pub some-same : {A : Type 0} (x y : A) → Some x ≡ Some y → x ≡ y
 some-same x y e = ap (λ o. unwrap_or o x) e
@@ -34,6 +36,8 @@ none-is-some o x e f = absurd (cc)
 false-is-true : (b : Bool) → b ≡ false → b ≡ true → ⊥
 false-is-true b e f = absurd (cc)
 
+-- ---- polls
+
 -- a script answers one way
 pub one-way : (a : Api) (at : ℕ) (r q : Raw ObjectData) (b c : Api) → api.IsMove a at r b → api.IsMove a at q c → r.call ≡ q.call → (r ≡ q) × (b ≡ c)
 one-way a at r q b c f g call =
@@ -42,229 +46,205 @@ one-way a at r q b c f g call =
       f.left ∙ (ap (λ k. api.left_by k at a) call ∙ sym g.left),
     )
 
--- ---- answers
+module _ {A X : Type 0} (P : A → X → A → Type 0) where
+  -- elements at the same place that change one way
+  changes-same : (place : ℕ) (x y : X) → ((a b c : A) → P a x b → P a y c → (x ≡ y) × (b ≡ c)) → (olds news cs : List A) → ChangesAt (λ a b. P a x b) place olds news → ChangesAt (λ a b. P a y b) place olds cs → (x ≡ y) × (news ≡ cs)
+  changes-same place x y once [] news cs f g = absurd f
+  changes-same place x y once (a ∷ olds) [] cs f g = absurd f
+  changes-same place x y once (a ∷ olds) (b ∷ news) [] f g = absurd g
+  changes-same zero x y once (a ∷ olds) (b ∷ news) (c ∷ cs) f g = let one = once a b c f.0 g.0 in (one.0, ap₂ (λ z zs. z ∷ zs) one.1 (f.1 ∙ sym g.1))
+  changes-same (suc place) x y once (a ∷ olds) (b ∷ news) (c ∷ cs) f g =
+      let rest = changes-same place x y once olds news cs f.1 g.1 in
+      (rest.0, ap₂ (λ z zs. z ∷ zs) (f.0 ∙ sym g.0) rest.1)
 
-pub no-item : (a : RawAnswer ObjectData) → Item ≡ answer_of version_of a → ⊥
-no-item Waits e = absurd (cc)
-no-item (Fails error) e = absurd (cc)
-no-item (GivesPage items token v) e = absurd (cc)
-no-item Opens e = absurd (cc)
-no-item (GivesAdded o) e = absurd (cc)
-no-item (GivesModified o) e = absurd (cc)
-no-item (GivesDeleted o) e = absurd (cc)
-no-item (GivesBookmark v annotations) e = absurd (cc)
-no-item (GivesError status) e = absurd (cc)
-no-item Ends e = absurd (cc)
-
-pub not-item : (raw : Raw ObjectData) (a : Answer) → IsAnsweredBy version_of raw a → a ≡ Item → ⊥
-not-item raw a (AsItCame e) i = no-item raw.answer (sym i ∙ e)
-not-item raw a (PastItsWindow c w e) i = absurd (cc)
-
-over-both : (over : Bool) → IsTrue (idle_fits over NotReady) → IsTrue (idle_fits over Idle) → ⊥
-over-both true h k = absurd (cc)
-over-both false h k = absurd (cc)
-
-waits-idle : (raw : Raw ObjectData) (over : Bool) (a b : Answer) → a ≡ answer_of version_of raw.answer → raw.answer ≡ Waits → b ≡ Idle → IsTrue (idle_fits over a) → IsTrue (idle_fits over b) → ⊥
-waits-idle raw over a b e w f h k =
-    over-both over (subst (λ z. IsTrue (idle_fits over z)) (e ∙ ap (answer_of version_of) w) h) (subst (λ z. IsTrue (idle_fits over z)) f k)
-
-answer-same : (raw : Raw ObjectData) (over : Bool) (a b : Answer) → IsAnsweredBy version_of raw a → IsAnsweredBy version_of raw b
-    → (raw.call ≡ NextAsked → IsTrue (idle_fits over a)) → (raw.call ≡ NextAsked → IsTrue (idle_fits over b)) → a ≡ b
-answer-same raw over a b (AsItCame e) (AsItCame f) h k = e ∙ sym f
-answer-same raw over a b (AsItCame e) (PastItsWindow c w f) h k = absurd (waits-idle raw over a b e w f (h c) (k c))
-answer-same raw over a b (PastItsWindow c w f) (AsItCame e) h k = absurd (waits-idle raw over b a e w f (k c) (h c))
-answer-same raw over a b (PastItsWindow c w e) (PastItsWindow d v f) h k = e ∙ sym f
-
-next-call : (settings : Settings) (c : Call) → raw_call settings c ≡ Some NextAsked → is_next c ≡ true
-next-call settings (ListCall token) e = absurd (cc)
-next-call settings (Watch version initial) e = absurd (cc)
-next-call settings Next e = refl
-next-call settings Stream e = absurd (cc)
-
--- ---- actions
-
-same-action : (policy : ObjectData → Option ℕ) (object : Option ObjectData) (outcome : Outcome) (a b : Option ℕ) → IsActionOf policy object outcome a → IsActionOf policy object outcome b → a ≡ b
-same-action policy object (Succeeded own) a b h k = h ∙ sym k
-same-action policy None Failed a b h k = absurd h
-same-action policy (Some o) Failed a b h k = h ∙ sym k
-
-same-finishes : (policies : ℕ → ObjectData → Option ℕ) (running : List (Running ObjectData)) (fs : List Finish) (gs hs : List Finished)
-    → AreFinishesOf policies running fs gs → AreFinishesOf policies running fs hs → gs ≡ hs
-same-finishes policies running [] gs hs p q = p ∙ sym q
-same-finishes policies running (f ∷ fs) [] hs p q = absurd p
-same-finishes policies running (f ∷ fs) (g ∷ gs) [] p q = absurd q
-same-finishes policies running (f ∷ fs) (g ∷ gs) (u ∷ us) p q =
-    let finish : g.finish ≡ u.finish = p.0.finish ∙ sym q.0.finish in
-    let action : g.action ≡ u.action = same-action (policies 0) (handed_over running f.reference) f.outcome g.action u.action p.0.action q.0.action in
-    let one : g ≡ u = λ i. record { finish = finish i; action = action i } in
-    ap₂ (λ z zs. z ∷ zs) one (same-finishes (λ n. policies (n + 1)) running fs gs us p.1 q.1)
-
--- ---- exchanges
-
-pub answered-split : (settings : Settings) (ds es : List (Dated ObjectData)) (a c : Api) → AreAnswered settings a (ds ++ es) c → (b : Api) × AreAnswered settings a ds b × AreAnswered settings b es c
-answered-split settings [] es a c h = (a, refl, h)
-answered-split settings (d ∷ ds) es a c h = let rest = answered-split settings ds es h.0 c h.2 in (rest.0, (h.0, h.1, rest.1), rest.2)
+-- how the related source of a row is fed
+pub fed-at : (rows : List Related) (place : ℕ) (row : Related) → slice_get rows place ≡ Some row → unwrap_or (slice_get (map (λ r. Watched r.source.watcher) rows) place) Streamed ≡ Watched row.source.watcher
+fed-at [] place row e = absurd (cc)
+fed-at (r ∷ rows) zero row e = ap (λ (z : Related). Watched z.source.watcher) (some-same r row e)
+fed-at (r ∷ rows) (suc place) row e = fed-at rows place row e
 
 module _ (s : Script) where
-  abbrev own_of : List (Dated ObjectData) → List (Exchange ObjectData)
-  own_of ds = exchanges_of 0 ds
-
-  pub feed-past : (n : ℕ) → feed_of (script_world s) (suc n) ≡ Streamed
-  feed-past n = ap (λ o. unwrap_or o Streamed) (slice_get_past (Watched s.root.watcher ∷ []) (suc n) (omega arith))
-
-  -- an exchange that is recorded from a call of an API is the root's
-  pub root-source : (ds : List (Dated ObjectData)) (source : ℕ) (call : Call) (raw : Raw ObjectData) → call ≡ owed (feed_of (script_world s) source) (exchanges_of source ds) → raw_call s.root.watcher call ≡ Some raw.call → source ≡ 0
-  root-source ds zero call raw e f = refl
-  root-source ds (suc n) call raw e f =
-      let stream : call ≡ Stream = e ∙ ap (λ feed. owed feed (exchanges_of (suc n) ds)) (feed-past n) in
-      let none : None ≡ Some raw.call = ap (raw_call s.root.watcher) (sym stream) ∙ f in
-      absurd (cc)
-
-  abbrev over_at : List (Dated ObjectData) → ℕ → Bool
-  over_at ds at = is_window_over (window_of (Watched s.root.watcher)) (silent_since (dated_of 0 ds)) at
-
-  -- what fits of the root
-  record FitsRoot (ds : List (Dated ObjectData)) (at : ℕ) (x : Exchange ObjectData) : Type 0 where
-    pub source : x.source ≡ 0
-    pub owes : x.call ≡ owed (Watched s.root.watcher) (own_of ds)
-    pub idle : IsTrue (is_next x.call) → IsTrue (idle_fits (over_at ds at) x.answer)
-    pub error : ErrorFits (mark (own_of ds) x)
-    pub requests : x.requests ≡ requests_of_watch (script_world s) (own_of ds) x
-
-  fits-root : (ds : List (Dated ObjectData)) (at : ℕ) (x : Exchange ObjectData) (raw : Raw ObjectData) → IsFitting (script_world s) ds at x → IsRecorded version_of s.root.watcher raw x → FitsRoot ds at x
-  fits-root ds at x raw f r =
+  root-same : (before : List (Dated ObjectData)) (at : ℕ) (x y : Exchange ObjectData) (a b c : Api) → x.source ≡ 0 → y.source ≡ 0 → IsFitting (script_world s) before at x → IsFitting (script_world s) before at y
+      → root_answers s a (dated_of 0 before) at x b → root_answers s a (dated_of 0 before) at y c → (x ≡ y) × (b ≡ c)
+  root-same before at x y a b c sx sy fx fy p q =
       let w = script_world s in
-      let zero : x.source ≡ 0 = root-source ds x.source x.call raw f.owes r.call in
-      record {
-        source = zero;
-        owes = subst (λ n. x.call ≡ owed (feed_of w n) (exchanges_of n ds)) zero f.owes;
-        idle = subst (λ n. IsTrue (is_next x.call) → IsTrue (idle_fits (is_window_over (window_of (feed_of w n)) (silent_since (dated_of n ds)) at) x.answer)) zero f.idle;
-        error = (subst (λ n. IsAnsweredHere (exchanges_of n ds) x) zero f.answer).error;
-        requests = (subst (λ n. IsOfSource w n (exchanges_of n ds) x) zero f.content).requests;
-      }
+      let f = fits-root w s.root.watcher refl version_of before at x sx fx in
+      let g = fits-root w s.root.watcher refl version_of before at y sy fy in
+      let call : p.raw.call ≡ q.raw.call = some-same p.raw.call q.raw.call (sym p.recorded.call ∙ (ap (raw_call s.root.watcher) (f.owes ∙ sym g.owes) ∙ q.recorded.call)) in
+      let moved = one-way a at p.raw q.raw b c p.moved q.moved call in
+      (same-exchange w s.root.watcher refl version_of before at x y q.raw f g (subst (λ raw. IsRecorded version_of s.root.watcher raw x) moved.0 p.recorded) q.recorded, moved.1)
 
-  is-next : (x : Exchange ObjectData) (raw : Raw ObjectData) → raw_call s.root.watcher x.call ≡ Some raw.call → raw.call ≡ NextAsked → IsTrue (is_next x.call)
-  is-next x raw e n = next-call s.root.watcher x.call (e ∙ ap Some n)
-
-  error-is : (ds : List (Dated ObjectData)) (x : Exchange ObjectData) (raw : Raw ObjectData) → IsRecorded version_of s.root.watcher raw x → ErrorFits (mark (own_of ds) x) → x.error ≡ error_of (mark (own_of ds) x)
-  error-is ds x raw r (inl i) = absurd (not-item raw x.answer r.answer i)
-  error-is ds x raw r (inr e) = e
-
-  -- one raw form has one exchange
-  same-exchange : (ds : List (Dated ObjectData)) (at : ℕ) (x y : Exchange ObjectData) (raw : Raw ObjectData) → FitsRoot ds at x → FitsRoot ds at y
-      → IsRecorded version_of s.root.watcher raw x → IsRecorded version_of s.root.watcher raw y → x ≡ y
-  same-exchange ds at x y raw f g r q =
-      let own = own_of ds in
-      let call : x.call ≡ y.call = f.owes ∙ sym g.owes in
-      let answer : x.answer ≡ y.answer =
-      answer-same raw (over_at ds at) x.answer y.answer r.answer q.answer (λ n. f.idle (is-next x raw r.call n)) (λ n. g.idle (is-next y raw q.call n)) in
-      let items : x.items ≡ y.items = r.items ∙ sym q.items in
-      let requests : x.requests ≡ y.requests = f.requests ∙ requests-same x y call answer items (script_world s) own ∙ sym g.requests in
-      let error : x.error ≡ y.error = error-is ds x raw r f.error ∙ error-same x y call answer items own ∙ sym (error-is ds y raw q g.error) in
-      λ i. record {
-        source = (f.source ∙ sym g.source) i;
-        call = call i;
-        answer = answer i;
-        items = items i;
-        requests = requests i;
-        error = error i;
-      }
-
-  -- the asks of a turn begin with any asks that may be made in it
-  pub asks-begin : (h : List (Step ObjectData)) (tn : Turn) (before xs ys : List (Exchange ObjectData)) (a b c : Api)
-      → EachIsNext (script_world s) h tn before xs → EachIsNext (script_world s) h tn before ys → next_source (script_world s) h tn (before ++ ys) ≡ None
-      → AreAnswered s.root.watcher a (dated tn.at xs) b → AreAnswered s.root.watcher a (dated tn.at ys) c
-      → (rest : List (Exchange ObjectData)) × (ys ≡ xs ++ rest) × EachIsNext (script_world s) h tn (before ++ xs) rest × AreAnswered s.root.watcher b (dated tn.at rest) c
-  asks-begin h tn before [] ys a b c f g done m n = (
-    ys,
-    refl,
-    subst (λ zs. EachIsNext (script_world s) h tn zs ys) (sym (append-nil before)) g,
-    subst (λ z. AreAnswered s.root.watcher z (dated tn.at ys) c) (sym m) n,
-  )
-  asks-begin h tn before (x ∷ xs) [] a b c f g done m n =
-      absurd (none-is-some (next_source (script_world s) h tn before) x.source (subst (λ zs. next_source (script_world s) h tn zs ≡ None) (append-nil before) done) f.0.source)
-  asks-begin h tn before (x ∷ xs) (y ∷ ys) a b c f g done m n =
-      let w = script_world s in
-      let ds = exchanges_with h tn before in
-      let mine = m.1 in
-      let theirs = n.1 in
-      let fx = fits-root ds tn.at x mine.raw f.0.fits mine.recorded in
-      let fy = fits-root ds tn.at y theirs.raw g.0.fits theirs.recorded in
-      let calls : mine.raw.call ≡ theirs.raw.call =
-      some-same mine.raw.call theirs.raw.call (sym mine.recorded.call ∙ ap (raw_call s.root.watcher) (fx.owes ∙ sym fy.owes) ∙ theirs.recorded.call) in
-      let p = one-way a tn.at mine.raw theirs.raw m.0 n.0 mine.moved theirs.moved calls in
-      let same : x ≡ y = same-exchange ds tn.at x y mine.raw fx fy mine.recorded (subst (λ raw. IsRecorded version_of s.root.watcher raw y) (sym p.0) theirs.recorded) in
-      let rest =
-      asks-begin h tn (before ++ x ∷ []) xs ys m.0 b c f.1
-      (subst (λ e. EachIsNext w h tn (before ++ e ∷ []) ys) (sym same) g.1)
-      (subst (λ zs. next_source w h tn zs ≡ None) (sym (append_assoc before (x ∷ []) ys)) (subst (λ e. next_source w h tn (before ++ e ∷ ys) ≡ None) (sym same) done))
-      m.2
-      (subst (λ z. AreAnswered s.root.watcher z (dated tn.at ys) c) (sym p.1) n.2) in (
-        rest.0,
-        ap₂ (λ e es. e ∷ es) (sym same) rest.1,
-        subst (λ zs. EachIsNext w h tn zs rest.0) (append_assoc before (x ∷ []) xs) rest.2,
-        rest.3,
+  row-same : (row : Related) (own : List (Dated ObjectData)) (at : ℕ) (x y : Exchange ObjectData) → x.source ≡ y.source → IsOwedNext (Watched row.source.watcher) own at x → IsOwedNext (Watched row.source.watcher) own at y
+      → (a b c : Api) → IsAnsweredMapped (type_in s) row (exchanges_in own) a at x b → IsAnsweredMapped (type_in s) row (exchanges_in own) a at y c → (x ≡ y) × (b ≡ c)
+  row-same row own at x y source f g a b c p q =
+      let settings = row.source.watcher in
+      let call : p.raw.call ≡ q.raw.call = some-same p.raw.call q.raw.call (sym p.recorded.call ∙ (ap (raw_call settings) (f.owes ∙ sym g.owes) ∙ q.recorded.call)) in
+      let moved = one-way a at p.raw q.raw b c p.moved q.moved call in (
+        mapped-same (resource_type row.kind) (λ o. o.metadata) (λ o rs. rs ≡ mapped_by (type_in s) row.mapped o) (λ o rs us e h. e ∙ sym h) version_of settings own at x y q.raw f g source
+            (subst (λ raw. IsRecordedMapped version_of (IsMappedTo (resource_type row.kind) (λ o. o.metadata) (λ o rs. rs ≡ mapped_by (type_in s) row.mapped o)) settings (exchanges_in own) raw x) moved.0 p.recorded) q.recorded,
+        moved.1,
       )
 
-  -- all asks of a turn are the same
-  same-asks : (h : List (Step ObjectData)) (tn : Turn) (xs ys : List (Exchange ObjectData)) (a b c : Api)
-      → EachIsNext (script_world s) h tn [] xs → next_source (script_world s) h tn xs ≡ None → EachIsNext (script_world s) h tn [] ys → next_source (script_world s) h tn ys ≡ None
-      → AreAnswered s.root.watcher a (dated tn.at xs) b → AreAnswered s.root.watcher a (dated tn.at ys) c → (ys ≡ xs) × (b ≡ c)
-  same-asks h tn xs ys a b c f d g e m n =
-      let p = asks-begin h tn [] xs ys a b c f g e m n in
-      go p.0 p.1 p.2 p.3
+  fits-related : (place : ℕ) (row : Related) (before : List (Dated ObjectData)) (at : ℕ) (x : Exchange ObjectData) → slice_get s.related place ≡ Some row → x.source ≡ suc place → IsFitting (script_world s) before at x
+      → IsOwedNext (Watched row.source.watcher) (dated_of (suc place) before) at x
+  fits-related place row before at x there source f =
+      let here : feed_of (script_world s) x.source ≡ Watched row.source.watcher = ap (feed_of (script_world s)) source ∙ fed-at s.related place row there in
+      record {
+        owes = f.owes ∙ ap₂ (λ feed n. owed feed (exchanges_of n before)) here source;
+        idle =
+            subst (λ feed. is_next x.call ≡ true → idle_fits (is_window_over (window_of feed) (silent_since (dated_of (suc place) before)) at) x.answer ≡ true) here
+            (subst (λ n. is_next x.call ≡ true → idle_fits (is_window_over (window_of (feed_of (script_world s) x.source)) (silent_since (dated_of n before)) at) x.answer ≡ true) source f.idle);
+        answer = subst (λ n. IsAnsweredHere (exchanges_of n before) x) source f.answer;
+      }
+
+  -- what a script's sources are asked is determined
+  pub polls-determined : ArePollsDetermined (script_world s) (root_answers s) (RelatedAnswers s) (λ a b. a ≡ b) (λ a b. a ≡ b)
+  polls-determined before at x y r r' q q' t t' u u' alike both fx fy source p z =
+      go x.source refl p
+      (subst (λ v. IsPolledAt (root_answers s) (RelatedAnswers s) before at y v t q' u' x.source) (sym alike)
+      (subst (λ v. IsPolledAt (root_answers s) (RelatedAnswers s) before at y q v q' u' x.source) (sym both)
+      (subst (IsPolledAt (root_answers s) (RelatedAnswers s) before at y q u q' u') (sym source) z)))
     where
-      go : (rest : List (Exchange ObjectData)) → ys ≡ xs ++ rest → EachIsNext (script_world s) h tn xs rest → AreAnswered s.root.watcher b (dated tn.at rest) c → (ys ≡ xs) × (b ≡ c)
-      go [] same each made = (same ∙ append-nil xs, sym made)
-      go (z ∷ zs) same each made = absurd (none-is-some (next_source (script_world s) h tn xs) z.source d each.0.source)
+      go : (n : ℕ) → x.source ≡ n → IsPolledAt (root_answers s) (RelatedAnswers s) before at x r t r' t' n → IsPolledAt (root_answers s) (RelatedAnswers s) before at y r t q' u' n → (x ≡ y) × (r' ≡ q') × (t' ≡ u')
+      go zero e k l =
+          let same = root-same before at x y r r' q' e (sym source ∙ e) fx fy k.0 l.0 in
+          (same.0, same.1, k.1 ∙ sym l.1)
+      go (suc place) e k l =
+          let rows : k.0.row ≡ l.0.row = some-same k.0.row l.0.row (sym k.0.there ∙ l.0.there) in
+          let own = dated_of (suc place) before in
+          let same =
+          changes-same (λ a v b. IsAnsweredMapped (type_in s) k.0.row (exchanges_in own) a at v b) place x y
+          (row-same k.0.row own at x y source (fits-related place k.0.row before at x k.0.there e fx) (fits-related place k.0.row before at y k.0.there (sym source ∙ e) fy))
+          t t' u' k.0.answered (subst (λ row. ChangesAt (λ a b. IsAnsweredMapped (type_in s) row (exchanges_in own) a at y b) place t u') (sym rows) l.0.answered) in
+          (same.0, k.1 ∙ sym l.1, same.1)
 
-  -- ---- records and traces
+-- ---- asks and traces over any sources whose exchanges are determined
 
-  pub answered-at : (h : List (Step ObjectData)) (tn : Turn) (r : TurnRecord ObjectData) (a b : Api) → IsRecord (script_world s) (policies_in s 0) h tn (unread r)
-      → AreAnswered s.root.watcher a (dated r.at r.exchanges) b → AreAnswered s.root.watcher a (dated tn.at r.exchanges) b
-  answered-at h tn r a b k g = subst (λ at. AreAnswered s.root.watcher a (dated at r.exchanges) b) (ap (λ (q : TurnRecord ObjectData). q.at) k.determined) g
+module _ {O B R S : Type 0} (w : World O B) (root_polls : R → List (Dated O) → ℕ → Exchange O → R → Type 0) (related_polls : S → ℕ → List (Dated O) → ℕ → Exchange O → S → Type 0)
+    (determined : ArePollsDetermined w root_polls related_polls (λ a b. a ≡ b) (λ a b. a ≡ b)) where
+  abbrev Polled : List (Dated O) → R → S → List (Dated O) → R → S → Type 0
+  Polled before r s ds r' s' = ArePolled root_polls related_polls before r s ds r' s'
 
-  same-record : (h : List (Step ObjectData)) (tn : Turn) (r q : TurnRecord ObjectData) (a b c : Api) → IsRecord (script_world s) (policies_in s 0) h tn (unread r) → IsRecord (script_world s) (policies_in s 0) h tn (unread q)
-      → AreAnswered s.root.watcher a (dated r.at r.exchanges) b → AreAnswered s.root.watcher a (dated q.at q.exchanges) c → (q ≡ r) × (b ≡ c)
-  same-record h tn r q a b c k l m n =
-      let p = same-asks h tn r.exchanges q.exchanges a b c k.asked k.done l.asked l.done (answered-at h tn r a b k m) (answered-at h tn q a c l n) in
-      let finished : q.finished ≡ r.finished = same-finishes (policies_in s 0) (running h) tn.finishes q.finished r.finished l.finishes k.finishes in
-      (l.determined ∙ (ap₂ (record_with (script_world s) h tn nothing_read) finished p.0 ∙ sym k.determined), p.1)
+  more-asked : (h : List (Step O)) (t : Turn) (before : List (Exchange O)) (all : List (Dated O)) (x : Exchange O) → all ≡ exchanges_with h t before → all ++ record { at = t.at; exchange = x } ∷ [] ≡ exchanges_with h t (before ++ x ∷ [])
+  more-asked h t before all x e =
+      ap (λ ds. ds ++ record { at = t.at; exchange = x } ∷ []) e
+      ∙ (append_assoc (exchanges h) (dated t.at before) (record { at = t.at; exchange = x } ∷ []) ∙ ap (λ ds. exchanges h ++ ds) (sym (map-append (λ v. record { at = t.at; exchange = v }) before (x ∷ []))))
+
+  -- of two lists of asks that may be made in a turn one begins with the other
+  pub asks-compare : (h : List (Step O)) (t : Turn) (before xs ys : List (Exchange O)) (all : List (Dated O)) (r r' q' : R) (s s' u' : S) → all ≡ exchanges_with h t before
+      → EachIsNext w h t before xs → EachIsNext w h t before ys → Polled all r s (dated t.at xs) r' s' → Polled all r s (dated t.at ys) q' u'
+      → ((rest : List (Exchange O)) × (ys ≡ xs ++ rest) × EachIsNext w h t (before ++ xs) rest × Polled (all ++ dated t.at xs) r' s' (dated t.at rest) q' u')
+      ⊎ ((rest : List (Exchange O)) × (xs ≡ ys ++ rest) × EachIsNext w h t (before ++ ys) rest × Polled (all ++ dated t.at ys) q' u' (dated t.at rest) r' s')
+  asks-compare h t before [] ys all r r' q' s s' u' e k l p z =
+      inl (
+        ys,
+        refl,
+        subst (λ zs. EachIsNext w h t zs ys) (sym (append-nil before)) l,
+        subst (λ ds. Polled ds r' s' (dated t.at ys) q' u') (sym (append-nil all))
+            (subst (λ v. Polled all v s' (dated t.at ys) q' u') (sym p.0) (subst (λ v. Polled all r v (dated t.at ys) q' u') (sym p.1) z)),
+      )
+  asks-compare h t before (x ∷ xs) [] all r r' q' s s' u' e k l p z =
+      inr (
+        x ∷ xs,
+        refl,
+        subst (λ zs. EachIsNext w h t zs (x ∷ xs)) (sym (append-nil before)) k,
+        subst (λ ds. Polled ds q' u' (dated t.at (x ∷ xs)) r' s') (sym (append-nil all))
+            (subst (λ v. Polled all v u' (dated t.at (x ∷ xs)) r' s') (sym z.0) (subst (λ v. Polled all r v (dated t.at (x ∷ xs)) r' s') (sym z.1) p)),
+      )
+  asks-compare h t before (x ∷ xs) (y ∷ ys) all r r' q' s s' u' e k l p z =
+      let source : x.source ≡ y.source = some-same x.source y.source (sym k.0.source ∙ l.0.source) in
+      let one =
+      determined all t.at x y r p.0 r z.0 s p.1 s z.1 refl refl (subst (λ ds. IsFitting w ds t.at x) (sym e) k.0.fits) (subst (λ ds. IsFitting w ds t.at y) (sym e) l.0.fits) source p.2 z.2 in
+      let d : Dated O = record { at = t.at; exchange = x } in
+      go one.0
+      (asks-compare h t (before ++ x ∷ []) xs ys (all ++ d ∷ []) p.0 r' q' p.1 s' u' (more-asked h t before all x e) k.1 (subst (λ v. EachIsNext w h t (before ++ v ∷ []) ys) (sym one.0) l.1) p.3
+      (subst (λ v. Polled (all ++ record { at = t.at; exchange = v } ∷ []) p.0 p.1 (dated t.at ys) q' u') (sym one.0)
+      (subst (λ v. Polled (all ++ record { at = t.at; exchange = y } ∷ []) v p.1 (dated t.at ys) q' u') (sym one.1)
+      (subst (λ v. Polled (all ++ record { at = t.at; exchange = y } ∷ []) z.0 v (dated t.at ys) q' u') (sym one.2) z.3))))
+    where
+      go : x ≡ y
+          → ((rest : List (Exchange O)) × (ys ≡ xs ++ rest) × EachIsNext w h t ((before ++ x ∷ []) ++ xs) rest × Polled ((all ++ record { at = t.at; exchange = x } ∷ []) ++ dated t.at xs) r' s' (dated t.at rest) q' u')
+          ⊎ ((rest : List (Exchange O)) × (xs ≡ ys ++ rest) × EachIsNext w h t ((before ++ x ∷ []) ++ ys) rest × Polled ((all ++ record { at = t.at; exchange = x } ∷ []) ++ dated t.at ys) q' u' (dated t.at rest) r' s')
+          → ((rest : List (Exchange O)) × (y ∷ ys ≡ x ∷ xs ++ rest) × EachIsNext w h t (before ++ x ∷ xs) rest × Polled (all ++ dated t.at (x ∷ xs)) r' s' (dated t.at rest) q' u')
+          ⊎ ((rest : List (Exchange O)) × (x ∷ xs ≡ y ∷ ys ++ rest) × EachIsNext w h t (before ++ y ∷ ys) rest × Polled (all ++ dated t.at (y ∷ ys)) q' u' (dated t.at rest) r' s')
+      go one (inl f) =
+          inl (
+            f.0,
+            ap₂ (λ v vs. v ∷ vs) (sym one) f.1,
+            subst (λ zs. EachIsNext w h t zs f.0) (append_assoc before (x ∷ []) xs) f.2,
+            subst (λ ds. Polled ds r' s' (dated t.at f.0) q' u') (append_assoc all (record { at = t.at; exchange = x } ∷ []) (dated t.at xs)) f.3,
+          )
+      go one (inr f) =
+          inr (
+            f.0,
+            ap₂ (λ v vs. v ∷ vs) one f.1,
+            subst (λ v. EachIsNext w h t (before ++ v ∷ ys) f.0) one (subst (λ zs. EachIsNext w h t zs f.0) (append_assoc before (x ∷ []) ys) f.2),
+            subst (λ v. Polled (all ++ dated t.at (v ∷ ys)) q' u' (dated t.at f.0) r' s') one
+                (subst (λ ds. Polled ds q' u' (dated t.at f.0) r' s') (append_assoc all (record { at = t.at; exchange = x } ∷ []) (dated t.at ys)) f.3),
+          )
 
   -- the trace of more turns begins with that of fewer, and goes on from there
-  pub traces-begin : (h : List (Step ObjectData)) (ts us : List Turn) (rs qs : List (TurnRecord ObjectData)) (a b c : Api)
-      → IsTrace (script_world s) (policies_in s) h ts (map unread rs) → IsTrace (script_world s) (policies_in s) h (ts ++ us) (map unread qs)
-      → AreAnswered s.root.watcher a (dated_in rs) b → AreAnswered s.root.watcher a (dated_in qs) c
-      → (rest : List (TurnRecord ObjectData)) × (qs ≡ rs ++ rest) × IsTrace (script_world s) (policies_in s) (h ++ steps ts (map unread rs)) us (map unread rest) × AreAnswered s.root.watcher b (dated_in rest) c
-  traces-begin h [] us [] qs a b c f g m n = (
+  pub traces-begin : (policy : O → Option ℕ) (h : List (Step O)) (ts us : List Turn) (rs qs : List (TurnRecord O)) (r r' q' : R) (s s' u' : S)
+      → IsTrace w (λ n k. policy) h ts (map unread rs) → IsTrace w (λ n k. policy) h (ts ++ us) (map unread qs) → Polled (exchanges h) r s (dated_in rs) r' s' → Polled (exchanges h) r s (dated_in qs) q' u'
+      → (rest : List (TurnRecord O)) × (qs ≡ rs ++ rest) × IsTrace w (λ n k. policy) (h ++ steps ts (map unread rs)) us (map unread rest) × Polled (exchanges h ++ dated_in rs) r' s' (dated_in rest) q' u'
+  traces-begin policy h [] us [] qs r r' q' s s' u' k l p z = (
     qs,
     refl,
-    subst (λ k. IsTrace (script_world s) (policies_in s) k us (map unread qs)) (sym (append-nil h)) g,
-    subst (λ z. AreAnswered s.root.watcher z (dated_in qs) c) (sym m) n,
+    subst (λ g. IsTrace w (λ n k. policy) g us (map unread qs)) (sym (append-nil h)) l,
+    subst (λ ds. Polled ds r' s' (dated_in qs) q' u') (sym (append-nil (exchanges h)))
+        (subst (λ v. Polled (exchanges h) v s' (dated_in qs) q' u') (sym p.0) (subst (λ v. Polled (exchanges h) r v (dated_in qs) q' u') (sym p.1) z)),
   )
-  traces-begin h [] us (r ∷ rs) qs a b c f g m n = absurd (cc)
-  traces-begin h (tn ∷ ts) us [] [] a b c f g m n = (
+  traces-begin policy h [] us (f ∷ rs) qs r r' q' s s' u' k l p z = absurd (cc)
+  traces-begin policy h (t ∷ ts) us [] [] r r' q' s s' u' k l p z = (
     [],
     refl,
-    subst (λ k. IsTrace (script_world s) (policies_in s) k us []) (sym (append-nil h)) (ended us),
-    subst (λ z. AreAnswered s.root.watcher z [] c) (sym m) n,
+    subst (λ g. IsTrace w (λ n k. policy) g us []) (sym (append-nil h)) (ended us),
+    subst (λ ds. Polled ds r' s' [] q' u') (sym (append-nil (exchanges h)))
+        (subst (λ v. Polled (exchanges h) v s' [] q' u') (sym p.0) (subst (λ v. Polled (exchanges h) r v [] q' u') (sym p.1) z)),
   )
     where
-      ended : (us : List Turn) → IsTrace (script_world s) (policies_in s) h us []
+      ended : (us : List Turn) → IsTrace w (λ n k. policy) h us []
       ended [] = refl
-      ended (u ∷ us) = f
-  traces-begin h (tn ∷ ts) us [] (q ∷ qs) a b c f g m n = absurd (false-is-true (has_ended h) g.0 f)
-  traces-begin h (tn ∷ ts) us (r ∷ rs) [] a b c f g m n = absurd (false-is-true (has_ended h) f.0 g)
-  traces-begin h (tn ∷ ts) us (r ∷ rs) (q ∷ qs) a b c f g m n =
-      let mr = answered-split s.root.watcher (dated r.at r.exchanges) (dated_in rs) a b m in
-      let nq = answered-split s.root.watcher (dated q.at q.exchanges) (dated_in qs) a c n in
-      let p = same-record h tn r q a mr.0 nq.0 f.1 g.1 mr.1 nq.1 in
+      ended (u ∷ us) = k
+  traces-begin policy h (t ∷ ts) us [] (g ∷ qs) r r' q' s s' u' k l p z = absurd (false-is-true (has_ended h) l.0 k)
+  traces-begin policy h (t ∷ ts) us (f ∷ rs) [] r r' q' s s' u' k l p z = absurd (false-is-true (has_ended h) k.0 l)
+  traces-begin policy h (t ∷ ts) us (f ∷ rs) (g ∷ qs) r r' q' s s' u' k l p z =
+      let p' = polled-split w root_polls related_polls (exchanges h) r s (dated f.at f.exchanges) (dated_in rs) r' s' p in
+      let z' = polled-split w root_polls related_polls (exchanges h) r s (dated g.at g.exchanges) (dated_in qs) q' u' z in
+      let one = turn-same w root_polls related_polls (λ a b. a ≡ b) (λ a b. a ≡ b) determined (λ k. policy) h t f g r p'.0 r z'.0 s p'.1 s z'.1 refl refl k.1 l.1 p'.2 z'.2 in
+      let after = after-one w root_polls related_polls (λ a b. a ≡ b) (λ a b. a ≡ b) determined (λ k. policy) h t f k.1 in
       let rest =
-      traces-begin (h ++ step tn (unread r) ∷ []) ts us rs qs mr.0 b c f.2
-      (subst (λ (z : TurnRecord ObjectData). IsTrace (script_world s) (policies_in s) (h ++ step tn (unread z) ∷ []) (ts ++ us) (map unread qs)) p.0 g.2) mr.2
-      (subst (λ z. AreAnswered s.root.watcher z (dated_in qs) c) (sym p.1) nq.2) in (
+      traces-begin policy (h ++ step t (unread f) ∷ []) ts us rs qs p'.0 r' q' p'.1 s' u' k.2 (subst (λ v. IsTrace w (λ n k. policy) (h ++ step t (unread v) ∷ []) (ts ++ us) (map unread qs)) (sym one.0) l.2)
+      (subst (λ ds. Polled ds p'.0 p'.1 (dated_in rs) r' s') after p'.3)
+      (subst (λ ds. Polled ds p'.0 p'.1 (dated_in qs) q' u') after
+      (subst (λ v. Polled (exchanges h ++ dated f.at f.exchanges) v p'.1 (dated_in qs) q' u') (sym one.1)
+      (subst (λ v. Polled (exchanges h ++ dated f.at f.exchanges) z'.0 v (dated_in qs) q' u') (sym one.2)
+      (subst (λ v. Polled (exchanges h ++ dated v.at v.exchanges) z'.0 z'.1 (dated_in qs) q' u') (sym one.0) z'.3)))) in (
         rest.0,
-        ap₂ (λ z zs. z ∷ zs) p.0 rest.1,
-        subst (λ k. IsTrace (script_world s) (policies_in s) k us (map unread rest.0)) (append_assoc h (step tn (unread r) ∷ []) (steps ts (map unread rs))) rest.2,
-        rest.3,
+        ap₂ (λ v vs. v ∷ vs) (sym one.0) rest.1,
+        subst (λ g. IsTrace w (λ n k. policy) g us (map unread rest.0)) (append_assoc h (step t (unread f) ∷ []) (steps ts (map unread rs))) rest.2,
+        subst (λ ds. Polled ds r' s' (dated_in rest.0) q' u') (ap (λ ds. ds ++ dated_in rs) (sym after) ∙ append_assoc (exchanges h) (dated f.at f.exchanges) (dated_in rs)) rest.3,
       )
+
+-- ---- the same of a script
+
+module _ (s : Script) where
+  pub script-begins : (ts us : List Turn) (rs qs : List (TurnRecord ObjectData)) (a b : Apis) → IsTrace (script_world s) (policies_in s) [] ts (map unread rs) → IsTrace (script_world s) (policies_in s) [] (ts ++ us) (map unread qs)
+      → AreAnswered s [] (apis_at_first s) (dated_in rs) a → AreAnswered s [] (apis_at_first s) (dated_in qs) b
+      → (rest : List (TurnRecord ObjectData)) × (qs ≡ rs ++ rest) × IsTrace (script_world s) (policies_in s) (steps ts (map unread rs)) us (map unread rest) × AreAnswered s (dated_in rs) a (dated_in rest) b
+  script-begins ts us rs qs a b k l p z =
+      traces-begin (script_world s) (root_answers s) (RelatedAnswers s) (polls-determined s) (λ o. s.error_requeue) [] ts us rs qs (apis_at_first s).root a.root b.root (apis_at_first s).related a.related b.related k l p z
+
+  -- the same records leave the same
+  pub same-left : (ts : List Turn) (rs : List (TurnRecord ObjectData)) (a b : Apis) → IsTrace (script_world s) (policies_in s) [] ts (map unread rs) → AreAnswered s [] (apis_at_first s) (dated_in rs) a → AreAnswered s [] (apis_at_first s) (dated_in rs) b → a ≡ b
+  same-left ts rs a b k p z =
+      let l = script-begins ts [] rs rs a b k (subst (λ us. IsTrace (script_world s) (policies_in s) [] us (map unread rs)) (sym (append-nil ts)) k) p z in
+      go l.0 (nothing-more rs l.0 l.1) l.3
+    where
+      nothing-more : {A : Type 0} (xs rest : List A) → xs ≡ xs ++ rest → rest ≡ []
+      nothing-more xs [] e = refl
+      nothing-more xs (y ∷ rest) e = let l = length-append xs (y ∷ rest) in let m : length xs ≡ length (xs ++ y ∷ rest) = ap length e in absurd (omega (arith, l, m))
+
+      go : (rest : List (TurnRecord ObjectData)) → rest ≡ [] → AreAnswered s (dated_in rs) a (dated_in rest) b → a ≡ b
+      go [] e q = λ i. record { root = sym q.0 i; related = sym q.1 i }
+      go (r ∷ rest) e q = absurd (cc)

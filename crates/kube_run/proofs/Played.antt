@@ -6,12 +6,11 @@ use Rattle.kube_model.specs.Named.{AreNamedTurns, RootIsNamed}
 use Rattle.kube_model.specs.Traces.{IsTrace, step, steps, unread}
 use Rattle.kube_model.specs.World.{World}
 use Rattle.kube_script.specs.Script.{Script}
-use Rattle.kube_script.specs.Told.{api_at_first}
-use Rattle.kube_run.specs.Played.{IsFront, IsPlayed, IsPlayedFront, policies_in, script_world, trace_text, turns_in}
+use Rattle.kube_run.specs.Played.{IsFront, IsPlayed, IsPlayedFront, apis_at_first, policies_in, script_world, trace_text, turns_in}
 
 -- no turn was taken yet
 pub none-played : (s : Script) → IsPlayedFront s []
-none-played s = (api_at_first s.root, record { trace = refl; named = tt; answered = refl })
+none-played s = (apis_at_first s, record { trace = refl; named = tt; answered = (refl, refl) })
 
 -- a trace is that of the turns that have records
 trace-front : {O B : Type 0} (w : World O B) (p : ℕ → ℕ → O → Option ℕ) (h : List (Step O)) (ts : List Turn) (rs : List (TurnRecord O)) → IsTrace w p h ts (map unread rs) → IsTrace w p h (take (length rs) ts) (map unread rs)

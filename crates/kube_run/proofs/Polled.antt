@@ -1,22 +1,42 @@
--- The exchanges of a script's controller are answered by the script, where its root was asked so.
-use Rattle.std.proofs.Common.{◌≡◌, ℕ, zero, suc, List, [], ◌∷◌, ◌++◌, Some, ap, subst, ◌∙◌}
-use Rattle.kube_api.specs.TestScript as api
-use Rattle.kube_asks.specs.Asking.{IsPolledAt}
-use Rattle.kube_asks.specs.Roots.{IsRootPoll, RootWatching}
-use Rattle.kube_asks.specs.declared.sets.NoRelated.{NoRelated}
+-- The exchanges of a script's controller are answered by the script, where its sources were asked so.
+use Rattle.std.proofs.Common.{◌≡◌, ◌<◌, ◌-◌, nat_lt, ℕ, zero, suc, false, List, [], ◌∷◌, ◌++◌, map, length, slice_get, Option, Some, refl, sym, ap, subst, ◌∙◌, arith}
+use Rattle.std.specs.List.{AllZip}
+use Rattle.std.proofs.lemmas.List.{length-map}
 use Rattle.kube_meta.specs.Reading.{ObjectData}
+use Rattle.kube_meta.specs.Reference.{ObjectType}
+use Rattle.kube_meta.specs.Resources.{resource_type}
 use Rattle.kube_meta.specs.declared.metadata.ObjectMeta.{ObjectMeta}
-use Rattle.kube_model.specs.History.{Dated, Exchange, dated_of}
-use Rattle.kube_model.specs.Recorded.{IsRecorded}
-use Rattle.kube_model.specs.World.{Settings}
-use Rattle.kube_step.specs.Calls.{ArePolled}
+use Rattle.kube_model.specs.History.{Dated, Exchange, Message, dated_of}
+use Rattle.kube_model.specs.Mapping.{IsMappedTo}
+use Rattle.kube_model.specs.Named.{IsOwedForm, OfCall, has_names}
+use Rattle.kube_model.specs.Raw.{Raw}
+use Rattle.kube_model.specs.Recorded.{IsRecorded, IsRecordedMapped}
+use Rattle.kube_model.specs.World.{Settings, Watched}
+use Rattle.kube_api.specs.TestScript as api
+use Rattle.kube_watch.specs.Configs.{settings_of}
 use Rattle.kube_watch.specs.Polls.{Api as Asked}
-use Rattle.kube_watch.specs.Stands.{api_of, settings_in}
-use Rattle.kube_run.specs.Played.{AreAnswered, version_of}
-use Rattle.kube_run.proofs.Once.{Api}
+use Rattle.kube_watch.specs.Stands.{api_of, exchanges_in, settings_in}
+use Rattle.kube_asks.specs.Asking.{IsPolledAt}
+use Rattle.kube_asks.specs.Mapped.{IsMappedPoll, IsRelatedBroken, RelatedStands}
+use Rattle.kube_asks.specs.Places.{ChangesAt, Either, HoldsAt}
+use Rattle.kube_asks.specs.Roots.{IsRootPoll, RootWatching}
+use Rattle.kube_asks.specs.declared.related_list.RelatedList.{RelatedList}
+use Rattle.kube_asks.specs.declared.sets.Beside.{Beside}
+use Rattle.kube_asks.specs.declared.sets.NoRelated.{NoRelated}
+use Rattle.kube_step.specs.Calls.{ArePolled}
+use Rattle.kube_script.specs.Script.{Related, Script}
+use Rattle.kube_run.specs.Mapped.{mapped_as}
+use Rattle.kube_run.specs.Played.{Api, Apis, AreAnswered, IsAnsweredMapped, RelatedAnswers, has_name, root_answers, type_in, version_of}
+use Rattle.kube_run.specs.Sources.{IsOfRow, Source}
 
 abbrev pub Root : Type 0
 Root = RootWatching Api ObjectData
+
+abbrev pub Sources : Type 0
+Sources = Beside NoRelated (RelatedList Source)
+
+abbrev pub list_of : Sources → List Source
+list_of s = s.rest.items.items
 
 abbrev pub meta_of : ObjectData → ObjectMeta
 meta_of o = o.metadata
@@ -28,27 +48,152 @@ asked = record { moves = api.IsMove; talk = λ a. Some a.talk; faults = λ a. a.
 abbrev pub root_polls : Root → List (Dated ObjectData) → ℕ → Exchange ObjectData → Root → Type 0
 root_polls old own now x new = IsRootPoll meta_of asked own now old x new
 
--- no related source is ever asked
-abbrev pub related_polls : NoRelated → ℕ → List (Dated ObjectData) → ℕ → Exchange ObjectData → NoRelated → Type 0
-related_polls old place own now x new = ⊥
+abbrev pub source_polls : Source → List (Dated ObjectData) → ℕ → Exchange ObjectData → Source → Type 0
+source_polls old own now x new = IsMappedPoll asked (IsMappedTo old.kind meta_of (λ o rs. rs ≡ mapped_as old.mapper o)) has_name own now old x new
 
--- where no poll changes how the root lists and watches
-module _ (stays : (own : List (Dated ObjectData)) (now : ℕ) (old : Root) (x : Exchange ObjectData) (new : Root) → root_polls old own now x new → settings_in new.watcher ≡ settings_in old.watcher) (settings : Settings) where
-  pub polled-answered : (before : List (Dated ObjectData)) (old : Root) (none : NoRelated) (ds : List (Dated ObjectData)) (new : Root) (none' : NoRelated) → settings_in old.watcher ≡ settings → ArePolled root_polls related_polls before old none ds new none'
-      → AreAnswered settings (api_of old.watcher) ds (api_of new.watcher) × (settings_in new.watcher ≡ settings)
-  polled-answered before old none [] new none' e p = (ap (λ (r : Root). api_of r.watcher) p.0, ap (λ (r : Root). settings_in r.watcher) p.0 ∙ e)
-  polled-answered before old none (d ∷ ds) new none' e p = at (λ same. polled-answered (before ++ d ∷ []) p.0 p.1 ds new none' same p.3) d.exchange.source p.2
-    where
-      at : (settings_in p.0.watcher ≡ settings → AreAnswered settings (api_of p.0.watcher) ds (api_of new.watcher) × (settings_in new.watcher ≡ settings)) → (source : ℕ) → IsPolledAt root_polls related_polls before d.at d.exchange old none p.0 p.1 source → AreAnswered settings (api_of old.watcher) (d ∷ ds) (api_of new.watcher) × (settings_in new.watcher ≡ settings)
-      at more zero q =
-          let same : settings_in p.0.watcher ≡ settings = stays (dated_of 0 before) d.at old d.exchange p.0 q.0 ∙ e in
-          let rest = more same in
-          let call = q.0.call in (
-            (
-              api_of p.0.watcher,
-              record { raw = call.raw; recorded = subst (λ z. IsRecorded version_of z call.raw d.exchange) e call.recorded; moved = call.moved },
-              rest.0,
-            ),
-            rest.1,
-          )
-      at more (suc place) q = absurd q.0
+abbrev pub related_polls : Sources → ℕ → List (Dated ObjectData) → ℕ → Exchange ObjectData → Sources → Type 0
+related_polls s p own now x s' = Either (nat_lt p 0) (⊥ × (s'.rest ≡ s.rest)) (ChangesAt (λ t u. source_polls t own now x u) (p - 0) (list_of s) (list_of s') × (s'.first ≡ s.first))
+
+abbrev pub source_breaks : Source → ℕ → Source → Type 0
+source_breaks old now new = IsRelatedBroken ObjectData asked has_name now old.watcher new.watcher
+
+-- no place is before the first
+pub at-place : (P : ℕ → Type 0) (Q : Type 0) (p : ℕ) → Either (nat_lt p 0) Q (P (p - 0)) → P p
+at-place P Q p h =
+    let none : nat_lt p 0 ≡ false = grind arith in
+    let same : p - 0 ≡ p = omega arith in
+    subst P same (subst (λ b. Either b Q (P (p - 0))) none h)
+
+-- what the APIs of sources have left
+abbrev pub apis_of : List Source → List Api
+apis_of ts = map (λ t. api_of t.watcher) ts
+
+abbrev pub apis_in : Root → Sources → Apis
+apis_in r s = record { root = api_of r.watcher; related = apis_of (list_of s) }
+
+module _ (root : ObjectType) where
+  answered : (row : Related) (t u : Source) (own : List (Dated ObjectData)) (at : ℕ) (x : Exchange ObjectData) → IsOfRow root row t → source_polls t own at x u → IsAnsweredMapped root row (exchanges_in own) (api_of t.watcher) at x (api_of u.watcher)
+  answered row t u own at x k p = record {
+    raw = p.call.raw;
+    recorded =
+        subst (λ m. IsRecordedMapped version_of (IsMappedTo (resource_type row.kind) meta_of (λ o rs. rs ≡ m o)) row.source.watcher (exchanges_in own) p.call.raw x) k.maps
+        (subst (λ kind. IsRecordedMapped version_of (IsMappedTo kind meta_of (λ o rs. rs ≡ mapped_as t.mapper o)) row.source.watcher (exchanges_in own) p.call.raw x) k.kind
+        (subst (λ z. IsRecordedMapped version_of (IsMappedTo t.kind meta_of (λ o rs. rs ≡ mapped_as t.mapper o)) z (exchanges_in own) p.call.raw x) k.settings p.call.recorded));
+    moved = p.call.moved;
+    named = p.call.named;
+  }
+
+  still : (row : Related) (t u : Source) (own : List (Dated ObjectData)) (at : ℕ) (x : Exchange ObjectData) → IsOfRow root row t → source_polls t own at x u → IsOfRow root row u
+  still row t u own at x k p = record { settings = ap settings_of p.config ∙ k.settings; kind = p.kind ∙ k.kind; maps = ap mapped_as p.mapper ∙ k.maps }
+
+  -- the source at a place is the one of its row
+  record IsAnsweredAt (rows : List Related) (place : ℕ) (own : List (Dated ObjectData)) (at : ℕ) (x : Exchange ObjectData) (ts us : List Source) : Type 0 where
+    pub row : Related
+    pub there : slice_get rows place ≡ Some row
+    pub answers : ChangesAt (λ a b. IsAnsweredMapped root row (exchanges_in own) a at x b) place (apis_of ts) (apis_of us)
+    pub rows_are : AllZip (IsOfRow root) rows us
+
+  answered-at : (rows : List Related) (ts us : List Source) (place : ℕ) (own : List (Dated ObjectData)) (at : ℕ) (x : Exchange ObjectData) → AllZip (IsOfRow root) rows ts → ChangesAt (λ t u. source_polls t own at x u) place ts us
+      → IsAnsweredAt rows place own at x ts us
+  answered-at [] [] us place own at x k f = absurd f
+  answered-at [] (t ∷ ts) us place own at x k f = absurd k
+  answered-at (row ∷ rows) [] us place own at x k f = absurd k
+  answered-at (row ∷ rows) (t ∷ ts) [] place own at x k f = absurd f
+  answered-at (row ∷ rows) (t ∷ ts) (u ∷ us) zero own at x k f = record {
+    row = row;
+    there = refl;
+    answers = (answered row t u own at x k.0 f.0, ap apis_of f.1);
+    rows_are = (still row t u own at x k.0 f.0, subst (AllZip (IsOfRow root) rows) (sym f.1) k.1);
+  }
+  answered-at (row ∷ rows) (t ∷ ts) (u ∷ us) (suc place) own at x k f =
+      let rest = answered-at rows ts us place own at x k.1 f.1 in
+      record {
+        row = rest.row;
+        there = rest.there;
+        answers = (ap (λ (v : Source). api_of v.watcher) f.0, rest.answers);
+        rows_are = (subst (IsOfRow root row) (sym f.0) k.0, rest.rows_are);
+      }
+
+  -- an object without a name came from the source at a place
+  pub record IsUnnamedAtPlace (rows : List Related) (place : ℕ) (own : List (Dated ObjectData)) (at : ℕ) (ts : List Source) : Type 0 where
+    pub row : Related
+    pub there : slice_get rows place ≡ Some row
+    pub asked_api : Api
+    pub is_asked : slice_get (apis_of ts) place ≡ Some asked_api
+    pub raw : Raw ObjectData
+    pub after : Api
+    pub moved : api.IsMove asked_api at raw after
+    pub owes : IsOwedForm has_name version_of (Watched row.source.watcher) (exchanges_in own) (OfCall raw)
+    pub unnamed : has_names has_name version_of (exchanges_in own) (OfCall raw) ≡ false
+
+  pub unnamed-at : (rows : List Related) (ts us : List Source) (place : ℕ) (own : List (Dated ObjectData)) (at : ℕ) → AllZip (IsOfRow root) rows ts → HoldsAt (λ (t : Source). RelatedStands own t.watcher) ts place
+      → ChangesAt (λ t u. source_breaks t at u) place ts us → IsUnnamedAtPlace rows place own at ts
+  unnamed-at [] [] us place own at k s f = absurd f
+  unnamed-at [] (t ∷ ts) us place own at k s f = absurd k
+  unnamed-at (row ∷ rows) [] us place own at k s f = absurd k
+  unnamed-at (row ∷ rows) (t ∷ ts) [] place own at k s f = absurd f
+  unnamed-at (row ∷ rows) (t ∷ ts) (u ∷ us) zero own at k s f = record {
+    row = row;
+    there = refl;
+    asked_api = api_of t.watcher;
+    is_asked = refl;
+    raw = f.0.raw;
+    after = api_of u.watcher;
+    moved = f.0.moved;
+    owes = subst (λ z. IsOwedForm has_name version_of (Watched z) (exchanges_in own) (OfCall f.0.raw)) k.0.settings (f.0.owes own s);
+    unnamed = f.0.unnamed own s;
+  }
+  unnamed-at (row ∷ rows) (t ∷ ts) (u ∷ us) (suc place) own at k s f =
+      let rest = unnamed-at rows ts us place own at k.1 s f.1 in
+      record {
+        row = rest.row;
+        there = rest.there;
+        asked_api = rest.asked_api;
+        is_asked = rest.is_asked;
+        raw = rest.raw;
+        after = rest.after;
+        moved = rest.moved;
+        owes = rest.owes;
+        unnamed = rest.unnamed;
+      }
+
+-- a place that changes is there
+pub changed-there : {A : Type 0} (P : A → A → Type 0) (place : ℕ) (olds news : List A) → ChangesAt P place olds news → place < length olds
+changed-there P place [] news f = absurd f
+changed-there P place (a ∷ olds) [] f = absurd f
+changed-there P zero (a ∷ olds) (b ∷ news) f = omega arith
+changed-there P (suc place) (a ∷ olds) (b ∷ news) f = let rest = changed-there P place olds news f.1 in omega (arith, rest)
+
+module _ (s : Script) where
+  -- how the sources are asked stays as the script tells
+  pub record AreOfScript (r : Root) (t : Sources) : Type 0 where
+    pub settings : settings_in r.watcher ≡ s.root.watcher
+    pub rows : AllZip (IsOfRow (type_in s)) s.related (list_of t)
+
+  one-answered : (before : List (Dated ObjectData)) (at : ℕ) (x : Exchange ObjectData) (old new : Root) (t t' : Sources) (source : ℕ) → AreOfScript old t → IsPolledAt root_polls related_polls before at x old t new t' source
+      → IsPolledAt (root_answers s) (RelatedAnswers s) before at x (api_of old.watcher) (apis_of (list_of t)) (api_of new.watcher) (apis_of (list_of t')) source × AreOfScript new t'
+  one-answered before at x old new t t' zero k q = (
+    (
+      record { raw = q.0.call.raw; recorded = subst (λ z. IsRecorded version_of z q.0.call.raw x) k.settings q.0.call.recorded; moved = q.0.call.moved },
+      ap (λ (v : Sources). apis_of (list_of v)) q.1,
+    ),
+    record { settings = ap settings_of q.0.config ∙ k.settings; rows = subst (λ (v : Sources). AllZip (IsOfRow (type_in s)) s.related (list_of v)) (sym q.1) k.rows },
+  )
+  one-answered before at x old new t t' (suc place) k q =
+      let own = dated_of (suc place) before in
+      let here = at-place (λ p. ChangesAt (λ v u. source_polls v own at x u) p (list_of t) (list_of t') × (t'.first ≡ t.first)) (⊥ × (t'.rest ≡ t.rest)) place q.0 in
+      let made = answered-at (type_in s) s.related (list_of t) (list_of t') place own at x k.rows here.0 in (
+        (record { row = made.row; there = made.there; answered = made.answers }, ap (λ (r : Root). api_of r.watcher) q.1),
+        record { settings = ap (λ (r : Root). settings_in r.watcher) q.1 ∙ k.settings; rows = made.rows_are },
+      )
+
+  pub polled-answered : (before : List (Dated ObjectData)) (old : Root) (t : Sources) (ds : List (Dated ObjectData)) (new : Root) (t' : Sources) → AreOfScript old t → ArePolled root_polls related_polls before old t ds new t'
+      → AreAnswered s before (apis_in old t) ds (apis_in new t') × AreOfScript new t'
+  polled-answered before old t [] new t' k p = (
+    (ap (λ (r : Root). api_of r.watcher) p.0, ap (λ (v : Sources). apis_of (list_of v)) p.1),
+    subst (λ v. AreOfScript v t') (sym p.0) (subst (AreOfScript old) (sym p.1) k),
+  )
+  polled-answered before old t (d ∷ ds) new t' k p =
+      let one = one-answered before d.at d.exchange old p.0 t p.1 d.exchange.source k p.2 in
+      let rest = polled-answered (before ++ d ∷ []) p.0 p.1 ds new t' one.1 p.3 in
+      ((api_of p.0.watcher, apis_of (list_of p.1), one.0, rest.0), rest.1)

@@ -3,8 +3,8 @@ use Rattle.std.proofs.Common.{◌≡◌, ℕ, ◌+◌, ◌<◌, suc, List, [], �
 use Rattle.std.specs.Io.KnownBytes.{Appends}
 use Rattle.kube_meta.specs.Reading.{ObjectData}
 use Rattle.kube_turn.specs.declared.record.TurnRecord.{TurnRecord}
-use Rattle.kube_run.proofs.Known.{none_written, both_written}
-use Rattle.kube_run.specs.Part.{AppendsPart}
+use Rattle.kube_text.proofs.Sinks.{none_written, both_written}
+use Rattle.kube_text.specs.Part.{AppendsPart}
 use Rattle.kube_object.specs.Named.{Named}
 use Rattle.kube_text.specs.TraceText.{line_text, lines_text}
 use Rattle.kube_text.specs.TraceView.{seen_record, seen_records}

@@ -1,16 +1,17 @@
 -- How the program may end for an input.
 use Rattle.std.proofs.Common.{◌≡◌, ◌<◌, ◌==◌, arith, ℕ, List, [], ◌∷◌, Option, Some, None, Result, Ok, Err, IfSome, length, refl, sym, subst, inl, inr, Bool, true, false}
 use Rattle.std.proofs.lemmas.Bool.{lt-ltb}
-use Rattle.kube_script.specs.Script.{Related, Script}
+use Rattle.kube_script.specs.Script.{Script}
 use Rattle.kube_script.specs.Whole.{Cause, too_long, script_of}
 use Rattle.kube_text.specs.Refusals.{refusal_text}
 use Rattle.kube_text.specs.declared.refusal.Refusal.TheVariants as refusals
 use Rattle.kube_run.specs.Limit.{longest}
 use Rattle.kube_run.specs.Played.{trace_text}
-use Rattle.kube_run.specs.Served.{IsBegun, IsBadRun, IsDone, IsRunBegun, RunsAlone, RunsFor, RunsLeft, Serves, Tells, WrotePartFor, refusal_of}
+use Rattle.kube_run.specs.Served.{IsBegun, RunsFor, RunsLeft, Serves, Tells, WrotePartFor, refusal_of}
 use Rattle.kube_run.specs.declared.status.Status.{Status}
 use Rattle.kube_run.specs.declared.status.Status.TheVariants as status
-use Rattle.kube_run.proofs.Known.{none_written, of_left, of_longer}
+use Rattle.kube_run.proofs.Known.{of_left, of_longer}
+use Rattle.kube_text.proofs.Sinks.{none_written}
 use Rattle.kube_run.proofs.Played.{none-played}
 use Rattle.kube_run.proofs.Runs.{tells_so}
 
@@ -20,12 +21,8 @@ script_of_long bytes h = rw (lt-ltb longest (length bytes) h) refl
 
 -- ---- nothing was written yet
 
-begun-run : (rs : List Related) (s : Script) → (text : List ℕ) × IsRunBegun rs s text
-begun-run [] s = (trace_text s [], inl ([], none-played s, refl))
-begun-run (r ∷ rs) s = (refusal_text refusals.NotBuilt, refl)
-
 begun : (input : Result Script Cause) → (text : List ℕ) × IsBegun input text
-begun (Ok s) = begun-run s.related s
+begun (Ok s) = (trace_text s [], inl ([], none-played s, refl))
 begun (Err c) = (refusal_text (refusal_of c), refl)
 
 pub nothing-for : (input : Result Script Cause) (old : Option (List ℕ)) → WrotePartFor input old old
@@ -45,31 +42,6 @@ told-script c result old new t =
 -- the bytes were no script
 pub refused-script : (c : Cause) (input : Result Script Cause) (result : Status) (old new : Option (List ℕ)) → input ≡ Err c → Tells result status.BadScript (refusal_text (refusal_of c)) old new → RunsFor result input old new
 refused-script c input result old new e t = subst (λ w. RunsFor result w old new) (sym e) (told-script c result old new t)
-
--- a script with related sources
-with-related : (rs : List Related) (s : Script) → (rs ≡ [] → ⊥) → IsBadRun rs s (refusal_text refusals.NotBuilt) × IsRunBegun rs s (refusal_text refusals.NotBuilt)
-with-related [] s h = absurd (h refl)
-with-related (r ∷ rs) s h = (refl, refl)
-
-pub told-not-built : (s : Script) (result : Status) (old new : Option (List ℕ)) → (s.related ≡ [] → ⊥) → Tells result status.BadRun (refusal_text refusals.NotBuilt) old new → RunsFor result (Ok s) old new
-told-not-built s result old new h t =
-    let line = refusal_text refusals.NotBuilt in
-    let w = with-related s.related s h in
-    tells_so (λ st. RunsFor st (Ok s) old new) result status.BadRun line old new t (λ a. (line, w.0, a)) (λ a. (line, w.1, a)) (λ a. (line, w.1, a))
-
--- one without
-pub alone : (st : Status) (s : Script) (old new : Option (List ℕ)) → s.related ≡ [] → RunsAlone st s old new → RunsFor st (Ok s) old new
-alone status.Done s old new e r = (r.0, subst (λ rs. IsDone rs s r.0) (sym e) r.1, r.2)
-alone status.BadRun s old new e r = (r.0, subst (λ rs. IsBadRun rs s r.0) (sym e) r.1, r.2)
-alone status.WriteFault s old new e r = (r.0, subst (λ rs. IsRunBegun rs s r.0) (sym e) r.1, r.2)
-alone status.NoMemory s old new e r = (r.0, subst (λ rs. IsRunBegun rs s r.0) (sym e) r.1, r.2)
-alone status.Usage s old new e r = absurd r
-alone status.BadScript s old new e r = absurd r
-alone status.ReadFault s old new e r = absurd r
-
-pub no-items : {A : Type 0} (xs : List A) → (length xs == 0) ≡ true → xs ≡ []
-no-items [] e = refl
-no-items (x ∷ xs) e = absurd (grind arith)
 
 -- ---- the whole program
 

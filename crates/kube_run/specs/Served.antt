@@ -3,17 +3,17 @@ use Rattle.std.specs.Prelude.{◌≡◌, ◌⊎◌, ℕ, Bool, true, false, List
 use Rattle.std.specs.Str.{bytes_eq}
 use Rattle.std.specs.Io.KnownBytes.{Appends, Keeps}
 use Rattle.kube_meta.specs.declared.object_fault.ObjectFault.TheVariants as faults
-use Rattle.kube_script.specs.Script.{Related, Script}
+use Rattle.kube_script.specs.Script.{Script}
 use Rattle.kube_script.specs.Whole.{Cause, too_long, syntax_fault, faulty, script_of}
 use Rattle.kube_text.specs.Refusals.{refusal_text}
 use Rattle.kube_text.specs.declared.refusal.Refusal.{Refusal}
 use Rattle.kube_text.specs.declared.refusal.Refusal.TheVariants as refusals
-use Rattle.kube_run.specs.Part.{AppendsPart}
+use Rattle.kube_text.specs.Part.{AppendsPart}
 use Rattle.kube_run.specs.Played.{IsWhole, IsCutOff, IsFront}
 use Rattle.kube_run.specs.declared.status.Status.{Status}
 use Rattle.kube_run.specs.declared.status.Status.TheVariants as status
-use Rattle.kube_run.specs.declared.trace.Unwritten.{Unwritten}
-use Rattle.kube_run.specs.declared.trace.Unwritten.TheVariants as unwritten
+use Rattle.kube_text.specs.declared.failed.Unwritten.{Unwritten}
+use Rattle.kube_text.specs.declared.failed.Unwritten.TheVariants as unwritten
 
 -- the words are the one command
 abbrev pub is_run : List (List ℕ) → Bool
@@ -29,30 +29,16 @@ refusal_of (faulty (faults.Shape place)) = refusals.Shape place
 refusal_of (faulty (faults.Fraction place)) = refusals.Fraction place
 refusal_of (faulty faults.NoMemory) = refusals.Syntax
 
--- all turns of a script are taken, and this is written; one that has related sources isn't run
-abbrev pub IsDone : List Related → Script → List ℕ → Type 0
-IsDone [] s text = IsWhole s text
-IsDone (r ∷ rs) s text = ⊥
-
--- the run of a script ends early, and this is written
-abbrev pub IsBadRun : List Related → Script → List ℕ → Type 0
-IsBadRun [] s text = IsCutOff s text
-IsBadRun (r ∷ rs) s text = text ≡ refusal_text refusals.NotBuilt
-
 -- how the program ends where nothing fails, and the text that it writes, for what its input is as a script
 abbrev pub Ends : Status → Result Script Cause → List ℕ → Type 0
-Ends status.Done (Ok s) text = IsDone s.related s text
-Ends status.BadRun (Ok s) text = IsBadRun s.related s text
+Ends status.Done (Ok s) text = IsWhole s text
+Ends status.BadRun (Ok s) text = IsCutOff s text
 Ends status.BadScript (Err cause) text = text ≡ refusal_text (refusal_of cause)
 Ends _ _ _ = ⊥
 
 -- a text of which the program may have written a part where something failed: the lines of the trace of some first turns, or the whole text of an end that isn't Done
-abbrev pub IsRunBegun : List Related → Script → List ℕ → Type 0
-IsRunBegun [] s text = IsFront s text ⊎ IsCutOff s text
-IsRunBegun (r ∷ rs) s text = text ≡ refusal_text refusals.NotBuilt
-
 abbrev pub IsBegun : Result Script Cause → List ℕ → Type 0
-IsBegun (Ok s) text = IsRunBegun s.related s text
+IsBegun (Ok s) text = IsFront s text ⊎ IsCutOff s text
 IsBegun (Err cause) text = text ≡ refusal_text (refusal_of cause)
 
 -- the text of such an end was written
@@ -90,16 +76,6 @@ Serves status.BadRun run left old new = (run ≡ true) × RunsLeft status.BadRun
 Serves status.ReadFault run left old new = (run ≡ true) × Keeps old new
 Serves status.WriteFault run left old new = Failed status.WriteFault run left old new
 Serves status.NoMemory run left old new = Failed status.NoMemory run left old new
-
--- how a run of a script's root alone may end
-abbrev pub RunsAlone : Status → Script → Option (List ℕ) → Option (List ℕ) → Type 0
-RunsAlone status.Done s old new = (text : List ℕ) × IsWhole s text × Appends old new text
-RunsAlone status.BadRun s old new = (text : List ℕ) × IsCutOff s text × Appends old new text
-RunsAlone status.WriteFault s old new = (text : List ℕ) × (IsFront s text ⊎ IsCutOff s text) × AppendsPart old new text
-RunsAlone status.NoMemory s old new = (text : List ℕ) × (IsFront s text ⊎ IsCutOff s text) × AppendsPart old new text
-RunsAlone status.Usage s old new = ⊥
-RunsAlone status.BadScript s old new = ⊥
-RunsAlone status.ReadFault s old new = ⊥
 
 -- a line was written, and the end is the wanted one; or a write or memory failed, and a part of it was written
 abbrev pub Tells : Status → Status → List ℕ → Option (List ℕ) → Option (List ℕ) → Type 0

@@ -1,13 +1,11 @@
 //! Runs a controller by a script, and writes the trace of its turns.
 #![tactic(auto)]
 
-pub mod failed;
 pub mod input;
 pub mod laws;
-pub mod output;
+pub mod mapper;
 pub mod play;
 pub mod program;
-pub mod sink;
 pub mod source;
 pub mod status;
 pub mod stdio;

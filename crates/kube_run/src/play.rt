@@ -1,33 +1,47 @@
 //! A controller that takes the turns of a script.
 
-ghost use Rattle.std.specs.Prelude.{◌≡◌, ◌<◌, ◌^◌, [], IfOk, IfErr, length, map};
+ghost use Rattle.std.specs.Prelude.{◌≡◌, ◌<◌, ◌+◌, ◌^◌, ◌++◌, [], IfOk, IfErr, length, map};
+ghost use Rattle.std.specs.List.{AllZip};
 ghost use Rattle.kube_control.specs.Controllers.{StandsFor};
 ghost use Rattle.kube_control.specs.Errors.{records_before, IfRefused, IfUnnamed};
 ghost use Rattle.kube_object.specs.Named.{named_type};
 ghost use Rattle.kube_script.specs.Script.{Script as script_data};
 ghost use Rattle.kube_script.specs.Seen.{seen_backoff, seen_config};
-ghost use Rattle.kube_script.specs.SeenScript.{seen_script, seen_source};
-ghost use Rattle.kube_script.specs.Told.{api_at_first, fault_text};
-ghost use Rattle.kube_watch.specs.Stands.{api_of, settings_in};
+ghost use Rattle.kube_script.specs.SeenScript.{seen_related, seen_script, seen_source};
+ghost use Rattle.kube_script.specs.Told.{fault_text};
 ghost use Rattle.kube_text.specs.TraceText.{lines_of};
 ghost use Rattle.kube_text.specs.TraceView.{seen_records};
 ghost use Rattle.kube_turn.specs.Records.{records_of, turns_of};
-ghost use Rattle.kube_run.specs.Played.{all_faults, script_world, turns_in, world_with, IsPlayed, IsPlayedFront, IsRefusedNext, IsUnnamedNext};
+ghost use Rattle.kube_run.specs.Played.{all_faults, script_world, turns_in, type_in, world_with, IsPlayed, IsPlayedFront, IsRefusedNext, IsUnnamedNext};
 ghost use Rattle.kube_run.specs.Runs.{HasRun};
+ghost use Rattle.kube_run.specs.Sources.{AreAtFirst, IsFirst};
 
+use crate::mapper::ScriptMapper;
 use kube_api::TestMode;
-use kube_asks::{Backoff, NoRelated, RelatedSet, RootSource, WatchRoot};
+use kube_asks::{
+    Backoff, Beside, NoRelated, RelatedList, RelatedSet, RelatedWatch, RootSource, WatchRoot,
+};
 use kube_control::{Controller, Recorder, RunError};
 use kube_meta::{ApiResource, List, NoMemory, Resource, Text};
 use kube_object::ScriptObject;
 use kube_script::told::{action, script_turns};
-use kube_script::{BackoffRow, Script, ScriptBackoff, ScriptTurn, Source};
+use kube_script::{BackoffRow, Related, Script, ScriptBackoff, ScriptTurn, Source};
 use kube_turn::{Action, Config, Trace};
 use std::alloc::Global;
 use std::sync::Arc;
 
 /// The controller of a script: its objects are listed and watched at an API in memory.
-pub type ScriptController = Controller<WatchRoot<TestMode<ScriptObject>>, NoRelated, ScriptBackoff>;
+pub type ScriptController = Controller<
+    WatchRoot<TestMode<ScriptObject>>,
+    ScriptSources,
+    ScriptBackoff,
+>;
+
+/// A related source of a script.
+pub type ScriptRelated = RelatedWatch<TestMode<ScriptObject>, ScriptMapper>;
+
+/// The related sources of a script.
+pub type ScriptSources = Beside<NoRelated, RelatedList<ScriptRelated>>;
 
 /// The trace of a script's turns.
 pub type ScriptTrace = Trace<ScriptObject, Text>;
@@ -42,15 +56,51 @@ fn controller(
     config: Config,
     backoff: BackoffRow,
     root: Source,
+    related: Vec<Related>,
 ) -> Result<ScriptController, NoMemory>
-    ensures stands { IfOk result (λ c. StandsFor ⟦<WatchRoot<TestMode<ScriptObject>> as RootSource>⟧ ⟦<NoRelated as RelatedSet<ScriptObject>>⟧ ⟦<ScriptBackoff as Backoff>⟧ ⟦<ScriptObject as Resource>⟧ (world_with (named_type kind) (seen_config config) (seen_backoff backoff) (seen_source root)) [] c) }
-    ensures api { IfOk result (λ c. api_of c.asks.root.watcher ≡ api_at_first (seen_source root)) }
-    ensures settings { IfOk result (λ c. settings_in c.asks.root.watcher ≡ (seen_source root).watcher) }
+    ensures stands { IfOk result (λ c. StandsFor ⟦<WatchRoot<TestMode<ScriptObject>> as RootSource>⟧ ⟦<ScriptSources as RelatedSet<ScriptObject>>⟧ ⟦<ScriptBackoff as Backoff>⟧ ⟦<ScriptObject as Resource>⟧ (world_with (named_type kind) (seen_config config) (seen_backoff backoff) (seen_source root) (map seen_related related.items)) [] c) }
+    ensures first { IfOk result (λ c. AreAtFirst (named_type kind) (seen_source root) (map seen_related related.items) c.asks.root c.asks.related) }
 {
+    let sources = sources(alloc, &kind, related)?;
     let (api, watcher) = root.into_api(alloc);
     let controller = Controller::new_with(alloc, api, watcher, kind)?;
     let controller = controller.with_config(alloc, config);
-    Ok(controller.trigger_backoff(alloc, backoff.into_backoff()))
+    let controller = controller.trigger_backoff(alloc, backoff.into_backoff());
+    Ok(controller.with_related(alloc, sources))
+}
+
+/// The related source that a script tells, whose objects are mapped to those of this type.
+fn source(
+    alloc: Global,
+    kind: &Arc<ApiResource>,
+    related: Related,
+) -> Result<ScriptRelated, NoMemory>
+    ensures { IfOk result (λ t. IsFirst (named_type kind.now) (seen_related related) t) }
+{
+    let Related {
+        kind: own,
+        source,
+        mapped,
+    } = related;
+    let own = Arc::new(alloc, own)?;
+    let mapper = ScriptMapper::new(kind.clone()?, mapped);
+    let (api, watcher) = source.into_api(alloc);
+    Ok(RelatedWatch::new(alloc, api, watcher, own, mapper))
+}
+
+/// The related sources that a script tells, in order.
+fn sources(
+    alloc: Global,
+    kind: &Arc<ApiResource>,
+    related: Vec<Related>,
+) -> Result<RelatedList<ScriptRelated>, NoMemory>
+    ensures { IfOk result (λ l. AllZip (IsFirst (named_type kind.now)) (map seen_related related.items) l.items.items) }
+{
+    let mut list = RelatedList::new(alloc);
+    for one in related {
+        list.push(source(alloc, kind, one)?)?;
+    }
+    Ok(list)
 }
 
 /// The controller of a script with its turns, and what is done after a failed reconcile.
@@ -64,10 +114,10 @@ struct Parts {
 
 /// What a script tells.
 fn make_parts(alloc: Global, script: Script) -> Result<Parts, NoMemory>
-    ensures stands { IfOk result (λ p. StandsFor ⟦<WatchRoot<TestMode<ScriptObject>> as RootSource>⟧ ⟦<NoRelated as RelatedSet<ScriptObject>>⟧ ⟦<ScriptBackoff as Backoff>⟧ ⟦<ScriptObject as Resource>⟧ (script_world (seen_script script)) [] p.controller) }
-    ensures api { IfOk result (λ p. api_of p.controller.asks.root.watcher ≡ api_at_first (seen_script script).root) }
-    ensures settings { IfOk result (λ p. settings_in p.controller.asks.root.watcher ≡ (seen_script script).root.watcher) }
+    ensures stands { IfOk result (λ p. StandsFor ⟦<WatchRoot<TestMode<ScriptObject>> as RootSource>⟧ ⟦<ScriptSources as RelatedSet<ScriptObject>>⟧ ⟦<ScriptBackoff as Backoff>⟧ ⟦<ScriptObject as Resource>⟧ (script_world (seen_script script)) [] p.controller) }
+    ensures first { IfOk result (λ p. AreAtFirst (type_in (seen_script script)) (seen_script script).root (seen_script script).related p.controller.asks.root p.controller.asks.related) }
     ensures few { IfOk result (λ p. length p.turns.items < 2 ^ 32) }
+    ensures few_sources { IfOk result (λ p. length p.controller.asks.related.rest.items.items + 1 < 2 ^ 32) }
     ensures turns { IfOk result (λ p. turns_of named_type p.turns.items ≡ turns_in (seen_script script)) }
     ensures faults { IfOk result (λ p. map (λ t. map (λ f. fault_text f.outcome) t.finishes) p.turns.items ≡ all_faults (seen_script script)) }
     ensures after_fault { IfOk result (λ p. p.after_fault ≡ (seen_script script).error_requeue) }
@@ -78,16 +128,16 @@ fn make_parts(alloc: Global, script: Script) -> Result<Parts, NoMemory>
         backoff,
         error_requeue,
         root,
+        related,
         turns,
-        ..
     } = script;
     let kind = Arc::new(alloc, kind)?;
     let turns = script_turns(alloc, &kind, turns)?;
-    if turns.len() > u32::MAX as usize {
+    if turns.len() > u32::MAX as usize || related.len() >= u32::MAX as usize {
         return Err(NoMemory);
     }
     Ok(Parts {
-        controller: controller(alloc, kind, config, backoff, root)?,
+        controller: controller(alloc, kind, config, backoff, root, related)?,
         turns,
         after_fault: action(error_requeue),
         context: Arc::new(alloc, ())?,
@@ -103,8 +153,9 @@ fn run_turns(
     context: Arc<()>,
 ) -> Result<ScriptTrace, ScriptError>
     requires few { length turns.items < 2 ^ 32 }
-    ensures ran { (s : script_data) → StandsFor ⟦<WatchRoot<TestMode<ScriptObject>> as RootSource>⟧ ⟦<NoRelated as RelatedSet<ScriptObject>>⟧ ⟦<ScriptBackoff as Backoff>⟧ ⟦<ScriptObject as Resource>⟧ (script_world s) [] controller.old
-        → api_of controller.old.asks.root.watcher ≡ api_at_first s.root → settings_in controller.old.asks.root.watcher ≡ s.root.watcher
+    requires few_sources { length controller.old.asks.related.rest.items.items + 1 < 2 ^ 32 }
+    ensures ran { (s : script_data) → StandsFor ⟦<WatchRoot<TestMode<ScriptObject>> as RootSource>⟧ ⟦<ScriptSources as RelatedSet<ScriptObject>>⟧ ⟦<ScriptBackoff as Backoff>⟧ ⟦<ScriptObject as Resource>⟧ (script_world s) [] controller.old
+        → AreAtFirst (type_in s) s.root s.related controller.old.asks.root controller.old.asks.related
         → turns_of named_type turns.items ≡ turns_in s → map (λ t. map (λ f. fault_text f.outcome) t.finishes) turns.items ≡ all_faults s → after_fault ≡ s.error_requeue
         → HasRun s result }
 {
@@ -121,8 +172,9 @@ fn let_go(_controller: ScriptController) {}
 /// Takes the turns that a script tells with the controller that it tells.
 fn take_turns(alloc: Global, parts: Parts) -> Result<ScriptTrace, ScriptError>
     requires few { length parts.turns.items < 2 ^ 32 }
-    ensures ran { (s : script_data) → StandsFor ⟦<WatchRoot<TestMode<ScriptObject>> as RootSource>⟧ ⟦<NoRelated as RelatedSet<ScriptObject>>⟧ ⟦<ScriptBackoff as Backoff>⟧ ⟦<ScriptObject as Resource>⟧ (script_world s) [] parts.controller
-        → api_of parts.controller.asks.root.watcher ≡ api_at_first s.root → settings_in parts.controller.asks.root.watcher ≡ s.root.watcher
+    requires few_sources { length parts.controller.asks.related.rest.items.items + 1 < 2 ^ 32 }
+    ensures ran { (s : script_data) → StandsFor ⟦<WatchRoot<TestMode<ScriptObject>> as RootSource>⟧ ⟦<ScriptSources as RelatedSet<ScriptObject>>⟧ ⟦<ScriptBackoff as Backoff>⟧ ⟦<ScriptObject as Resource>⟧ (script_world s) [] parts.controller
+        → AreAtFirst (type_in s) s.root s.related parts.controller.asks.root parts.controller.asks.related
         → turns_of named_type parts.turns.items ≡ turns_in s → map (λ t. map (λ f. fault_text f.outcome) t.finishes) parts.turns.items ≡ all_faults s → parts.after_fault ≡ s.error_requeue
         → HasRun s result }
 {
@@ -137,12 +189,12 @@ fn take_turns(alloc: Global, parts: Parts) -> Result<ScriptTrace, ScriptError>
     ran
 }
 
-/// Makes the controller that a script without related sources tells of, and takes its turns.
+/// Makes the controller that a script tells of, and takes its turns.
 ///
 /// After a failed reconcile the object comes again after the script's `error_requeue`, or after a change where there is
 /// none.
 pub fn play(alloc: Global, script: Script) -> Result<ScriptTrace, ScriptError>
-    // The records are the trace in which the API answers by the script, and are written with the script's faults.
+    // The records are the trace in which the APIs answer by the script, and are written with the script's faults.
     ensures played { IfOk result (λ r. IsPlayed (seen_script script) (records_of named_type r.records)) }
     ensures lines { IfOk result (λ r. seen_records 0 r.records ≡ lines_of 0 (all_faults (seen_script script)) (records_of named_type r.records)) }
 

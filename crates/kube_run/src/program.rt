@@ -10,23 +10,24 @@ ghost use Rattle.kube_script.specs.Whole.{Cause, script_of};
 ghost use Rattle.kube_text.specs.Refusals.{refusal_text};
 ghost use Rattle.kube_text.specs.TraceText.{lines_text};
 ghost use Rattle.kube_text.specs.TraceView.{seen_records};
-ghost use Rattle.kube_run.specs.Causes.{Rose};
+ghost use Rattle.kube_text.specs.Causes.{Rose};
 ghost use Rattle.kube_run.specs.Limit.{longest, TakesAtMost};
-ghost use Rattle.kube_run.specs.Part.{AppendsPart};
+ghost use Rattle.kube_text.specs.Part.{AppendsPart};
 ghost use Rattle.kube_run.specs.Played.{refusal_at};
-ghost use Rattle.kube_run.specs.Served.{is_run as names_run, Serves, RunsFor, RunsAlone, Tells, status_of};
+ghost use Rattle.kube_run.specs.Served.{is_run as names_run, Serves, RunsFor, Tells, status_of};
 
 use crate::input::{Unread, read_all};
 use crate::play::play;
-use crate::sink::Sink;
 use crate::source::Source;
 use crate::status::Status;
-use crate::trace::{Unwritten, write_records, write_refusal, write_refused};
+use crate::trace::{write_records, write_refusal, write_refused};
 use kube_control::{BadTurn, RunError};
 use kube_script::load::script;
 use kube_script::{LoadError, Script};
+use kube_text::failed::Unwritten;
 use kube_text::record::ScriptRecord;
 use kube_text::refusal::Refusal;
+use kube_text::sink::Sink;
 use std::alloc::Global;
 
 /// Does what the words name: `run` reads a script, runs a controller by it, and writes a line for each turn.
@@ -121,20 +122,9 @@ fn refuse_script<W: Sink>(alloc: Global, error: LoadError, sink: &mut W) -> Stat
     }
 }
 
-/// Runs a controller by a script, and writes the records of its turns. One that has related sources is not run.
+/// Runs a controller by a script, and writes the records of its turns.
 fn run_script<W: Sink>(alloc: Global, script: Script, sink: &mut W) -> Status
     ensures runs { RunsFor result (Result.Ok (seen_script script)) (W.written sink.old) (W.written sink.new) }
-    ensures fault { result ≡ Status.WriteFault → Rose (W.faults sink.old) (W.faults sink.new) }
-{
-    if !script.related.as_slice().is_empty() {
-        return refuse(alloc, &Refusal::NotBuilt, Status::BadRun, sink);
-    }
-    run_root(alloc, script, sink)
-}
-
-/// Runs a controller by a script's root, and writes the records of its turns.
-fn run_root<W: Sink>(alloc: Global, script: Script, sink: &mut W) -> Status
-    ensures runs { RunsAlone result (seen_script script) (W.written sink.old) (W.written sink.new) }
     ensures fault { result ≡ Status.WriteFault → Rose (W.faults sink.old) (W.faults sink.new) }
 {
     match play(alloc, script) {

@@ -3,9 +3,9 @@
 ghost use Rattle.std.specs.Prelude.{◌≡◌, ◌≤◌, ◌<◌, ℕ, List, [], Option, Some, drop, length, take};
 ghost use Rattle.std.specs.Io.{ReadsAtMost};
 ghost use Rattle.std.specs.Io.KnownBytes.{ReadConsumes};
-ghost use Rattle.kube_run.specs.Causes.{HasCause};
+ghost use Rattle.kube_text.specs.Causes.{HasCause};
 
-use crate::failed::Failed;
+use kube_text::failed::Failed;
 use std::marker::Model;
 
 /// What bytes are read from, a few at a time.
@@ -37,7 +37,7 @@ pub struct VecSource {
 
 impl Model for VecSource {
     ghost use Rattle.std.specs.Prelude.{drop, length, ◌≤◌};
-    ghost use Rattle.kube_run.specs.Held.{Held};
+    ghost use Rattle.kube_text.specs.Held.{Held};
 
     ghost Value = { Held };
 

@@ -3,9 +3,9 @@
 ghost use Rattle.std.specs.Prelude.{◌≡◌, ◌<◌, IfOk, None, length};
 ghost use Rattle.std.specs.Io.{ReadsAtMost, WritesAtMost};
 
-use crate::failed::Failed;
-use crate::sink::Sink;
 use crate::source::Source;
+use kube_text::failed::Failed;
+use kube_text::sink::Sink;
 use std::io::{ErrorKind, Read, Stdin, Stdout, Write};
 
 #[cfg(test)]

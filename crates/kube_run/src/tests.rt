@@ -4,10 +4,10 @@ mod objects;
 mod texts;
 
 use crate::input::{Unread, read_all};
-use crate::output::write_all;
 use crate::program::run_program;
-use crate::sink::{NeverFailsSink, VecSink};
 use crate::source::{NeverFailsSource, VecSource};
+use kube_text::output::write_all;
+use kube_text::sink::{NeverFailsSink, VecSink};
 use std::alloc::{AllocError, Global};
 use std::process::Abort;
 use std::test::Fail;
@@ -176,9 +176,21 @@ const ROWS: &str = r#"= 0 run
 {"asks":[{"answer":"page","call":"list","from":null,"items":[{"metadata":{"name":"a","resourceVersion":"1"}}],"requests":["ConfigMap.v1./a"],"source":0,"token":null,"version":"1"},{"answer":"opened","call":"watch","from":"1","initial":false,"items":[],"requests":[],"source":0},{"answer":"error","call":"next","code":410,"error":"WatchError","items":[],"requests":[],"source":0}],"at":0,"ended":false,"finished":[],"stops":["budget"],"store":[{"metadata":{"name":"a","resourceVersion":"1"}}],"taken":[{"found":true,"object":{"metadata":{"name":"a","resourceVersion":"1"}},"reason":"object updated","ref":"ConfigMap.v1./a"}],"turn":0}
 {"asks":[{"answer":"page","call":"list","from":null,"items":[{"metadata":{"name":"b","resourceVersion":"7"}}],"requests":["ConfigMap.v1./b"],"source":0,"token":null,"version":"1"},{"answer":"opened","call":"watch","from":"1","initial":false,"items":[],"requests":[],"source":0}],"at":1000000000,"ended":false,"finished":[],"stops":["budget"],"store":[{"metadata":{"name":"b","resourceVersion":"7"}}],"taken":[{"found":true,"object":{"metadata":{"name":"b","resourceVersion":"7"}},"reason":"object updated","ref":"ConfigMap.v1./b"}],"turn":1}
 {"asks":[],"at":1000000001,"ended":false,"finished":[{"error":null,"ref":"ConfigMap.v1./a","requeue":null}],"stops":["budget"],"taken":[{"found":false,"reason":"unknown","ref":"ConfigMap.v1./a"}],"turn":2}
+= 0 run
+{"kind":{"group":"","version":"v1","kind":"Node","plural":"nodes"},"related":[{"kind":{"group":"","version":"v1","kind":"Pod","plural":"pods"},"map":"owners","lists":[{"items":[{"metadata":{"name":"p","namespace":"ns","ownerReferences":[{"apiVersion":"v1","kind":"Node","name":"n","uid":"u"}]}}],"metadata":{"resourceVersion":"1"}}],"watches":[[{"wait":1000000000000}]]}],"root":{"lists":[{"items":[{"metadata":{"name":"n","resourceVersion":"1"}}],"metadata":{"resourceVersion":"1"}}],"watches":[[{"wait":1000000000000}]]},"turns":[{"at":0,"budget":[1,1]},{"at":1,"budget":[0,0],"finishes":[{"ref":{"name":"n"}},{"ref":{"name":"n","namespace":"ns"}}]}]}
+{"asks":[{"answer":"page","call":"list","from":null,"items":[{"metadata":{"name":"n","resourceVersion":"1"}}],"requests":["Node.v1./n"],"source":0,"token":null,"version":"1"},{"answer":"page","call":"list","from":null,"items":[],"requests":["Node.v1./n.ns"],"source":1,"token":null,"version":"1"}],"at":0,"ended":false,"finished":[],"stops":["budget","budget"],"taken":[{"found":true,"object":{"metadata":{"name":"n","resourceVersion":"1"}},"reason":"object updated","ref":"Node.v1./n"},{"found":true,"object":{"metadata":{"name":"n","resourceVersion":"1"}},"reason":"related object updated: Pod.v1./p.ns","ref":"Node.v1./n.ns"}],"turn":0}
+{"asks":[],"at":1,"ended":false,"finished":[{"error":null,"ref":"Node.v1./n","requeue":null},{"error":null,"ref":"Node.v1./n.ns","requeue":null}],"stops":["budget","budget"],"taken":[],"turn":1}
+= 0 run
+{"kind":{"group":"","version":"v1","kind":"ConfigMap","plural":"configmaps"},"related":[{"kind":{"group":"","version":"v1","kind":"Pod","plural":"pods"},"map":{"label":"app"},"lists":[{"items":[{"metadata":{"name":"p","labels":{"app":"a"}}}],"metadata":{"resourceVersion":"1"}}],"watches":[[{"wait":1000000000000}]]}],"root":{"lists":[{"items":[{"metadata":{"name":"a","resourceVersion":"1"}}],"metadata":{"resourceVersion":"1"}}],"watches":[[{"wait":1000000000000}]]},"turns":[{"at":0,"budget":[1,1]}]}
+{"asks":[{"answer":"page","call":"list","from":null,"items":[{"metadata":{"name":"a","resourceVersion":"1"}}],"requests":["ConfigMap.v1./a"],"source":0,"token":null,"version":"1"},{"answer":"page","call":"list","from":null,"items":[],"requests":["ConfigMap.v1./a"],"source":1,"token":null,"version":"1"}],"at":0,"ended":false,"finished":[],"stops":["budget","budget"],"taken":[{"found":true,"object":{"metadata":{"name":"a","resourceVersion":"1"}},"reason":"related object updated: Pod.v1./p","ref":"ConfigMap.v1./a"}],"turn":0}
 = 4 run
-{"kind":{"group":"","version":"v1","kind":"ConfigMap","plural":"configmaps"},"root":{},"related":[{"kind":{"group":"","version":"v1","kind":"Pod","plural":"pods"},"map":"owners"}],"turns":[{"at":0}]}
-{"error":"not built"}
+{"kind":{"group":"","version":"v1","kind":"Node","plural":"nodes"},"related":[{"kind":{"group":"","version":"v1","kind":"Pod","plural":"pods"},"map":"owners","lists":[{"items":[{"metadata":{"name":"p"}},{"metadata":{"namespace":"ns"}}],"metadata":{"resourceVersion":"1"}}]}],"root":{"lists":[{"items":[{"metadata":{"name":"n","resourceVersion":"1"}}],"metadata":{"resourceVersion":"1"}}],"watches":[[{"wait":1000000000000}]]},"turns":[{"at":0,"budget":[1]},{"at":1,"budget":[0,1]},{"at":2}]}
+{"asks":[{"answer":"page","call":"list","from":null,"items":[{"metadata":{"name":"n","resourceVersion":"1"}}],"requests":["Node.v1./n"],"source":0,"token":null,"version":"1"}],"at":0,"ended":false,"finished":[],"stops":["budget","budget"],"taken":[{"found":true,"object":{"metadata":{"name":"n","resourceVersion":"1"}},"reason":"object updated","ref":"Node.v1./n"}],"turn":0}
+{"error":"unnamed","source":1,"turn":1}
+= 0 run
+{"kind":{"group":"","version":"v1","kind":"ConfigMap","plural":"configmaps"},"root":{"lists":[{"items":[{"metadata":{"name":"b"}},{"metadata":{"name":"a","namespace":"n"}},{"metadata":{"name":"a"}}],"metadata":{"resourceVersion":"1"}}],"watches":[[{"wait":1000000000000}]]},"turns":[{"at":0,"budget":[1]},{"at":1,"budget":[0],"finishes":[{"ref":{"name":"b"}},{"ref":{"name":"a","namespace":"n"}},{"ref":{"name":"a"}}],"reload":true}]}
+{"asks":[{"answer":"page","call":"list","from":null,"items":[{"metadata":{"name":"b"}},{"metadata":{"name":"a","namespace":"n"}},{"metadata":{"name":"a"}}],"requests":["ConfigMap.v1./b","ConfigMap.v1./a.n","ConfigMap.v1./a"],"source":0,"token":null,"version":"1"}],"at":0,"ended":false,"finished":[],"stops":["budget"],"taken":[{"found":true,"object":{"metadata":{"name":"b"}},"reason":"object updated","ref":"ConfigMap.v1./b"},{"found":true,"object":{"metadata":{"name":"a","namespace":"n"}},"reason":"object updated","ref":"ConfigMap.v1./a.n"},{"found":true,"object":{"metadata":{"name":"a"}},"reason":"object updated","ref":"ConfigMap.v1./a"}],"turn":0}
+{"asks":[],"at":1,"ended":false,"finished":[{"error":null,"ref":"ConfigMap.v1./b","requeue":null},{"error":null,"ref":"ConfigMap.v1./a.n","requeue":null},{"error":null,"ref":"ConfigMap.v1./a","requeue":null}],"stops":["budget"],"taken":[{"found":true,"object":{"metadata":{"name":"a"}},"reason":"bulk reconcile requested","ref":"ConfigMap.v1./a"},{"found":true,"object":{"metadata":{"name":"b"}},"reason":"bulk reconcile requested","ref":"ConfigMap.v1./b"},{"found":true,"object":{"metadata":{"name":"a","namespace":"n"}},"reason":"bulk reconcile requested","ref":"ConfigMap.v1./a.n"}],"turn":1}
 = 3 run
 {"kind":{"group":"","version":"v1","kind":"ConfigMap","plural":"configmaps"},"root":{},"related":[{"kind":{"group":"","version":"v1","kind":"Pod","plural":"pods"}}],"turns":[{"at":0}]}
 {"error":"script","fault":"shape","place":"/related/0/map"}
@@ -269,7 +281,7 @@ fn writes_what_the_rows_say(rt: HostRuntime) -> Result<(), Fail> {
         runs_as_said(&rt, row)?;
         count = count.saturating_add(1);
     }
-    assert_eq!(rt; count, 44);
+    assert_eq!(rt; count, 47);
     Ok(())
 }
 

@@ -2,26 +2,18 @@
 
 ghost use Rattle.std.specs.Prelude.{◌≡◌, ◌≤◌, ◌++◌, OnOk, OnErr, IsErrOf};
 ghost use Rattle.std.specs.Io.KnownBytes.{Appends};
-ghost use Rattle.kube_run.specs.Causes.{Rose};
-ghost use Rattle.kube_run.specs.Part.{AppendsPart};
+ghost use Rattle.kube_text.specs.Causes.{Rose};
+ghost use Rattle.kube_text.specs.Part.{AppendsPart};
 ghost use Rattle.kube_text.specs.Refusals.{refusal_text};
-ghost use Rattle.kube_text.specs.TraceText.{line_text, lines_text};
-ghost use Rattle.kube_text.specs.TraceView.{seen_record, seen_records};
+ghost use Rattle.kube_text.specs.TraceText.{lines_text};
+ghost use Rattle.kube_text.specs.TraceView.{seen_records};
 
-use crate::output::write_all;
-use crate::sink::Sink;
-use kube_text::record::{ScriptRecord, record_line};
+use kube_text::failed::Unwritten;
+use kube_text::output::write_all;
+use kube_text::record::{ScriptRecord, write_record};
 use kube_text::refusal::{Refusal, refusal_line};
+use kube_text::sink::Sink;
 use std::alloc::Global;
-
-/// Why a line was not written whole.
-#[derive(Clone, Copy, Debug, PartialEq, Eq)]
-pub enum Unwritten {
-    /// A write failed.
-    Fault,
-    /// Memory could not be had.
-    NoMemory,
-}
 
 /// Writes the records of turns, each as a line. Where that fails the first bytes of their text were written, or none.
 pub fn write_records<W: Sink>(
@@ -55,27 +47,6 @@ pub fn write_refused<W: Sink>(
     write_records(alloc, records, sink)?;
     write_refusal(alloc, refusal, sink)?;
     Ok(())
-}
-
-/// Writes the record of the turn of this number as a line.
-fn write_record<W: Sink>(
-    alloc: Global,
-    turn: u64,
-    record: &ScriptRecord,
-    sink: &mut W,
-) -> Result<(), Unwritten>
-    ensures all { OnOk result (Appends (W.written sink.old) (W.written sink.new) (line_text (seen_record turn «record».now))) }
-    ensures part { OnErr result (AppendsPart (W.written sink.old) (W.written sink.new) (line_text (seen_record turn «record».now))) }
-    ensures fault { IsErrOf result Unwritten.Fault → Rose (W.faults sink.old) (W.faults sink.new) }
-    ensures later { W.faults sink.old ≤ W.faults sink.new }
-{
-    let Ok(line) = record_line(alloc, turn, record) else {
-        return Err(Unwritten::NoMemory);
-    };
-    match write_all(sink, &line) {
-        Ok(()) => Ok(()),
-        Err(_) => Err(Unwritten::Fault),
-    }
 }
 
 /// Writes the line of a refusal. Where that fails the first of its bytes were written, or none.

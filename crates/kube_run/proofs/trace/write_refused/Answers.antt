@@ -1,9 +1,9 @@
 use Rattle.std.proofs.Common.{◌++◌, sym, ap, ◌∙◌, append_assoc}
 use Rattle.kube_text.specs.Refusals.{refusal_text}
-use Rattle.kube_run.specs.Part.{AppendsPart}
+use Rattle.kube_text.specs.Part.{AppendsPart}
 use Rattle.kube_text.specs.TraceText.{lines_text}
 use Rattle.kube_text.specs.TraceView.{seen_records}
-use Rattle.kube_run.proofs.Known.{both_written, on_err}
+use Rattle.kube_text.proofs.Sinks.{both_written, on_err}
 use Rattle.kube_run.proofs.trace.write_refused.Goals as goal
 
 pub returns-in_err-write_records-clause-part : goal.returns-in_err-write_records-clause-part
