@@ -1,15 +1,13 @@
 -- What a patch makes of a JSON document: operations at JSON Pointers, all or none (RFC 6902 with its own test for null, RFC 6901).
-use Rattle.std.specs.Prelude.{◌≡◌, ℕ, suc, zero, ◌==◌, ◌&&◌, List, [], ◌∷◌, map, Bool, true, false, not, Option, Some, None, Result, Ok, Err, option_map, option_and_then, ok_or, unwrap_or, codes, if◌then◌else◌}
+use Rattle.std.specs.Prelude.{◌≡◌, ℕ, suc, zero, ◌==◌, ◌&&◌, List, [], ◌∷◌, map, Bool, true, false, not, Option, Some, None, Result, Ok, Err, option_map, option_and_then, ok_or, codes, if◌then◌else◌}
 use Rattle.std.specs.Option.{option_eq}
 use Rattle.std.specs.Str.{bytes_eq}
 use Rattle.serde_json.specs.Data.{Data, null, boolean, number, string, array, object, Items, no_items, item, Members, no_members, member, put}
 use Rattle.serde_json.specs.Events.{items_len}
-use Rattle.serde_json.specs.Find.{get_member, get_item, index_of, unescape}
+use Rattle.serde_json.specs.Find.{get, get_member, get_item, index_of, unescape, as_str}
 use Rattle.serde_json.specs.View.{view}
 use Rattle.serde_json.specs.Written.{has_float, compact_text}
 use Rattle.kube_meta.specs.Reading.{ObjectData, object_data_at}
-use Rattle.kube_meta.specs.Resources.{no_metadata}
-use Rattle.kube_meta.specs.declared.metadata.ObjectMeta.{ObjectMeta}
 use Rattle.kube_meta.specs.declared.object_fault.ObjectFault.{ObjectFault}
 use Rattle.kube_api.specs.declared.patch.Patch.{Patch}
 use Rattle.kube_api.specs.declared.patch.Patch.TheVariants.{Test, Add, Remove}
@@ -187,21 +185,28 @@ Performs (Err e) left wanted = Fails e wanted
 
 -- ---- the object stays that object
 
--- the metadata of a document; none where it is no object
-abbrev pub metadata_in : Result ObjectData ObjectFault → Option ObjectMeta
-metadata_in (Ok o) = Some o.metadata
-metadata_in (Err e) = None
+-- the text that the metadata hold under a name; none where no text stands there
+abbrev pub text_of : List ℕ → Data → Option (List ℕ)
+text_of name d = option_and_then as_str (option_and_then (get name) (get (codes "metadata") d))
 
-abbrev pub metadata_of : Data → Option ObjectMeta
-metadata_of d = metadata_in (object_data_at d)
+abbrev pub has_same : List ℕ → Data → Data → Bool
+has_same name d e = option_eq bytes_eq (text_of name d) (text_of name e)
 
-abbrev pub is_same_object : ObjectMeta → ObjectMeta → Bool
-is_same_object a b = option_eq bytes_eq a.name b.name && option_eq bytes_eq a.namespace b.namespace && option_eq bytes_eq a.uid b.uid
+-- the same name, namespace and uid
+abbrev pub is_same_object : Data → Data → Bool
+is_same_object d e = has_same (codes "name") d e && has_same (codes "namespace") d e && has_same (codes "uid") d e
 
--- it is an object after, and has the name, namespace and uid that it had before; what was no object had none of them
-abbrev pub stays : Option ObjectMeta → Option ObjectMeta → Bool
-stays before None = false
-stays before (Some after) = is_same_object (unwrap_or before no_metadata) after
+abbrev pub is_read : Result ObjectData ObjectFault → Bool
+is_read (Ok o) = true
+is_read (Err e) = false
+
+-- an object can be read of it
+abbrev pub is_object : Data → Bool
+is_object d = is_read (object_data_at d)
+
+-- it is an object after, and has the name, namespace and uid that it had before
+abbrev pub stays : Data → Data → Bool
+stays before after = is_object after && is_same_object before after
 
 abbrev pub unless_changed : Bool → Data → Result Data PatchRefusal
 unless_changed true d = Ok d
@@ -209,4 +214,4 @@ unless_changed false d = Err NotAnObject
 
 -- the document after a patch, or why it is refused
 abbrev pub patched : List Operation → Data → Result Data PatchRefusal
-patched os d = then_by (performed_from 0 os d) (λ e. unless_changed (stays (metadata_of d) (metadata_of e)) e)
+patched os d = then_by (performed_from 0 os d) (λ e. unless_changed (stays d e) e)

@@ -1,15 +1,15 @@
 //! Patches of objects as JSON (RFC 6902).
 
-ghost use Rattle.std.specs.Prelude.{◌≡◌, ◌<◌, ◌^◌, length, map, ok_or, Ok, Err, IfOk, IfErr, OnOk, OnErr};
+ghost use Rattle.std.specs.Prelude.{◌≡◌, ◌<◌, ◌^◌, length, map, option_map, ok_or, Ok, Err, IfOk, IfErr, OnOk, OnErr};
 ghost use Rattle.serde_json.specs.View.{view, items_view, members_view};
 ghost use Rattle.serde_json.specs.Written.{has_float, items_have_float, members_have_float};
 ghost use Rattle.kube_api.specs.Changes.{change_of};
-ghost use Rattle.kube_api.specs.Patches.{operation_of, patched, performed, performed_from, Performs, changed_at, found_at, passes as passes_data, is_equal as is_equal_data, stays, metadata_of, is_same_object};
+ghost use Rattle.kube_api.specs.Patches.{operation_of, patched, performed, performed_from, Performs, changed_at, found_at, passes as passes_data, is_equal as is_equal_data, stays, is_object, has_same, text_of};
 ghost use Rattle.kube_api.specs.declared.patch.PatchRefusal.TheVariants.{NoMemory as out_of_memory, PathMissing};
 
 use crate::change::{Change, changed};
 use crate::pointer::{find, parts};
-use kube_meta::{NoMemory, ObjectFault, ObjectMeta, Text, read_object};
+use kube_meta::{NoMemory, ObjectFault, Text, read_object};
 use serde_json::{Map, Value};
 use std::alloc::{AllocError, Global};
 use std::mem;
@@ -182,39 +182,46 @@ fn member_holds_fraction(members: &Map<String, Value>) -> bool
     false
 }
 
-/// Whether a document is still the object that it was.
+/// Whether a document is an object with the name, the namespace and the uid of the one before.
 ///
 /// Errors: `NoMemory`.
 fn stays_itself(alloc: Global, before: &Value, after: &Value) -> Result<bool, NoMemory>
-    ensures { IfOk result (λ same. same ≡ stays (metadata_of (view before.now)) (metadata_of (view after.now))) }
+    ensures { IfOk result (λ same. same ≡ stays (view before.now) (view after.now)) }
 {
-    let Some(after) = metadata(alloc, after)? else {
+    if !is_object(alloc, after)? {
         return Ok(false);
-    };
-    let before = match metadata(alloc, before)? {
-        Some(before) => before,
-        None => ObjectMeta::empty(),
-    };
-    Ok(is_same(&before, &after))
+    }
+    Ok(
+        has_same(before, after, "name")
+            && has_same(before, after, "namespace")
+            && has_same(before, after, "uid"),
+    )
 }
 
-fn is_same(before: &ObjectMeta, after: &ObjectMeta) -> bool
-    ensures { result ≡ is_same_object before.now after.now }
-{
-    before.name == after.name && before.namespace == after.namespace && before.uid == after.uid
-}
-
-/// The metadata of a document; none where it is no object.
+/// Whether an object can be read of a document.
 ///
 /// Errors: `NoMemory`.
-fn metadata(alloc: Global, document: &Value) -> Result<Option<ObjectMeta>, NoMemory>
-    ensures { IfOk result (λ m. m ≡ metadata_of (view document.now)) }
+fn is_object(alloc: Global, document: &Value) -> Result<bool, NoMemory>
+    ensures { IfOk result (λ read. read ≡ is_object (view document.now)) }
 {
     match read_object(alloc, document.clone()?) {
-        Ok(object) => Ok(Some(object.metadata)),
+        Ok(_) => Ok(true),
         Err(ObjectFault::NoMemory) => Err(NoMemory),
-        Err(_) => Ok(None),
+        Err(_) => Ok(false),
     }
+}
+
+fn has_same(before: &Value, after: &Value, name: &str) -> bool
+    ensures { result ≡ has_same name.now (view before.now) (view after.now) }
+{
+    text_of(before, name) == text_of(after, name)
+}
+
+/// The text that the metadata of a document hold under a name.
+fn text_of<'a>(document: &'a Value, name: &str) -> Option<&'a str>
+    ensures { option_map (λ t. t.now) result ≡ text_of name.now (view document.now) }
+{
+    document.get("metadata")?.get(name)?.as_str()
 }
 
 impl From<NoMemory> for PatchRefusal {

@@ -178,7 +178,7 @@ const TESTS: [Row; 14] = [
 ];
 
 /// Documents that would be no object, or another one.
-const IDENTITIES: [Row; 6] = [
+const IDENTITIES: [Row; 10] = [
     ("{}", r#"[["add","/x",1.5]]"#, "NotAnObject"),
     (
         r#"{"metadata":{"name":"a"}}"#,
@@ -204,6 +204,26 @@ const IDENTITIES: [Row; 6] = [
         "null",
         r#"[["add","",{"metadata":{"name":"a"}}]]"#,
         "NotAnObject",
+    ),
+    (
+        r#"{"metadata":{"name":"a"},"x":1.5}"#,
+        r#"[["remove","/x"]]"#,
+        r#"{"metadata":{"name":"a"}}"#,
+    ),
+    (
+        r#"{"metadata":{"name":"a"},"x":1.5}"#,
+        r#"[["remove","/x"],["remove","/metadata/name"]]"#,
+        "NotAnObject",
+    ),
+    (
+        r#"{"metadata":{"name":"a","labels":5}}"#,
+        r#"[["remove","/metadata/labels"]]"#,
+        r#"{"metadata":{"name":"a"}}"#,
+    ),
+    (
+        r#"{"metadata":{"name":null}}"#,
+        r#"[["remove","/metadata/name"]]"#,
+        r#"{"metadata":{}}"#,
     ),
 ];
 
