@@ -1,10 +1,10 @@
 -- On the lags of subscribers behind the references of a ring.
-use Rattle.std.proofs.Common.{◌≡◌, ℕ, zero, suc, ◌+◌, ◌-◌, ◌<◌, ◌≤◌, Bool, true, false, ◌&&◌, ◌||◌, nat_le, if◌then◌else◌, List, [], ◌∷◌, ◌++◌, length, get_or, set, take, drop, map, Option, Some, None, refl, sym, ◌∙◌, ap, ap₂, subst, arith, append_assoc, one-add}
+use Rattle.std.proofs.Common.{◌≡◌, ℕ, zero, suc, ◌+◌, ◌-◌, ◌<◌, ◌≤◌, Bool, true, false, ◌&&◌, ◌||◌, nat_le, if◌then◌else◌, List, [], ◌∷◌, ◌++◌, length, get_or, set, drop, map, Option, Some, None, refl, sym, ◌∙◌, ap, ap₂, subst, arith, one-add}
 use Rattle.std.specs.Prelude.{slice_get, is_some, IfSome}
 use Rattle.std.specs.List.{list_all, list_any, prefix_len}
 use Rattle.std.specs.Option.{option_flatten}
 use Rattle.std.proofs.lemmas.Bool.{leb-true, leb-false, le-leb}
-use Rattle.std.proofs.lemmas.List.{drop_more, drop-drop, drop-append-le, length-map, length-drop, length_push, map-append, map-set, take_more_set, drop-set-lt}
+use Rattle.std.proofs.lemmas.List.{drop_more, drop-drop, drop-append-le, length-map, length-drop, length_push, map-append, map-set}
 use Rattle.kube_meta.specs.Reference.{Reference}
 use Rattle.kube_reflect.specs.Reads.{object_at}
 use Rattle.kube_reflect.specs.Subscribers.{Ring, first_stored, also, lags_by, free_number, placed, subscribed, with_waiting, waiting_for}
@@ -123,6 +123,15 @@ module _ (room : ℕ) (rs : List Reference) (over : Bool) where
   pub free-seen : (lags : List (Option ℕ)) (ring : Ring) → seen_ring room rs lags over ≡ ring → free_number lags ≡ free_number ring.waiting
   free-seen lags ring v = sym (free-lagging rs lags) ∙ ap (λ (r : Ring). free_number r.waiting) v
 
+  -- something waits only for one that is there
+  there-lagging : (lag : Option ℕ) → is_some (lagging rs lag) ≡ is_some lag
+  there-lagging None = refl
+  there-lagging (Some k) = refl
+
+  pub there-seen : (lags : List (Option ℕ)) (n : ℕ) (ring : Ring) → seen_ring room rs lags over ≡ ring → is_some (waiting_for ring n) ≡ true
+      → is_some (option_flatten (slice_get lags n)) ≡ true
+  there-seen lags n ring v h = sym (there-lagging (option_flatten (slice_get lags n))) ∙ (ap is_some (sym (waiting_of lags n (option_flatten (slice_get lags n)) ring refl v)) ∙ h)
+
   -- one that has left waits for nothing
   pub not_waiting : (lags : List (Option ℕ)) (n : ℕ) (ring : Ring) → None ≡ option_flatten (slice_get lags n) → seen_ring room rs lags over ≡ ring
       → is_some (waiting_for ring n) ≡ true → ⊥
@@ -222,31 +231,3 @@ pub read-map : {A B : Type 0} (f : A → B) (xs : List A) (i : ℕ) (x : A) → 
 read-map f [] i x e = refl
 read-map f (y ∷ xs) zero x e = ap f e
 read-map f (y ∷ xs) (suc i) x e = read-map f xs i x e
-
--- raising lags one by one
-module _ (lags lags' : List (Option ℕ)) (i : ℕ) (x : Option ℕ) where
-  pub raised-more : (all : List (Option ℕ)) → i < length lags → x ≡ get_or lags i x → lags' ≡ set lags i (one_more x)
-      → map one_more all ≡ take i lags ++ map one_more (drop i lags) → map one_more all ≡ take (i + 1) lags' ++ map one_more (drop (i + 1) lags')
-  raised-more all h e k p =
-      p
-      ∙ (ap (λ ys. take i lags ++ map one_more ys) (drop_more lags i x h ∙ ap (λ y. y ∷ drop (i + 1) lags) (sym e))
-      ∙ (sym (append_assoc (take i lags) (one_more x ∷ []) (map one_more (drop (i + 1) lags)))
-      ∙ (ap₂ (λ a b. a ++ map one_more b) (sym (take_more_set lags i (one_more x) h)) (sym (drop-set-lt (i + 1) lags i (one_more x) (omega arith)))
-      ∙ ap (λ ls. take (i + 1) ls ++ map one_more (drop (i + 1) ls)) (sym k))))
-
-  pub low-more : (room : ℕ) → i < length lags → x ≡ get_or lags i x → lags' ≡ set lags i (one_more x)
-      → list_any (reaches room) (drop i lags) ≡ false → list_any (reaches room) (drop (i + 1) lags') ≡ false
-  low-more room h e k p =
-      ap (λ ls. list_any (reaches room) (drop (i + 1) ls)) k
-      ∙ (ap (list_any (reaches room)) (drop-set-lt (i + 1) lags i (one_more x) (omega arith))
-      ∙ or_second (reaches room x) (list_any (reaches room) (drop (i + 1) lags))
-      (sym (ap (list_any (reaches room)) (drop_more lags i x h ∙ ap (λ y. y ∷ drop (i + 1) lags) (sym e))) ∙ p))
-
--- a lag that does not reach is below
-pub low-here : (room : ℕ) (lags : List (Option ℕ)) (i count : ℕ) (x : Option ℕ) → i < length lags → x ≡ get_or lags i x → x ≡ Some count
-    → list_any (reaches room) (drop i lags) ≡ false → count < room
-low-here room lags i count x h e s p =
-    leb-false room count
-    (sym (ap (reaches room) s)
-    ∙ or_first (reaches room x) (list_any (reaches room) (drop (i + 1) lags))
-    (sym (ap (list_any (reaches room)) (drop_more lags i x h ∙ ap (λ y. y ∷ drop (i + 1) lags) (sym e))) ∙ p))

@@ -2,6 +2,7 @@
 pub mod Reading
 pub mod Putting
 pub mod Lagging
+pub mod Living
 pub mod Staying
 pub mod Relisting
 pub mod Seeing

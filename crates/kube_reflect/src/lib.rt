@@ -9,6 +9,7 @@ pub mod dispatcher;
 mod held;
 mod history;
 mod keeper;
+mod lags;
 pub mod laws;
 pub mod laws_of_exchanges;
 mod made;

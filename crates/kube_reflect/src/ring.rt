@@ -9,6 +9,7 @@ ghost use Rattle.kube_reflect.specs.Subscribers.{is_full, offered, free_number, 
 ghost use Rattle.kube_reflect.specs.Lags.{reaches, one_more, pushed};
 
 use crate::cache::Cache;
+use crate::lags::Lags;
 use kube_meta::{Next, NoMemory, ObjectRef, Resource};
 use std::alloc::Global;
 use std::collections::VecDeque;
@@ -43,7 +44,7 @@ impl From<NoMemory> for OfferError {
 pub struct Ring<K: Resource> {
     room: u32,
     references: VecDeque<ObjectRef<K>>,
-    lags: Vec<Option<usize>>,
+    lags: Lags,
     is_closed: bool,
 }
 
@@ -56,79 +57,9 @@ impl<K: Resource> Model for Ring<K> {
 
     ghost Value = { Ring };
 
-    ghost view = { λ r. record { room = r.room; waiting = map (lagging (map (reference_of K.type_of) r.references.items)) r.lags.items; is_closed = r.is_closed } };
+    ghost view = { λ r. record { room = r.room; waiting = map (lagging (map (reference_of K.type_of) r.references.items)) r.lags; is_closed = r.is_closed } };
 
-    ghost invariant = { λ r. list_all (is_within (length r.references.items)) r.lags.items ≡ true };
-}
-
-/// Whether one of these lags by so many.
-fn any_reaches(lags: &[Option<usize>], room: u32) -> bool
-    ensures { result ≡ list_any (reaches room) lags.now }
-{
-    lags.iter().any(|lag| match lag {
-        Some(lag) => room as usize <= *lag,
-        None => false,
-    })
-}
-
-/// The first number that is nobody's.
-fn free_number(lags: &[Option<usize>]) -> usize
-    ensures { result ≡ free_number lags.now }
-{
-    lags.iter().take_while(|lag| lag.is_some()).count()
-}
-
-/// Gives a subscriber that number.
-fn place(lags: &mut Vec<Option<usize>>, lag: usize) -> Result<usize, NoMemory>
-    ensures ok { OnOk result (lags.new.items ≡ placed lags.old.items lag) }
-    ensures number { IfOk result (λ number. number ≡ free_number lags.old.items) }
-    ensures err { OnErr result (lags.new.items ≡ lags.old.items) }
-{
-    let number = free_number(lags);
-    if number < lags.len() {
-        set_lag(lags, number, Some(lag));
-        return Ok(number);
-    }
-    lags.push(Some(lag))?;
-    Ok(number)
-}
-
-/// Whether one of these is there.
-fn any_there(lags: &[Option<usize>]) -> bool
-    ensures { result ≡ list_any is_some lags.now }
-{
-    lags.iter().any(|lag| lag.is_some())
-}
-
-/// Each that is there is one more.
-fn raise(lags: &mut [Option<usize>], room: u32)
-    requires { list_any (reaches room) lags.old ≡ false }
-    ensures { lags.new ≡ map one_more lags.old }
-{
-    for i in 0..lags.len() {
-        if let Some(count) = lags[i] {
-            lags[i] = Some(count.saturating_add(1));
-        }
-    }
-}
-
-/// How much a subscriber lags.
-fn lag_of(lags: &[Option<usize>], number: usize) -> Option<usize>
-    ensures lag { result ≡ option_flatten (slice_get lags.now number) }
-    ensures place { IfSome result (λ _. number < length lags.now) }
-{
-    match lags.get(number) {
-        Some(lag) => *lag,
-        None => None,
-    }
-}
-
-/// Writes how much a subscriber lags.
-fn set_lag(lags: &mut Vec<Option<usize>>, number: usize, lag: Option<usize>)
-    requires { number < vec_len lags.old }
-    ensures { lags.new.items ≡ slice_set lags.old.items number lag }
-{
-    lags[number] = lag;
+    ghost invariant = { λ r. list_all (is_within (length r.references.items)) r.lags ≡ true };
 }
 
 /// Adds a reference. The first one goes where there are as many as there is room for.
@@ -185,7 +116,7 @@ impl<K: Resource> Ring<K> {
         Ring {
             room,
             references: VecDeque::new(alloc),
-            lags: Vec::new(alloc),
+            lags: Lags::new(alloc),
             is_closed: false,
         }
     }
@@ -194,14 +125,14 @@ impl<K: Resource> Ring<K> {
     pub fn is_full(&self) -> bool
         ensures { result ≡ is_full self.now }
     {
-        any_reaches(&self.lags, self.room)
+        self.lags.any_reaches(self.room)
     }
 
     /// Whether there is a live subscriber.
     pub fn has_subscribers(&self) -> bool
         ensures { result ≡ list_any is_some self.now.waiting }
     {
-        any_there(&self.lags)
+        self.lags.any_there()
     }
 
     /// Offers a reference to each live subscriber.
@@ -211,12 +142,12 @@ impl<K: Resource> Ring<K> {
         ensures full { IsErrOf result OfferError.Full → is_full self.old ≡ true }
         ensures err { OnErr result (self.new ≡ self.old) }
     {
-        if any_reaches(&self.lags, self.room) {
+        if self.lags.any_reaches(self.room) {
             return Err(OfferError::Full);
         }
-        if any_there(&self.lags) {
+        if self.lags.any_there() {
             push(&mut self.references, self.room, reference)?;
-            raise(&mut self.lags, self.room);
+            self.lags.raise(self.room);
         }
         Ok(())
     }
@@ -227,7 +158,7 @@ impl<K: Resource> Ring<K> {
         ensures number { IfOk result (λ number. number ≡ free_number self.old.waiting) }
         ensures err { OnErr result (self.new ≡ self.old) }
     {
-        let number = place(&mut self.lags, 0)?;
+        let number = self.lags.add(0)?;
         Ok(number)
     }
 
@@ -238,10 +169,10 @@ impl<K: Resource> Ring<K> {
         ensures number { IfOk result (λ number. number ≡ free_number self.old.waiting) }
         ensures err { OnErr result (self.new ≡ self.old) }
     {
-        let Some(lag) = lag_of(&self.lags, number) else {
+        let Some(lag) = self.lags.lag(number) else {
             unreachable!()
         };
-        let number = place(&mut self.lags, lag)?;
+        let number = self.lags.add(lag)?;
         Ok(number)
     }
 
@@ -250,9 +181,7 @@ impl<K: Resource> Ring<K> {
         requires { is_some (waiting_for self.old number) ≡ true }
         ensures { self.new ≡ with_waiting self.old number None }
     {
-        if number < self.lags.len() {
-            set_lag(&mut self.lags, number, None);
-        }
+        self.lags.leave(number);
     }
 
     /// No more offers follow.
@@ -270,17 +199,17 @@ impl<K: Resource> Ring<K> {
         ensures taken { OnOk result (IfSome (waiting_for self.old number) (λ rs. self.new ≡ with_waiting self.old number (Some (left (first_stored cache.now rs))))) }
         ensures err { OnErr result (self.new ≡ self.old) }
     {
-        let Some(lag) = lag_of(&self.lags, number) else {
+        let Some(lag) = self.lags.lag(number) else {
             unreachable!()
         };
         let from = self.references.len().saturating_sub(lag);
         match share_first(cache, &self.references, from)? {
             Some((object, after)) => {
-                set_lag(&mut self.lags, number, Some(after));
+                self.lags.set(number, after);
                 Ok(Next::Item(object))
             }
             None => {
-                set_lag(&mut self.lags, number, Some(0));
+                self.lags.set(number, 0);
                 Ok(none_left(self.is_closed))
             }
         }

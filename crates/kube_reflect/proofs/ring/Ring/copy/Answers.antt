@@ -1,7 +1,5 @@
 use Rattle.std.proofs.Common.{◌≡◌, ◌∙◌, ap, sym, length, map}
-use Rattle.std.specs.Prelude.{slice_get}
 use Rattle.std.specs.List.{list_all}
-use Rattle.std.specs.Option.{option_flatten}
 use Rattle.kube_meta.specs.Keys.{reference_of}
 use Rattle.kube_reflect.specs.Lags.{is_within}
 use Rattle.kube_reflect.specs.Subscribers.{subscribed}
@@ -11,8 +9,8 @@ use Rattle.kube_reflect.proofs.ring.Ring.copy.Goals as goal
 pub invariant_of-self-2 : goal.invariant_of-self-2
 invariant_of-self-2 g c =
     let n = length c.self.inside.references.items in
-    let lags = c.self.inside.lags.items in
-    let l = sym c.in-Some.is ∙ (c.lag_of.ensures.lag ∙ ap (λ ls. option_flatten (slice_get ls c.args.number)) c.deref.ensures.value) in
+    let lags = c.self.inside.lags in
+    let l = sym c.in-Some.is ∙ c.lag.ensures in
     ap (list_all (is_within n)) c.in_ok-number.ensures.ok
     ∙ within-placed n lags c.in-Some.lag c.self.invariant (ap (is_within n) l ∙ within-at n lags c.args.number c.self.invariant)
 
@@ -21,12 +19,12 @@ returns-clause-ok g c =
     let rs = map (reference_of g.K.Resource.type_of) c.self.inside.references.items in
     let room = c.self.inside.room in
     let over = c.self.inside.is_closed in
-    let lags = c.self.inside.lags.items in
-    let l = sym c.in-Some.is ∙ (c.lag_of.ensures.lag ∙ ap (λ ls. option_flatten (slice_get ls c.args.number)) c.deref.ensures.value) in
-    for_waiting room rs over lags c.args.number c.in-Some.lag c.args.self.now (λ ws. seen_ring room rs c.place.new.lags.items over ≡ subscribed c.args.self.now ws) l c.self.view_is
-    (placed-seen room rs over lags c.place.new.lags.items c.in-Some.lag c.args.self.now c.in_ok-number.ensures.ok c.self.view_is)
+    let lags = c.self.inside.lags in
+    let l = sym c.in-Some.is ∙ c.lag.ensures in
+    for_waiting room rs over lags c.args.number c.in-Some.lag c.args.self.now (λ ws. seen_ring room rs c.add.new.self over ≡ subscribed c.args.self.now ws) l c.self.view_is
+    (placed-seen room rs over lags c.add.new.self c.in-Some.lag c.args.self.now c.in_ok-number.ensures.ok c.self.view_is)
 
 pub returns-clause-number : goal.returns-clause-number
 returns-clause-number g c =
     let rs = map (reference_of g.K.Resource.type_of) c.self.inside.references.items in
-    c.in_ok-number.ensures.number ∙ free-seen c.self.inside.room rs c.self.inside.is_closed c.self.inside.lags.items c.args.self.now c.self.view_is
+    c.in_ok-number.ensures.number ∙ free-seen c.self.inside.room rs c.self.inside.is_closed c.self.inside.lags c.args.self.now c.self.view_is

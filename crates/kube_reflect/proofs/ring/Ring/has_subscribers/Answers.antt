@@ -9,5 +9,4 @@ use Rattle.kube_reflect.proofs.ring.Ring.has_subscribers.Goals as goal
 pub returns : goal.returns
 returns g c =
     c.any_there.ensures
-    ∙ (ap (list_any is_some) c.deref.ensures.value
-    ∙ (sym (some-lagging (map (reference_of g.K.Resource.type_of) c.self.inside.references.items) c.self.inside.lags.items) ∙ ap (λ (r : Ring). list_any is_some r.waiting) c.self.view_is))
+    ∙ (sym (some-lagging (map (reference_of g.K.Resource.type_of) c.self.inside.references.items) c.self.inside.lags) ∙ ap (λ (r : Ring). list_any is_some r.waiting) c.self.view_is)
