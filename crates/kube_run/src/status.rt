@@ -12,7 +12,7 @@ pub enum Status {
     Usage,
     /// What was read is no script.
     BadScript,
-    /// A turn was refused.
+    /// A turn was refused, or an object that must become a reference has no name.
     BadRun,
     /// A read failed.
     ReadFault,

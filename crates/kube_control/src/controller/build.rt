@@ -141,8 +141,7 @@ impl<A: ApiMode, S: RelatedSet<A::Value>, B: Backoff> Controller<WatchRoot<A>, S
     pub fn store(&mut self) -> Option<Store<A::Value>>
         ensures none { IsNone result ↔ (self.old.core.writer.readers ≡ 0) }
         ensures store { IfSome result (λ s. s.book ≡ self.old.core.writer.book) }
-        ensures given { self.new.core.writer.readers ≡ self.old.core.writer.readers - 1 }
-        ensures book { self.new.core.writer.book ≡ self.old.core.writer.book }
+        ensures rest { self.new ≡ record self.old { core = record self.old.core { writer = record self.old.core.writer { readers = self.old.core.writer.readers - 1 } } } }
         ensures stands { (w : World A.Value B) (h : List (Step A.Value)) → StandsFor ⟦<WatchRoot<A> as RootSource>⟧ S.RelatedSet B.Backoff A.Value.Resource w h self.old
             → StandsFor ⟦<WatchRoot<A> as RootSource>⟧ S.RelatedSet B.Backoff A.Value.Resource w h self.new }
     {
