@@ -22,6 +22,7 @@ pub mod Ordering
 pub mod Halving
 pub mod Indexed
 pub mod Searched
+pub mod Sorting
 pub mod Fronts
 pub mod Publishing
 pub mod Adding

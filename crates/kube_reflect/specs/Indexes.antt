@@ -37,6 +37,12 @@ sought within r = if within then r else without_namespace r
 abbrev pub references : {O : Type 0} → List (Reference × O) → List Reference
 references store = map (λ p. p.0) store
 
+-- each of the first n places stands once
+pub record AreAll (n : ℕ) (places : List ℕ) : Type 0 where
+  pub len : length places ≡ n
+  pub within : (k : ℕ) → k < n → slice_index_or places k 0 < n
+  pub covers : (p : ℕ) → p < n → (k : ℕ) × (k < n) × (slice_index_or places k 0 ≡ p)
+
 -- Places of a list of keys.
 module _ {R : Type 0} (cmp : R → R → Ordering) (none : R) where
   -- the key at the place that stands at k

@@ -10,11 +10,11 @@ ghost use Rattle.kube_meta.specs.Reference.{same_reference};
 ghost use Rattle.kube_reflect.specs.Reads.{object_at, objects, IsFirst, IsFiltered, is_selected};
 ghost use Rattle.kube_reflect.specs.Cached.{put_under, drop_under};
 ghost use Rattle.kube_reflect.specs.Indexes.{references, sought, IsIndex, IsLookUp, AreTwoLookUps};
-ghost use Rattle.kube_reflect.specs.Views.{all_stored};
+ghost use Rattle.kube_reflect.specs.Views.{stored_of, all_stored};
 
 use crate::places::look_up;
 use crate::steps::Steps;
-use crate::stored::{Stored, put, remove};
+use crate::stored::{Stored, again, put, put_stored, remove};
 use kube_meta::{NoMemory, ObjectRef, Resource, Selector, TextMap};
 use std::alloc::Global;
 use std::collections::VecDeque;
@@ -93,6 +93,14 @@ impl<K: Resource> Cache<K> {
         }
     }
 
+    // These items, whose places are sorted.
+    pub(crate) fn indexed(items: Vec<Stored<K>>, places: Vec<usize>) -> Cache<K>
+        requires { IsIndex (references (all_stored K.type_of items.items)) places.items }
+        ensures { result ≡ all_stored K.type_of items.items }
+    {
+        Cache { items, places }
+    }
+
     // Puts an object in the place of the one under an equal reference, or last.
     pub(crate) fn put(
         &mut self,
@@ -104,6 +112,14 @@ impl<K: Resource> Cache<K> {
         ensures err { OnErr result (self.new ≡ self.old) }
     {
         put(alloc, &mut self.items, &mut self.places, reference, object)
+    }
+
+    // Puts an item in the place of the one under an equal reference, or last.
+    pub(crate) fn put_stored(&mut self, stored: Stored<K>) -> Result<(), NoMemory>
+        ensures ok { OnOk result (self.new ≡ put_under self.old (stored_of K.type_of stored)) }
+        ensures err { OnErr result (self.new ≡ self.old) }
+    {
+        put_stored(&mut self.items, &mut self.places, stored)
     }
 
     // Drops the object under an equal reference.
@@ -139,15 +155,8 @@ impl<K: Resource> Cache<K> {
     pub(crate) fn copy(&self, alloc: Global) -> Result<Cache<K>, NoMemory>
         ensures { IfOk result (λ c. c ≡ self.now) }
     {
-        let mut copies = Vec::new(alloc);
-        for stored in &self.items {
-            copies.push(Stored {
-                reference: Arc::try_clone(&stored.reference)?,
-                object: Arc::try_clone(&stored.object)?,
-            })?;
-        }
         Ok(Cache {
-            items: copies,
+            items: again(alloc, &self.items)?,
             places: self.places.clone()?,
         })
     }

@@ -2,6 +2,7 @@
 //! `reflector`).
 #![tactic(auto)]
 
+mod buffer;
 pub mod cache;
 mod copies;
 pub mod delayed_init;

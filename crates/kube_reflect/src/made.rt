@@ -6,20 +6,20 @@ ghost use Rattle.kube_meta.specs.Keys.{reference_of, key_of, is_named};
 ghost use Rattle.kube_watch.specs.Events.{event_map};
 ghost use Rattle.kube_reflect.specs.Cached.{nothing, applied, has_name};
 
+use crate::buffer::Buffer;
 use crate::cache::Cache;
 use crate::store::WriteError;
 use kube_meta::{NoMemory, ObjectRef, RefError, Resource, TypeInfo};
 use kube_watch::Event;
 use std::alloc::Global;
 use std::marker::Model;
-use std::mem::replace;
 use std::sync::Arc;
 
 /// What the events of a watcher make.
 #[derive(Drop)]
 pub(crate) struct Made<K: Resource> {
     cache: Cache<K>,
-    buffer: Cache<K>,
+    buffer: Buffer<K>,
     is_ready: bool,
 }
 
@@ -63,7 +63,7 @@ impl<K: Resource> Made<K> {
     {
         Made {
             cache: Cache::new(alloc),
-            buffer: Cache::new(alloc),
+            buffer: Buffer::new(alloc),
             is_ready: false,
         }
     }
@@ -115,14 +115,14 @@ impl<K: Resource> Made<K> {
                 let key = key(alloc, dyntype, &**object)?;
                 self.cache.remove(key);
             }
-            Event::Init => self.buffer = Cache::new(alloc),
+            Event::Init => self.buffer = Buffer::new(alloc),
             Event::InitApply(object) => {
                 let key = key(alloc, dyntype, &**object)?;
                 let object = share(object)?;
                 self.buffer.put(alloc, key, object)?;
             }
             Event::InitDone => {
-                self.cache = replace(&mut self.buffer, Cache::new(alloc));
+                self.cache = self.buffer.take(alloc)?;
                 self.is_ready = true;
             }
         }

@@ -1,15 +1,16 @@
 //! Places of stored items, in the order of their references.
 
-ghost use Rattle.std.specs.Prelude.{◌≡◌, ◌<◌, map, length, if◌then◌else◌, None};
+ghost use Rattle.std.specs.Prelude.{◌≡◌, ◌<◌, map, length, if◌then◌else◌, None, true, IfOk};
 ghost use Rattle.std.specs.Option.{option_cmp};
 ghost use Rattle.std.specs.Ordering.{ordering_then};
 ghost use Rattle.kube_meta.specs.Keys.{reference_of};
-ghost use Rattle.kube_reflect.specs.Indexes.{text_cmp, type_cmp, reference_cmp, sought, references, closed_up, IsIndex, IsSearched, IsLookUp};
+ghost use Rattle.kube_reflect.specs.Indexes.{text_cmp, type_cmp, reference_cmp, sought, references, closed_up, AreAll, IsIndex, IsSearched, IsLookUp};
 ghost use Rattle.kube_reflect.specs.Views.{all_stored};
 
 use crate::steps::Steps;
 use crate::stored::Stored;
-use kube_meta::{ObjectRef, Resource, Text};
+use kube_meta::{NoMemory, ObjectRef, Resource, Text};
+use std::alloc::Global;
 use std::cmp::Ordering;
 use std::marker::Brand;
 use std::sync::ledger::{Blank, Ledger};
@@ -52,6 +53,14 @@ fn compare<K: Resource>(a: &ObjectRef<K>, b: &ObjectRef<K>, within: bool) -> Ord
     match compare_namespaces(&a.namespace, &b.namespace, within) {
         Ordering::Equal => compare_names(a, b),
         decided => decided,
+    }
+}
+
+/// Which of two items comes first, by their references, where both are there.
+fn compare_items<K: Resource>(a: Option<&Stored<K>>, b: Option<&Stored<K>>) -> Ordering {
+    match (a, b) {
+        (Some(a), Some(b)) => compare(&*a.reference, &*b.reference, true),
+        _ => Ordering::Equal,
     }
 }
 
@@ -124,4 +133,31 @@ pub fn close_up(places: &mut [usize], place: usize)
     for i in 0..places.len() {
         places[i] = closed(place, places[i]);
     }
+}
+
+/// All places, in the order of the references there.
+pub fn in_order<K: Resource>(alloc: Global, items: &[Stored<K>]) -> Result<Vec<usize>, NoMemory>
+    ensures { IfOk result (λ v. AreAll (length items.now) v.items) }
+{
+    let mut places = Vec::with_capacity(alloc, items.len())?;
+    for place in 0..items.len() {
+        places.push(place)?;
+    }
+    places.sort_unstable_by(|a, b| compare_items(items.get(*a), items.get(*b)));
+    Ok(places)
+}
+
+/// Whether no reference stands at two of all places, and those at the places rise.
+pub fn rise<K: Resource>(items: &[Stored<K>], places: &[usize]) -> bool
+    requires { AreAll (length items.now) places.now }
+    ensures { result ≡ true → IsIndex (references (all_stored K.type_of items.now)) places.now }
+{
+    for i in 1..places.len() {
+        let before = &*items[places[i - 1]].reference;
+        match compare(before, &*items[places[i]].reference, true) {
+            Ordering::Less => {}
+            Ordering::Equal | Ordering::Greater => return false,
+        }
+    }
+    true
 }

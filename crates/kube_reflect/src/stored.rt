@@ -3,8 +3,8 @@
 ghost use Rattle.std.specs.Prelude.{◌≡◌, OnOk, OnErr};
 ghost use Rattle.kube_reflect.specs.Cached.{put_under, drop_under};
 ghost use Rattle.kube_reflect.specs.Indexes.{references, IsIndex, IsSearched};
-ghost use Rattle.kube_reflect.specs.Views.{all_stored};
-ghost use Rattle.std.specs.Prelude.{slice_get, slice_set, vec_len, ◌<◌, not, Err, IfSome};
+ghost use Rattle.kube_reflect.specs.Views.{stored_of, all_stored};
+ghost use Rattle.std.specs.Prelude.{slice_get, slice_set, vec_len, ◌<◌, not, Err, IfOk, IfSome};
 ghost use Rattle.std.specs.List.{filter};
 ghost use Rattle.std.specs.Arc.{arc_value};
 ghost use Rattle.kube_meta.specs.Keys.{reference_of};
@@ -22,6 +22,29 @@ pub struct Stored<K: Resource> {
     pub object: Arc<K>,
 }
 
+impl<K: Resource> Stored<K> {
+    // The same reference and object once more.
+    pub fn again(&self) -> Result<Stored<K>, NoMemory>
+        ensures { IfOk result (λ s. stored_of K.type_of s ≡ stored_of K.type_of self.now) }
+    {
+        Ok(Stored {
+            reference: Arc::try_clone(&self.reference)?,
+            object: Arc::try_clone(&self.object)?,
+        })
+    }
+}
+
+/// Stored items again.
+pub fn again<K: Resource>(alloc: Global, items: &[Stored<K>]) -> Result<Vec<Stored<K>>, NoMemory>
+    ensures { IfOk result (λ v. all_stored K.type_of v.items ≡ all_stored K.type_of items.now) }
+{
+    let mut copies = Vec::new(alloc);
+    for stored in items {
+        copies.push(stored.again()?)?;
+    }
+    Ok(copies)
+}
+
 /// The object of an item in place of another one.
 fn write<K: Resource>(items: &mut Vec<Stored<K>>, place: usize, object: Arc<K>)
     requires { place < vec_len items.old }
@@ -30,30 +53,46 @@ fn write<K: Resource>(items: &mut Vec<Stored<K>>, place: usize, object: Arc<K>)
     items[place].object = object;
 }
 
-/// Puts an object last, under a reference that no item has and whose place would stand at `position`.
+/// Puts an item last, whose reference no item has and whose place would stand at `position`.
 fn push<K: Resource>(
-    alloc: Global,
     items: &mut Vec<Stored<K>>,
     places: &mut Vec<usize>,
     position: usize,
-    reference: ObjectRef<K>,
-    object: Arc<K>,
+    stored: Stored<K>,
 ) -> Result<(), NoMemory>
     requires index { IsIndex (references (all_stored K.type_of items.old.items)) places.old.items }
-    requires searched { IsSearched (references (all_stored K.type_of items.old.items)) places.old.items (reference_of K.type_of reference) (Err position) }
+    requires searched { IsSearched (references (all_stored K.type_of items.old.items)) places.old.items (stored_of K.type_of stored).0 (Err position) }
     ensures index { IsIndex (references (all_stored K.type_of items.new.items)) places.new.items }
-    ensures ok { OnOk result (all_stored K.type_of items.new.items
-        ≡ put_under (all_stored K.type_of items.old.items) (reference_of K.type_of reference, arc_value object)) }
+    ensures ok { OnOk result (all_stored K.type_of items.new.items ≡ put_under (all_stored K.type_of items.old.items) (stored_of K.type_of stored)) }
     ensures err { OnErr result (items.new.items ≡ items.old.items) }
 {
-    let reference = Arc::new(alloc, reference)?;
     places.reserve(1)?;
     let last = items.len();
-    items.push(Stored { reference, object })?;
+    items.push(stored)?;
     if places.insert(position, last).is_err() {
         unreachable!()
     }
     Ok(())
+}
+
+/// Puts an item in the place of the one under an equal reference, whose reference stays, or last.
+pub fn put_stored<K: Resource>(
+    items: &mut Vec<Stored<K>>,
+    places: &mut Vec<usize>,
+    stored: Stored<K>,
+) -> Result<(), NoMemory>
+    requires index { IsIndex (references (all_stored K.type_of items.old.items)) places.old.items }
+    ensures index { IsIndex (references (all_stored K.type_of items.new.items)) places.new.items }
+    ensures ok { OnOk result (all_stored K.type_of items.new.items ≡ put_under (all_stored K.type_of items.old.items) (stored_of K.type_of stored)) }
+    ensures err { OnErr result (items.new.items ≡ items.old.items) }
+{
+    match position(items, places, &stored.reference) {
+        Ok(position) => {
+            write(items, places[position], stored.object);
+            Ok(())
+        }
+        Err(position) => push(items, places, position, stored),
+    }
 }
 
 /// Puts an object in the place of the one under an equal reference, whose reference stays, or last.
@@ -75,7 +114,10 @@ pub fn put<K: Resource>(
             write(items, places[position], object);
             Ok(())
         }
-        Err(position) => push(alloc, items, places, position, reference, object),
+        Err(position) => {
+            let reference = Arc::new(alloc, reference)?;
+            push(items, places, position, Stored { reference, object })
+        }
     }
 }
 
