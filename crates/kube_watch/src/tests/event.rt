@@ -32,29 +32,32 @@ fn objects_are_changed_in_their_events(rt: HostRuntime) {
     assert_eq!(rt; shown(&modified(Event::InitDone)), ("init done", 0));
 }
 
-/// The event of an object of this name.
-fn named(alloc: Global, event: &Event<&str>) -> Result<Event<Arc<DynamicObject>>, NoMemory> {
+/// A name and a version; the empty text for none.
+type Named = (&'static str, &'static str);
+
+/// The event of an object with this name and version.
+fn named(alloc: Global, event: &Event<Named>) -> Result<Event<Arc<DynamicObject>>, NoMemory> {
     Ok(match event {
-        Event::Apply(name) => Event::Apply(object(alloc, name, "")?),
-        Event::Delete(name) => Event::Delete(object(alloc, name, "")?),
+        Event::Apply(named) => Event::Apply(object(alloc, named.0, named.1)?),
+        Event::Delete(named) => Event::Delete(object(alloc, named.0, named.1)?),
         Event::Init => Event::Init,
-        Event::InitApply(name) => Event::InitApply(object(alloc, name, "1")?),
+        Event::InitApply(named) => Event::InitApply(object(alloc, named.0, named.1)?),
         Event::InitDone => Event::InitDone,
     })
 }
 
 /// How an event is shown, and how its copy is.
-fn shown_twice(alloc: Global, event: &Event<&str>) -> Result<String, NoMemory> {
+fn shown_twice(alloc: Global, event: &Event<Named>) -> Result<String, NoMemory> {
     let event = named(alloc, event)?;
     let copy = event.copy()?;
     Ok(format!(in alloc; "{event}, {copy}")?)
 }
 
-const EVENTS: [(Event<&str>, &str); 6] = [
-    (Event::Apply("a"), "Apply(a), Apply(a)"),
-    (Event::Delete("a"), "Delete(a), Delete(a)"),
-    (Event::InitApply("a"), "InitApply(a), InitApply(a)"),
-    (Event::Apply(""), "Apply(), Apply()"),
+const EVENTS: [(Event<Named>, &str); 6] = [
+    (Event::Apply(("a", "1")), "Apply(a), Apply(a)"),
+    (Event::Delete(("a", "1")), "Delete(a), Delete(a)"),
+    (Event::InitApply(("a", "1")), "InitApply(a), InitApply(a)"),
+    (Event::Apply(("", "")), "Apply(), Apply()"),
     (Event::Init, "Init, Init"),
     (Event::InitDone, "InitDone, InitDone"),
 ];
