@@ -88,8 +88,8 @@ fn api(alloc: Global, rows: &[Row]) -> Result<Api, NoMemory> {
 
 /// A controller of nodes, of which these are listed.
 fn nodes(alloc: Global, rows: &[Row]) -> Result<Tested<NoRelated>, NoMemory> {
-    let api = api(alloc, rows)?;
     let node = kind(alloc, "Node")?;
+    let api = api(alloc, rows)?;
     Controller::new_with(alloc, api, watching(PLAIN), node)
 }
 
@@ -267,23 +267,27 @@ fn by_function(alloc: Global, case: &Case) -> Result<String, NoMemory> {
 
 type Labelled = RelatedWatch<Api, ByLabel<DynamicObject>>;
 
-/// A related source of this pod by its label.
-fn labelled(alloc: Global, pod: Row) -> Result<Labelled, NoMemory> {
+/// Adds a related source of this pod by its label.
+fn push_labelled(
+    alloc: Global,
+    list: &mut RelatedList<Labelled>,
+    row: Row,
+) -> Result<(), NoMemory> {
     let label = Text::new(alloc, "app")?;
     let dyntype = kind(alloc, "Node")?;
-    let pods = api(alloc, &[pod])?;
-    let pod = kind(alloc, "Pod")?;
+    let (pods, pod) = pods(alloc, &[row])?;
     let mapper = ByLabel { label, dyntype };
-    Ok(RelatedWatch::new(alloc, pods, watching(PLAIN), pod, mapper))
+    list.push(RelatedWatch::new(alloc, pods, watching(PLAIN), pod, mapper))?;
+    Ok(())
 }
 
 /// Such sources, of which there are nine at most.
-fn all_labelled(alloc: Global, pods: &[Row]) -> Result<RelatedList<Labelled>, NoMemory>
+fn all_labelled(alloc: Global, rows: &[Row]) -> Result<RelatedList<Labelled>, NoMemory>
     ensures { IfOk result (λ list. length list.items.items ≤ 9) }
 {
     let mut list = RelatedList::new(alloc);
-    for pod in pods {
-        list.push(labelled(alloc, *pod)?)?;
+    for row in rows {
+        push_labelled(alloc, &mut list, *row)?;
     }
     if list.items.len() > 9 {
         return Err(NoMemory);
@@ -291,10 +295,16 @@ fn all_labelled(alloc: Global, pods: &[Row]) -> Result<RelatedList<Labelled>, No
     Ok(list)
 }
 
+fn labelled(alloc: Global, nodes: Tested<NoRelated>, case: &Case) -> Result<String, NoMemory> {
+    match all_labelled(alloc, case.pods) {
+        Ok(list) => all_turned(alloc, nodes.with_related(alloc, list), case.budget),
+        Err(error) => Err(error),
+    }
+}
+
 fn by_label(alloc: Global, case: &Case) -> Result<String, NoMemory> {
-    let list = all_labelled(alloc, case.pods)?;
     match nodes(alloc, case.nodes) {
-        Ok(nodes) => all_turned(alloc, nodes.with_related(alloc, list), case.budget),
+        Ok(nodes) => labelled(alloc, nodes, case),
         Err(error) => Err(error),
     }
 }
