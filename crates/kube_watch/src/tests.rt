@@ -3,6 +3,7 @@
 mod cases;
 mod config;
 mod event;
+mod object;
 mod params;
 mod polls;
 mod script;

@@ -5,8 +5,7 @@ use crate::{ByFunction, Mapper, Owners};
 use kube_meta::{
     ApiResource, DynamicObject, List, NoMemory, ObjectMeta, ObjectRef, OwnerReference, Text,
 };
-use std::alloc::Global;
-use std::process::Abort;
+use std::alloc::{AllocError, Global};
 use std::sync::Arc;
 use std::test::Fail;
 
@@ -19,48 +18,62 @@ fn owner(alloc: Global, kind: &str, name: &str) -> Result<OwnerReference, NoMemo
     })
 }
 
+/// Owners by their kinds and names.
+fn owners(alloc: Global, named: &[(&str, &str)]) -> Result<List<OwnerReference>, NoMemory> {
+    let mut owners = List::new(alloc);
+    for (kind, name) in named {
+        owners.push(owner(alloc, kind, name)?)?;
+    }
+    Ok(owners)
+}
+
 /// An object in the namespace `ns` with owners of two types.
 fn owned(alloc: Global) -> Result<Arc<DynamicObject>, NoMemory> {
-    let mut owners = List::new(alloc);
-    owners.push(owner(alloc, "Root", "a")?)?;
-    owners.push(owner(alloc, "Other", "o")?)?;
-    owners.push(owner(alloc, "Root", "b")?)?;
-    let mut metadata = ObjectMeta::empty();
-    metadata.name = Some(Text::new(alloc, "x")?);
-    metadata.namespace = Some(Text::new(alloc, "ns")?);
-    metadata.owner_references = Some(owners);
+    let owners = owners(alloc, &[("Root", "a"), ("Other", "o"), ("Root", "b")])?;
+    let name = Text::new(alloc, "x")?;
+    let namespace = Text::new(alloc, "ns")?;
+    let metadata = ObjectMeta {
+        name: Some(name),
+        namespace: Some(namespace),
+        owner_references: Some(owners),
+        ..ObjectMeta::empty()
+    };
     Ok(Arc::new(alloc, DynamicObject::bare(metadata))?)
 }
 
-/// The references are shown so.
-fn check(
-    rt: &impl Abort,
-    alloc: Global,
-    references: &[ObjectRef<DynamicObject>],
-    wanted: &[&str],
-) -> Result<(), Fail> {
-    assert_eq!(rt; references.len(), wanted.len());
-    for (reference, wanted) in references.iter().zip(wanted) {
-        let shown = format!(in alloc; "{reference}")?;
-        assert_eq!(rt; shown.as_str(), *wanted);
+fn shown(alloc: Global, references: &[ObjectRef<DynamicObject>]) -> Result<String, AllocError> {
+    let mut shown = String::new(alloc);
+    for reference in references {
+        let one = format!(in alloc; "{reference};")?;
+        shown.push_str(one.as_str())?;
     }
-    Ok(())
+    Ok(shown)
 }
 
-#[test]
-fn maps_to_the_owners_of_a_type(rt: HostRuntime) -> Result<(), Fail> {
-    let alloc = rt.alloc();
-    let mapper: Owners<DynamicObject> = Owners {
-        dyntype: kind(alloc, "Root")?,
-    };
+fn shown_once(
+    alloc: Global,
+    references: List<ObjectRef<DynamicObject>>,
+) -> Result<String, AllocError> {
+    shown(alloc, references.as_slice())
+}
+
+/// What a mapper answers of the object.
+fn mapped<M: Mapper<DynamicObject, DynamicObject>>(
+    alloc: Global,
+    mapper: &M,
+) -> Result<String, NoMemory>
+    requires { M.can_map mapper.now }
+{
     let object = owned(alloc)?;
-    let references = mapper.references(alloc, &object)?;
-    check(
-        &rt,
-        alloc,
-        references.as_slice(),
-        &["Root.v1./a.ns", "Root.v1./b.ns"],
-    )
+    match mapper.references(alloc, &object) {
+        Ok(references) => Ok(shown_once(alloc, references)?),
+        Err(error) => Err(error),
+    }
+}
+
+fn by_owners(alloc: Global) -> Result<String, NoMemory> {
+    let dyntype = kind(alloc, "Root")?;
+    mapped(alloc, &Owners { dyntype })
 }
 
 fn one(
@@ -73,14 +86,20 @@ fn one(
     Ok(references)
 }
 
-#[test]
-fn maps_by_a_function(rt: HostRuntime) -> Result<(), Fail> {
-    let alloc = rt.alloc();
+fn by_function(alloc: Global) -> Result<String, NoMemory> {
     let dyntype = kind(alloc, "Root")?;
     let mapper = ByFunction {
         function: |_object: &Arc<DynamicObject>| one(alloc, &dyntype, "c"),
     };
-    let object = owned(alloc)?;
-    let references = mapper.references(alloc, &object)?;
-    check(&rt, alloc, references.as_slice(), &["Root.v1./c"])
+    mapped(alloc, &mapper)
+}
+
+#[test]
+fn maps_to_the_owners_of_a_type_and_by_a_function(rt: HostRuntime) -> Result<(), Fail> {
+    assert_eq!(rt;
+        by_owners(rt.alloc())?.as_str(),
+        "Root.v1./a.ns;Root.v1./b.ns;"
+    );
+    assert_eq!(rt; by_function(rt.alloc())?.as_str(), "Root.v1./c;");
+    Ok(())
 }

@@ -78,27 +78,44 @@ fn labels(alloc: Global, text: &str) -> Result<Option<TextMap>, NoMemory> {
     Ok(Some(labels))
 }
 
-/// An object of version 2.
+/// Version 2, a name and a label.
+fn metadata(alloc: Global, name: &str, label: &str) -> Result<ObjectMeta, NoMemory> {
+    let name = text_of(alloc, name)?;
+    let labels = labels(alloc, label)?;
+    let resource_version = text_of(alloc, "2")?;
+    Ok(ObjectMeta {
+        name,
+        labels,
+        resource_version,
+        ..ObjectMeta::empty()
+    })
+}
+
 fn object<V: Made>(alloc: Global, name: &str, label: &str) -> Result<Arc<V>, NoMemory> {
-    let mut metadata = ObjectMeta::empty();
-    metadata.name = text_of(alloc, name)?;
-    metadata.labels = labels(alloc, label)?;
-    metadata.resource_version = Some(Text::new(alloc, "2")?);
+    let metadata = metadata(alloc, name, label)?;
     Ok(Arc::new(alloc, V::made(metadata))?)
+}
+
+fn all_objects<V: Made>(alloc: Global, objects: &[(&str, &str)]) -> Result<Vec<Arc<V>>, NoMemory> {
+    let mut all = Vec::new(alloc);
+    for (name, label) in objects {
+        all.push(object(alloc, name, label)?)?;
+    }
+    Ok(all)
+}
+
+fn empty_page<V: Made>(alloc: Global, more: bool) -> Result<ResultPage<V>, NoMemory> {
+    let (token, version) = if more { ("t", "") } else { ("", "1") };
+    ResultPage::empty(alloc)
+        .continue_token(alloc, Some(token))?
+        .resource_version(alloc, Some(version))
 }
 
 /// A page of these; it has a token where a further one follows, and else a version.
 fn page<V: Made>(alloc: Global, objects: &[(&str, &str)], more: bool) -> Result<Page<V>, NoMemory> {
-    let mut items = Vec::new(alloc);
-    for (name, label) in objects {
-        items.push(object(alloc, name, label)?)?;
-    }
-    let (token, version) = if more { ("t", "") } else { ("", "1") };
-    let page = ResultPage::empty(alloc)
-        .continue_token(alloc, Some(token))?
-        .resource_version(alloc, Some(version))?
-        .items(items);
-    Ok(page.into_page())
+    let objects = all_objects(alloc, objects)?;
+    let page = empty_page(alloc, more)?;
+    Ok(page.items(objects).into_page())
 }
 
 fn torn(alloc: Global) -> Result<ApiError, NoMemory> {

@@ -1,26 +1,16 @@
 //! Each other call once with ample memory.
 
 use super::node::Node;
-use super::script::{Given, Listed, Settings, Tested, Told, controller, run};
+use super::related::turned;
+use super::script::{Listed, PLAIN, Tested, Told, controller, watching};
 use crate::{Controller, DefaultBackoff, NoRelated, ReconcileReason, WatchRoot};
 use kube_api::{ResultPage, TestMode};
 use kube_meta::text::copy_option;
 use kube_meta::{DynamicObject, NoMemory, Text};
 use kube_reflect::Store;
-use kube_step::Recorder;
-use kube_watch::Config;
 use std::alloc::Global;
-use std::process::Abort;
 use std::sync::Wait;
 use std::test::Fail;
-
-/// No debounce and no limit.
-const PLAIN: Settings = Settings {
-    streaming: false,
-    timeout: None,
-    debounce: 0,
-    concurrency: 0,
-};
 
 /// A page with `a` and `b`.
 const LISTS: &[Listed] = &[Listed::Page(&[("a", "1"), ("b", "1")], "", "1")];
@@ -28,37 +18,82 @@ const LISTS: &[Listed] = &[Listed::Page(&[("a", "1"), ("b", "1")], "", "1")];
 /// A watch that tells of an object without a name.
 const WATCHES: &[&[Told]] = &[&[Told::Added(("", "2"))]];
 
-/// A controller of these, after a turn with this budget.
-fn after_a_turn(alloc: Global, budget: u32) -> Result<Tested<DefaultBackoff>, NoMemory> {
-    let mut controller = controller(alloc, PLAIN, LISTS, WATCHES)?;
-    let mut recorder = Recorder::<DynamicObject>::new(alloc);
-    let turns: [Given; 1] = [(0, budget, &[])];
-    let _answered = run(alloc, &mut controller, &mut recorder, &turns)?;
-    Ok(controller)
+fn turned_once(
+    alloc: Global,
+    controller: Tested<DefaultBackoff>,
+    budget: u32,
+) -> Result<Tested<DefaultBackoff>, NoMemory> {
+    let mut controller = controller;
+    match turned(alloc, &mut controller, &[budget]) {
+        Ok(_told) => Ok(controller),
+        Err(error) => Err(error),
+    }
 }
 
-/// A first handle reads what is published, three more are given, and no fifth.
-fn check_handles<R: Abort + Wait>(
-    rt: &R,
+/// A controller of these, after a turn with this budget.
+fn after_a_turn(alloc: Global, budget: u32) -> Result<Tested<DefaultBackoff>, NoMemory> {
+    match controller(alloc, PLAIN, LISTS, WATCHES) {
+        Ok(controller) => turned_once(alloc, controller, budget),
+        Err(error) => Err(error),
+    }
+}
+
+/// How many objects a handle reads before they are published, and after that.
+fn read_lengths<W: Wait>(
+    rt: &W,
     alloc: Global,
     controller: &mut Tested<DefaultBackoff>,
-    reads: &mut Store<DynamicObject>,
-) -> Result<(), Fail> {
-    assert_eq!(rt; reads.len(rt), 0);
-    controller.publish(rt, alloc)?;
-    assert_eq!(rt; reads.len(rt), 2);
-    for _place in 1..4 {
-        assert!(rt; controller.store().is_some());
+    reads: Store<DynamicObject>,
+) -> Result<(usize, usize), NoMemory> {
+    let mut reads = reads;
+    let before = reads.len(rt);
+    match controller.publish(rt, alloc) {
+        Ok(_published) => Ok((before, reads.len(rt))),
+        Err(error) => Err(error),
     }
-    assert!(rt; controller.store().is_none());
-    Ok(())
+}
+
+/// How many more handles a controller gives, of nine that are asked for.
+fn count_of_handles(controller: &mut Tested<DefaultBackoff>) -> u32 {
+    let mut count: u32 = 0;
+    for _place in 0..9 {
+        if controller.store().is_some() {
+            count = count.saturating_add(1);
+        }
+    }
+    count
+}
+
+/// What a handle reads, and how many more there are; nothing where there is no handle.
+fn handles<W: Wait>(
+    rt: &W,
+    alloc: Global,
+    controller: Tested<DefaultBackoff>,
+) -> Result<Option<((usize, usize), u32)>, NoMemory> {
+    let mut controller = controller;
+    match controller.store() {
+        Some(reads) => {
+            let lengths = read_lengths(rt, alloc, &mut controller, reads)?;
+            Ok(Some((lengths, count_of_handles(&mut controller))))
+        }
+        None => Ok(None),
+    }
+}
+
+fn handles_after_a_turn<W: Wait>(
+    rt: &W,
+    alloc: Global,
+) -> Result<Option<((usize, usize), u32)>, NoMemory> {
+    match after_a_turn(alloc, 2) {
+        Ok(controller) => handles(rt, alloc, controller),
+        Err(error) => Err(error),
+    }
 }
 
 #[test]
 fn gives_four_handles(rt: HostRuntime) -> Result<(), Fail> {
-    let mut controller = after_a_turn(rt.alloc(), 2)?;
-    let mut reads = controller.store().expect(&rt, "a place is left");
-    check_handles(&rt, rt.alloc(), &mut controller, &mut reads)
+    assert_eq!(rt; handles_after_a_turn(&rt, rt.alloc())?, Some(((0, 2), 3)));
+    Ok(())
 }
 
 /// How many calls of its API a controller made, and how many objects it has; none where it is spent.
@@ -68,13 +103,19 @@ fn counts(controller: Tested<DefaultBackoff>) -> Option<(usize, usize)> {
     Some((calls, core.cache().len()))
 }
 
+/// How many objects a controller has after a turn with this budget, and the counts of its parts.
+fn parts(alloc: Global, budget: u32) -> Result<(usize, Option<(usize, usize)>), NoMemory> {
+    match after_a_turn(alloc, budget) {
+        Ok(controller) => Ok((controller.cache().len(), counts(controller))),
+        Err(error) => Err(error),
+    }
+}
+
 #[test]
 fn gives_its_parts_unless_it_is_spent(rt: HostRuntime) -> Result<(), Fail> {
-    for (budget, stored, wanted) in [(0, 0, Some((0, 0))), (2, 2, Some((2, 2))), (3, 2, None)] {
-        let controller = after_a_turn(rt.alloc(), budget)?;
-        assert_eq!(rt; controller.cache().len(), stored);
-        assert_eq!(rt; counts(controller), wanted);
-    }
+    assert_eq!(rt; parts(rt.alloc(), 0)?, (0, Some((0, 0))));
+    assert_eq!(rt; parts(rt.alloc(), 2)?, (2, Some((2, 2))));
+    assert_eq!(rt; parts(rt.alloc(), 3)?, (2, None));
     Ok(())
 }
 
@@ -85,14 +126,20 @@ fn nodes(alloc: Global) -> Result<Nodes, NoMemory> {
     let page = ResultPage::empty(alloc).resource_version(alloc, Some("1"))?;
     let lists = vec![in alloc; Ok(page.into_page())]?;
     let api = TestMode::new(alloc, lists, Vec::new(alloc));
-    Controller::new(alloc, api, Config::default())
+    Controller::new(alloc, api, watching(PLAIN))
+}
+
+/// Whether a controller of nodes has none, and whether it gives its parts.
+fn is_empty_and_whole(alloc: Global) -> Result<(bool, bool), NoMemory> {
+    match nodes(alloc) {
+        Ok(nodes) => Ok((nodes.cache().is_empty(), nodes.into_parts().is_some())),
+        Err(error) => Err(error),
+    }
 }
 
 #[test]
 fn watches_a_type_of_which_nothing_need_be_known(rt: HostRuntime) -> Result<(), Fail> {
-    let nodes = nodes(rt.alloc())?;
-    assert!(rt; nodes.cache().is_empty());
-    assert!(rt; nodes.into_parts().is_some());
+    assert_eq!(rt; is_empty_and_whole(rt.alloc())?, (true, true));
     Ok(())
 }
 

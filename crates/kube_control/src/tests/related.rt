@@ -2,17 +2,20 @@
 
 ghost use Rattle.std.specs.Prelude.{◌+◌, ◌<◌, ◌≤◌, ◌^◌, IfOk, length};
 
-use crate::{
-    ByLabel, Controller, DefaultBackoff, NoRelated, RelatedList, RelatedSet, RelatedWatch,
-    RunError, Shutdown, Taken, Turn, TurnRecord, WatchRoot,
+use super::script::{
+    Answered, PLAIN, QUIET, Root, bare_turn, kind, page, run, some_text, watch, watching,
 };
-use kube_api::{Page, ResultPage, Sequence, SequenceStep, TestMode};
+use super::shown::{add_line, end, records};
+use crate::{
+    ByLabel, Controller, DefaultBackoff, NoRelated, RelatedList, RelatedSet, RelatedWatch, Taken,
+    TurnRecord,
+};
+use kube_api::TestMode;
 use kube_meta::{
-    Action, ApiResource, DynamicObject, List, Moment, NoMemory, ObjectMeta, ObjectRef,
-    OwnerReference, Text, TextMap,
+    ApiResource, DynamicObject, List, NoMemory, ObjectMeta, ObjectRef, OwnerReference, Text,
+    TextMap,
 };
 use kube_step::Recorder;
-use kube_watch::Config as WatcherConfig;
 use std::alloc::{AllocError, Global};
 use std::sync::Arc;
 use std::test::Fail;
@@ -22,40 +25,21 @@ type Row = (&'static str, &'static str, &'static str, &'static str);
 
 type Api = TestMode<DynamicObject>;
 
-type Tested<S> = Controller<WatchRoot<Api>, S, DefaultBackoff>;
-
-/// The type of this name.
-fn kind(alloc: Global, name: &str) -> Result<Arc<ApiResource>, NoMemory> {
-    let resource = ApiResource {
-        group: Text::new(alloc, "")?,
-        version: Text::new(alloc, "v1")?,
-        api_version: Text::new(alloc, "v1")?,
-        kind: Text::new(alloc, name)?,
-        plural: Text::new(alloc, name)?,
-    };
-    Ok(Arc::new(alloc, resource)?)
-}
-
-/// A text that is absent where it is empty.
-fn some_text(alloc: Global, text: &str) -> Result<Option<Text>, NoMemory> {
-    if text.is_empty() {
-        return Ok(None);
-    }
-    Ok(Some(Text::new(alloc, text)?))
-}
+type Tested<S> = Controller<Root, S, DefaultBackoff>;
 
 /// The node that owns an object, if there is one.
 fn owners(alloc: Global, node: &str) -> Result<Option<List<OwnerReference>>, NoMemory> {
     if node.is_empty() {
         return Ok(None);
     }
-    let mut owners = List::new(alloc);
-    owners.push(OwnerReference {
+    let owner = OwnerReference {
         api_version: Text::new(alloc, "v1")?,
         kind: Text::new(alloc, "Node")?,
         name: Text::new(alloc, node)?,
         uid: Text::new(alloc, "u")?,
-    })?;
+    };
+    let mut owners = List::new(alloc);
+    owners.push(owner)?;
     Ok(Some(owners))
 }
 
@@ -70,56 +54,43 @@ fn labels(alloc: Global, app: &str) -> Result<Option<TextMap>, NoMemory> {
 
 fn object(alloc: Global, row: Row) -> Result<Arc<DynamicObject>, NoMemory> {
     let (name, namespace, node, app) = row;
+    let name = some_text(alloc, name)?;
+    let namespace = some_text(alloc, namespace)?;
+    let owner_references = owners(alloc, node)?;
+    let labels = labels(alloc, app)?;
+    let resource_version = some_text(alloc, "1")?;
     let metadata = ObjectMeta {
-        name: some_text(alloc, name)?,
-        namespace: some_text(alloc, namespace)?,
-        owner_references: owners(alloc, node)?,
-        labels: labels(alloc, app)?,
-        resource_version: some_text(alloc, "1")?,
+        name,
+        namespace,
+        owner_references,
+        labels,
+        resource_version,
         ..ObjectMeta::empty()
     };
     Ok(Arc::new(alloc, DynamicObject::bare(metadata))?)
 }
 
-fn page(alloc: Global, rows: &[Row]) -> Result<Page<DynamicObject>, NoMemory> {
-    let mut items = Vec::new(alloc);
+fn objects(alloc: Global, rows: &[Row]) -> Result<Vec<Arc<DynamicObject>>, NoMemory> {
+    let mut objects = Vec::new(alloc);
     for row in rows {
-        items.push(object(alloc, *row)?)?;
+        objects.push(object(alloc, *row)?)?;
     }
-    let page = ResultPage::empty(alloc)
-        .resource_version(alloc, Some("1"))?
-        .items(items);
-    Ok(page.into_page())
+    Ok(objects)
 }
 
 /// An API that lists these on one page, and whose watch is silent for a thousand seconds.
 fn api(alloc: Global, rows: &[Row]) -> Result<Api, NoMemory> {
-    let lists = vec![in alloc; Ok(page(alloc, rows)?)]?;
-    let silent = vec![in alloc; SequenceStep::Wait(1_000_000_000_000)]?;
-    let watches = vec![in alloc; Sequence::new(silent)]?;
+    let page = page(alloc, objects(alloc, rows)?, "", "1")?;
+    let lists = vec![in alloc; Ok(page)]?;
+    let watches = vec![in alloc; watch(alloc, QUIET)?]?;
     Ok(TestMode::new(alloc, lists, watches))
 }
 
 /// A controller of nodes, of which these are listed.
 fn nodes(alloc: Global, rows: &[Row]) -> Result<Tested<NoRelated>, NoMemory> {
+    let node = kind(alloc, "Node")?;
     let api = api(alloc, rows)?;
-    Controller::new_with(alloc, api, WatcherConfig::default(), kind(alloc, "Node")?)
-}
-
-fn turn(alloc: Global, budgets: &[u32]) -> Result<Turn<DynamicObject, u64>, NoMemory> {
-    let mut budget = List::new(alloc);
-    for one in budgets {
-        budget.push(*one)?;
-    }
-    Ok(Turn {
-        at: Moment(0),
-        budget,
-        finishes: List::new(alloc),
-        reload: false,
-        on: List::new(alloc),
-        shutdown: Shutdown::No,
-        show: false,
-    })
+    Controller::new_with(alloc, api, watching(PLAIN), node)
 }
 
 /// What was taken, with its reason.
@@ -148,63 +119,112 @@ fn shown(alloc: Global, record: &TurnRecord<DynamicObject, u64>) -> Result<Strin
     Ok(lines)
 }
 
-fn all_shown(
-    alloc: Global,
-    records: &[TurnRecord<DynamicObject, u64>],
-) -> Result<String, AllocError> {
+/// What the records tell, and how the run ended.
+fn all_shown(alloc: Global, answered: &Answered) -> Result<String, AllocError> {
     let mut lines = String::new(alloc);
-    for record in records {
+    for record in records(answered) {
         lines.push_str(shown(alloc, record)?.as_str())?;
     }
+    add_line(&mut lines, end(alloc, answered)?.as_str())?;
     Ok(lines)
 }
 
+fn shown_once(alloc: Global, answered: Answered) -> Result<String, AllocError> {
+    all_shown(alloc, &answered)
+}
+
+fn recorded<S: RelatedSet<DynamicObject>>(
+    alloc: Global,
+    controller: &mut Tested<S>,
+    recorder: &mut Recorder<DynamicObject>,
+    budget: &[u32],
+) -> Result<String, NoMemory>
+    requires few { length (S.feeds controller.old.asks.related) + 1 < 2 ^ 32 }
+    requires may { S.can_poll controller.old.asks.related }
+{
+    let turns = vec![in alloc; bare_turn(alloc, 0, budget, false)?]?;
+    match run(alloc, controller, recorder, turns) {
+        Ok(answered) => Ok(shown_once(alloc, answered)?),
+        Err(error) => Err(error),
+    }
+}
+
 /// What one turn with this budget makes.
-fn run<S: RelatedSet<DynamicObject>>(
+pub fn turned<S: RelatedSet<DynamicObject>>(
+    alloc: Global,
+    controller: &mut Tested<S>,
+    budget: &[u32],
+) -> Result<String, NoMemory>
+    requires few { length (S.feeds controller.old.asks.related) + 1 < 2 ^ 32 }
+    requires may { S.can_poll controller.old.asks.related }
+{
+    let mut recorder = Recorder::new(alloc);
+    recorded(alloc, controller, &mut recorder, budget)
+}
+
+/// The same of a controller that is let go then.
+fn all_turned<S: RelatedSet<DynamicObject>>(
     alloc: Global,
     controller: Tested<S>,
     budget: &[u32],
-) -> Result<String, Fail>
+) -> Result<String, NoMemory>
     requires few { length (S.feeds controller.asks.related) + 1 < 2 ^ 32 }
     requires may { S.can_poll controller.asks.related }
 {
     let mut controller = controller;
-    let mut recorder = Recorder::new(alloc);
-    let context = Arc::new(alloc, ())?;
-    let policy = |_object: Arc<DynamicObject>, _error: &u64, _context: Arc<()>| {
-        Action::await_change()
-    };
-    let turns = vec![in alloc; turn(alloc, budget)?]?;
-    match controller.run(alloc, &mut recorder, &policy, context, turns) {
-        Ok(trace) => Ok(all_shown(alloc, trace.records.as_slice())?),
-        Err(RunError::UnnamedObject { turn, source, .. }) => {
-            Ok(format!(in alloc; "unnamed in turn {turn}, source {source}\n")?)
-        }
-        Err(_) => Ok(format!(in alloc; "another error\n")?),
+    turned(alloc, &mut controller, budget)
+}
+
+/// How objects request nodes: by their owner, by a function of their label, or by their label, each from a source of its own.
+#[derive(Clone, Copy)]
+enum By {
+    Owner,
+    Function,
+    Label,
+}
+
+/// The nodes and the pods that are listed, a budget, and what one turn makes.
+struct Case {
+    name: &'static str,
+    by: By,
+    nodes: &'static [Row],
+    pods: &'static [Row],
+    budget: &'static [u32],
+    wanted: &'static str,
+}
+
+/// Pods of which these are listed, and their type.
+fn pods(alloc: Global, rows: &[Row]) -> Result<(Api, Arc<ApiResource>), NoMemory> {
+    let pod = kind(alloc, "Pod")?;
+    match api(alloc, rows) {
+        Ok(pods) => Ok((pods, pod)),
+        Err(error) => Err(error),
     }
 }
 
-/// A pod with two references of its owner: with its namespace, and as the node is listed.
-#[test]
-fn owners_are_requested_in_the_objects_namespace(rt: HostRuntime) -> Result<(), Fail> {
-    let alloc = rt.alloc();
-    let pods = api(alloc, &[("p", "ns", "n", "")])?;
-    let controller = nodes(alloc, &[("n", "", "", "")])?.owns_with(
-        alloc,
-        pods,
-        kind(alloc, "Pod")?,
-        WatcherConfig::default(),
-    )?;
-    let wanted = "0 1 
-Node.v1./n: object updated
-Node.v1./n.ns: related object updated: Pod.v1./p.ns
-";
-    assert_eq!(rt; run(alloc, controller, &[1, 1])?.as_str(), wanted);
-    Ok(())
+fn owned(
+    alloc: Global,
+    nodes: Tested<NoRelated>,
+    pods: Api,
+    pod: Arc<ApiResource>,
+    budget: &[u32],
+) -> Result<String, NoMemory> {
+    match nodes.owns_with(alloc, pods, pod, watching(PLAIN)) {
+        Ok(controller) => all_turned(alloc, controller, budget),
+        Err(error) => Err(error),
+    }
+}
+
+fn by_owner(alloc: Global, case: &Case) -> Result<String, NoMemory> {
+    let (pods, pod) = pods(alloc, case.pods)?;
+    match nodes(alloc, case.nodes) {
+        Ok(nodes) => owned(alloc, nodes, pods, pod, case.budget),
+        Err(error) => Err(error),
+    }
 }
 
 /// The node that the label of an object names.
-fn by_label(
+fn named_by_label(
     alloc: Global,
     nodes: &Arc<ApiResource>,
     object: &DynamicObject,
@@ -218,42 +238,56 @@ fn by_label(
     Ok(references)
 }
 
-#[test]
-fn what_a_function_answers_is_requested(rt: HostRuntime) -> Result<(), Fail> {
-    let alloc = rt.alloc();
-    let pods = api(alloc, &[("p", "", "", "a"), ("q", "", "", "b")])?;
-    let dyntype = kind(alloc, "Node")?;
-    let controller = nodes(alloc, &[("a", "", "", ""), ("b", "", "", "")])?.watches_with(
+fn mapped(
+    alloc: Global,
+    nodes: Tested<NoRelated>,
+    pods: Api,
+    pod: Arc<ApiResource>,
+    node: Arc<ApiResource>,
+    budget: &[u32],
+) -> Result<String, NoMemory> {
+    let controller = nodes.watches_with(
         alloc,
         pods,
-        kind(alloc, "Pod")?,
-        WatcherConfig::default(),
-        |object: &Arc<DynamicObject>| by_label(alloc, &dyntype, object),
+        pod,
+        watching(PLAIN),
+        |object: &Arc<DynamicObject>| named_by_label(alloc, &node, object),
     );
-    let wanted = "0 1 0 1 0 
-Node.v1./a: related object updated: Pod.v1./p
-Node.v1./b: related object updated: Pod.v1./q
-";
-    assert_eq!(rt; run(alloc, controller, &[3, 2])?.as_str(), wanted);
+    all_turned(alloc, controller, budget)
+}
+
+fn by_function(alloc: Global, case: &Case) -> Result<String, NoMemory> {
+    let node = kind(alloc, "Node")?;
+    let (pods, pod) = pods(alloc, case.pods)?;
+    match nodes(alloc, case.nodes) {
+        Ok(nodes) => mapped(alloc, nodes, pods, pod, node, case.budget),
+        Err(error) => Err(error),
+    }
+}
+
+type Labelled = RelatedWatch<Api, ByLabel<DynamicObject>>;
+
+/// Adds a related source of this pod by its label.
+fn push_labelled(
+    alloc: Global,
+    list: &mut RelatedList<Labelled>,
+    row: Row,
+) -> Result<(), NoMemory> {
+    let label = Text::new(alloc, "app")?;
+    let dyntype = kind(alloc, "Node")?;
+    let (pods, pod) = pods(alloc, &[row])?;
+    let mapper = ByLabel { label, dyntype };
+    list.push(RelatedWatch::new(alloc, pods, watching(PLAIN), pod, mapper))?;
     Ok(())
 }
 
-/// Related sources of pods by their label, each with one of these, of which there are nine at most.
-fn labelled(
-    alloc: Global,
-    rows: &[Row],
-) -> Result<RelatedList<RelatedWatch<Api, ByLabel<DynamicObject>>>, NoMemory>
+/// Such sources, of which there are nine at most.
+fn all_labelled(alloc: Global, rows: &[Row]) -> Result<RelatedList<Labelled>, NoMemory>
     ensures { IfOk result (λ list. length list.items.items ≤ 9) }
 {
     let mut list = RelatedList::new(alloc);
     for row in rows {
-        let mapper = ByLabel {
-            label: Text::new(alloc, "app")?,
-            dyntype: kind(alloc, "Node")?,
-        };
-        let pods = api(alloc, &[*row])?;
-        let config = WatcherConfig::default();
-        list.push(RelatedWatch::new(alloc, pods, config, kind(alloc, "Pod")?, mapper))?;
+        push_labelled(alloc, &mut list, *row)?;
     }
     if list.items.len() > 9 {
         return Err(NoMemory);
@@ -261,29 +295,85 @@ fn labelled(
     Ok(list)
 }
 
-#[test]
-fn a_list_of_sources_is_asked_after_the_root(rt: HostRuntime) -> Result<(), Fail> {
-    let alloc = rt.alloc();
-    let list = labelled(alloc, &[("p", "", "", "a"), ("q", "", "", "")])?;
-    let controller = nodes(alloc, &[("a", "", "", "")])?.with_related(alloc, list);
-    let wanted = "0 1 2 0 
-Node.v1./a: related object updated: Pod.v1./p
-";
-    assert_eq!(rt; run(alloc, controller, &[2, 1, 1])?.as_str(), wanted);
-    Ok(())
+fn labelled(alloc: Global, nodes: Tested<NoRelated>, case: &Case) -> Result<String, NoMemory> {
+    match all_labelled(alloc, case.pods) {
+        Ok(list) => all_turned(alloc, nodes.with_related(alloc, list), case.budget),
+        Err(error) => Err(error),
+    }
 }
 
+fn by_label(alloc: Global, case: &Case) -> Result<String, NoMemory> {
+    match nodes(alloc, case.nodes) {
+        Ok(nodes) => labelled(alloc, nodes, case),
+        Err(error) => Err(error),
+    }
+}
+
+fn made(alloc: Global, case: &Case) -> Result<String, NoMemory> {
+    match case.by {
+        By::Owner => by_owner(alloc, case),
+        By::Function => by_function(alloc, case),
+        By::Label => by_label(alloc, case),
+    }
+}
+
+const CASES: [Case; 4] = [
+    // a pod with two references of its owner: with its namespace, and as the node is listed
+    Case {
+        name: "owners are requested in the object's namespace",
+        by: By::Owner,
+        nodes: &[("n", "", "", "")],
+        pods: &[("p", "ns", "n", "")],
+        budget: &[1, 1],
+        wanted: "0 1 
+Node.v1./n: object updated
+Node.v1./n.ns: related object updated: Pod.v1./p.ns
+1 ran
+",
+    },
+    Case {
+        name: "what a function answers is requested",
+        by: By::Function,
+        nodes: &[("a", "", "", ""), ("b", "", "", "")],
+        pods: &[("p", "", "", "a"), ("q", "", "", "b")],
+        budget: &[3, 2],
+        wanted: "0 1 0 1 0 
+Node.v1./a: related object updated: Pod.v1./p
+Node.v1./b: related object updated: Pod.v1./q
+1 ran
+",
+    },
+    Case {
+        name: "a list of sources is asked after the root",
+        by: By::Label,
+        nodes: &[("a", "", "", "")],
+        pods: &[("p", "", "", "a"), ("q", "", "", "")],
+        budget: &[2, 1, 1],
+        wanted: "0 1 2 0 
+Node.v1./a: related object updated: Pod.v1./p
+1 ran
+",
+    },
+    Case {
+        name: "a related object without a name ends the run",
+        by: By::Owner,
+        nodes: &[("n", "", "", "")],
+        pods: &[("", "ns", "n", "")],
+        budget: &[1, 1],
+        wanted: "0, then turn 0: source 1 unnamed
+",
+    },
+];
+
 #[test]
-fn a_related_object_without_a_name_ends_the_run(rt: HostRuntime) -> Result<(), Fail> {
-    let alloc = rt.alloc();
-    let pods = api(alloc, &[("", "ns", "n", "")])?;
-    let controller = nodes(alloc, &[("n", "", "", "")])?.owns_with(
-        alloc,
-        pods,
-        kind(alloc, "Pod")?,
-        WatcherConfig::default(),
-    )?;
-    let wanted = "unnamed in turn 0, source 1\n";
-    assert_eq!(rt; run(alloc, controller, &[1, 1])?.as_str(), wanted);
+fn related_objects_request_what_their_rows_say(rt: HostRuntime) -> Result<(), Fail> {
+    for case in &CASES {
+        assert_eq!(rt;
+            made(rt.alloc(), case)?.as_str(),
+            case.wanted,
+            "{}",
+            case.name
+        );
+    }
     Ok(())
 }

@@ -1,8 +1,10 @@
 //! APIs that answer by a table, controllers over them, and turns.
 
+ghost use Rattle.std.specs.Prelude.{◌+◌, ◌<◌, ◌^◌, length};
+
 use crate::{
-    Action, Backoff, Config, Controller, DefaultBackoff, Finish, NoRelated, RunError, Shutdown,
-    Trace, Turn, WatchRoot,
+    Action, Backoff, Config, Controller, DefaultBackoff, Finish, NoRelated, RelatedSet, RunError,
+    Shutdown, Trace, Turn, WatchRoot,
 };
 use kube_api::{
     ApiError, Bookmark, Page, ResultPage, Sequence, SequenceStep, Status, TestMode, WatchEvent,
@@ -77,25 +79,39 @@ pub enum Ask {
 /// A turn's moment, its budget, and what else is asked of it.
 pub type Given = (u64, u32, &'static [Ask]);
 
-/// The type of config maps.
-fn config_maps(alloc: Global) -> Result<Arc<ApiResource>, NoMemory> {
+/// A turn, and what its record tells; the empty text where it has none.
+pub type Row = (Given, &'static str);
+
+/// No debounce and no limit.
+pub const PLAIN: Settings = Settings {
+    streaming: false,
+    timeout: None,
+    debounce: 0,
+    concurrency: 0,
+};
+
+/// Silence for a thousand seconds.
+pub const QUIET: &[Told] = &[Told::Wait(1_000_000_000_000)];
+
+/// The type of this name.
+pub fn kind(alloc: Global, name: &str) -> Result<Arc<ApiResource>, NoMemory> {
     let resource = ApiResource {
         group: Text::new(alloc, "")?,
         version: Text::new(alloc, "v1")?,
         api_version: Text::new(alloc, "v1")?,
-        kind: Text::new(alloc, "ConfigMap")?,
-        plural: Text::new(alloc, "configmaps")?,
+        kind: Text::new(alloc, name)?,
+        plural: Text::new(alloc, name)?,
     };
     Ok(Arc::new(alloc, resource)?)
 }
 
 fn reference(alloc: Global, name: &str) -> Result<ObjectRef<DynamicObject>, NoMemory> {
-    let dyntype = config_maps(alloc)?;
+    let dyntype = kind(alloc, "ConfigMap")?;
     ObjectRef::new_with(alloc, name, dyntype)
 }
 
 /// A text that is absent where it is empty.
-fn some_text(alloc: Global, text: &str) -> Result<Option<Text>, NoMemory> {
+pub fn some_text(alloc: Global, text: &str) -> Result<Option<Text>, NoMemory> {
     if text.is_empty() {
         return Ok(None);
     }
@@ -104,9 +120,11 @@ fn some_text(alloc: Global, text: &str) -> Result<Option<Text>, NoMemory> {
 
 fn object(alloc: Global, named: Named) -> Result<Arc<DynamicObject>, NoMemory> {
     let (name, version) = named;
+    let name = some_text(alloc, name)?;
+    let resource_version = some_text(alloc, version)?;
     let metadata = ObjectMeta {
-        name: some_text(alloc, name)?,
-        resource_version: some_text(alloc, version)?,
+        name,
+        resource_version,
         ..ObjectMeta::empty()
     };
     Ok(Arc::new(alloc, DynamicObject::bare(metadata))?)
@@ -124,23 +142,35 @@ fn objects(alloc: Global, named: &[Named]) -> Result<Vec<Arc<DynamicObject>>, No
     Ok(objects)
 }
 
-fn page(
+fn empty_page(
     alloc: Global,
-    named: &[Named],
+    token: &str,
+    version: &str,
+) -> Result<ResultPage<DynamicObject>, NoMemory> {
+    ResultPage::empty(alloc)
+        .continue_token(alloc, Some(token))?
+        .resource_version(alloc, Some(version))
+}
+
+/// A page of these, with a token and a version.
+pub fn page(
+    alloc: Global,
+    objects: Vec<Arc<DynamicObject>>,
     token: &str,
     version: &str,
 ) -> Result<Page<DynamicObject>, NoMemory> {
-    let objects = objects(alloc, named)?;
-    let page = ResultPage::empty(alloc)
-        .continue_token(alloc, Some(token))?
-        .resource_version(alloc, Some(version))?
-        .items(objects);
-    Ok(page.into_page())
+    let page = empty_page(alloc, token, version)?;
+    Ok(page.items(objects).into_page())
 }
 
 fn list(alloc: Global, listed: Listed) -> Result<Result<Page<DynamicObject>, ApiError>, NoMemory> {
     match listed {
-        Listed::Page(named, token, version) => Ok(Ok(page(alloc, named, token, version)?)),
+        Listed::Page(named, token, version) => Ok(Ok(page(
+            alloc,
+            objects(alloc, named)?,
+            token,
+            version,
+        )?)),
         Listed::Fault => Ok(Err(transport(alloc)?)),
     }
 }
@@ -148,14 +178,12 @@ fn list(alloc: Global, listed: Listed) -> Result<Result<Page<DynamicObject>, Api
 fn bookmark(alloc: Global, version: &str, ending: bool) -> Result<Bookmark, NoMemory> {
     let mut annotations = TextMap::new(alloc);
     if ending {
-        annotations.insert(
-            alloc,
-            "k8s.io/initial-events-end",
-            Text::new(alloc, "true")?,
-        )?;
+        let text = Text::new(alloc, "true")?;
+        annotations.insert(alloc, "k8s.io/initial-events-end", text)?;
     }
+    let version = Text::new(alloc, version)?;
     Ok(Bookmark {
-        version: Text::new(alloc, version)?,
+        version,
         annotations,
     })
 }
@@ -193,7 +221,7 @@ fn step(alloc: Global, told: Told) -> Result<SequenceStep<DynamicObject>, NoMemo
     Ok(SequenceStep::List(VecDeque::from_vec(events)))
 }
 
-fn watch(alloc: Global, told: &[Told]) -> Result<Sequence<DynamicObject>, NoMemory> {
+pub fn watch(alloc: Global, told: &[Told]) -> Result<Sequence<DynamicObject>, NoMemory> {
     let mut steps = Vec::new(alloc);
     for one in told {
         steps.push(step(alloc, *one)?)?;
@@ -212,6 +240,14 @@ fn lists(
     Ok(lists)
 }
 
+fn watches(alloc: Global, watched: &[&[Told]]) -> Result<Vec<Sequence<DynamicObject>>, NoMemory> {
+    let mut watches = Vec::new(alloc);
+    for told in watched {
+        watches.push(watch(alloc, told)?)?;
+    }
+    Ok(watches)
+}
+
 /// An API that answers lists and watches by these tables.
 fn api(
     alloc: Global,
@@ -219,14 +255,11 @@ fn api(
     watched: &[&[Told]],
 ) -> Result<TestMode<DynamicObject>, NoMemory> {
     let lists = lists(alloc, listed)?;
-    let mut watches = Vec::new(alloc);
-    for told in watched {
-        watches.push(watch(alloc, told)?)?;
-    }
+    let watches = watches(alloc, watched)?;
     Ok(TestMode::new(alloc, lists, watches))
 }
 
-fn watching(settings: Settings) -> WatcherConfig {
+pub fn watching(settings: Settings) -> WatcherConfig {
     WatcherConfig {
         timeout: settings.timeout,
         initial_list_strategy: if settings.streaming {
@@ -238,6 +271,12 @@ fn watching(settings: Settings) -> WatcherConfig {
     }
 }
 
+fn taking(settings: Settings) -> Config {
+    Config::default()
+        .debounce(settings.debounce)
+        .concurrency(settings.concurrency)
+}
+
 /// A controller of such an API.
 pub fn controller(
     alloc: Global,
@@ -245,13 +284,12 @@ pub fn controller(
     listed: &[Listed],
     watched: &[&[Told]],
 ) -> Result<Tested<DefaultBackoff>, NoMemory> {
-    let dyntype = config_maps(alloc)?;
+    let dyntype = kind(alloc, "ConfigMap")?;
     let api = api(alloc, listed, watched)?;
-    let controller = Controller::new_with(alloc, api, watching(settings), dyntype)?;
-    let config = Config::default()
-        .debounce(settings.debounce)
-        .concurrency(settings.concurrency);
-    Ok(controller.with_config(alloc, config))
+    match Controller::new_with(alloc, api, watching(settings), dyntype) {
+        Ok(controller) => Ok(controller.with_config(alloc, taking(settings))),
+        Err(error) => Err(error),
+    }
 }
 
 fn finish(
@@ -282,51 +320,67 @@ fn apply(alloc: Global, turn: &mut Turn<DynamicObject, u64>, ask: Ask) -> Result
     Ok(())
 }
 
-fn bare_turn(alloc: Global, at: u64, budget: u32) -> Result<Turn<DynamicObject, u64>, NoMemory> {
+fn budgets(alloc: Global, numbers: &[u32]) -> Result<List<u32>, NoMemory> {
     let mut budgets = List::new(alloc);
-    budgets.push(budget)?;
+    for one in numbers {
+        budgets.push(*one)?;
+    }
+    Ok(budgets)
+}
+
+/// A turn with a budget for each source and nothing else, whose record shows the store or doesn't.
+pub fn bare_turn(
+    alloc: Global,
+    at: u64,
+    budget: &[u32],
+    show: bool,
+) -> Result<Turn<DynamicObject, u64>, NoMemory> {
+    let budget = budgets(alloc, budget)?;
     Ok(Turn {
         at: Moment(at),
-        budget: budgets,
+        budget,
         finishes: List::new(alloc),
         reload: false,
         on: List::new(alloc),
         shutdown: Shutdown::No,
-        show: true,
+        show,
     })
 }
 
 fn turn(alloc: Global, given: Given) -> Result<Turn<DynamicObject, u64>, NoMemory> {
     let (at, budget, asks) = given;
-    let mut turn = bare_turn(alloc, at, budget)?;
+    let mut turn = bare_turn(alloc, at, &[budget], true)?;
     for one in asks {
         apply(alloc, &mut turn, *one)?;
     }
     Ok(turn)
 }
 
-fn turns(alloc: Global, given: &[Given]) -> Result<Vec<Turn<DynamicObject, u64>>, NoMemory> {
+pub fn turns(alloc: Global, rows: &[Row]) -> Result<Vec<Turn<DynamicObject, u64>>, NoMemory> {
     let mut turns = Vec::new(alloc);
-    for one in given {
-        turns.push(turn(alloc, *one)?)?;
+    for (given, _told) in rows {
+        turns.push(turn(alloc, *given)?)?;
     }
     Ok(turns)
 }
 
-/// A run over these turns, of which there are nine at most.
-pub fn run<B: Backoff>(
+/// A run over these turns, of which there are nine at most. What failed is made again after as many nanoseconds as its error
+/// says.
+pub fn run<S: RelatedSet<DynamicObject>, B: Backoff>(
     alloc: Global,
-    controller: &mut Tested<B>,
+    controller: &mut Controller<Root, S, B>,
     recorder: &mut Recorder<DynamicObject>,
-    given: &[Given],
-) -> Result<Answered, NoMemory> {
+    turns: Vec<Turn<DynamicObject, u64>>,
+) -> Result<Answered, NoMemory>
+    requires few { length (S.feeds controller.old.asks.related) + 1 < 2 ^ 32 }
+    requires may { S.can_poll controller.old.asks.related }
+{
+    if turns.len() > 9 {
+        return Err(NoMemory);
+    }
     let context = Arc::new(alloc, ())?;
     let policy = |_object: Arc<DynamicObject>, error: &u64, _context: Arc<()>| Action::requeue(
         *error,
     );
-    let turns = turns(alloc, given)?;
-    if turns.len() > 9 {
-        return Err(NoMemory);
-    }
     Ok(controller.run(alloc, recorder, &policy, context, turns))
 }

@@ -10,6 +10,11 @@ use kube_step::Recorder;
 use std::alloc::{AllocError, Global};
 use std::sync::Arc;
 
+pub fn add_line(lines: &mut String, line: &str) -> Result<(), AllocError> {
+    lines.push_str(line)?;
+    lines.push_str("\n")
+}
+
 /// Adds a text behind the others of a list.
 fn add(list: &mut String, text: &str) -> Result<(), AllocError> {
     if !list.is_empty() {
@@ -186,7 +191,7 @@ fn shown(alloc: Global, record: &TurnRecord<DynamicObject, u64>) -> Result<Strin
     format!(in alloc; "{finished}; {exchanges}; {stop}; {taken}; {store}{end}")
 }
 
-fn records(answered: &Answered) -> &[TurnRecord<DynamicObject, u64>] {
+pub fn records(answered: &Answered) -> &[TurnRecord<DynamicObject, u64>] {
     match answered {
         Ok(trace) => trace.records.as_slice(),
         Err(RunError::NoMemory { trace }) => trace.records.as_slice(),
@@ -197,7 +202,7 @@ fn records(answered: &Answered) -> &[TurnRecord<DynamicObject, u64>] {
 }
 
 /// What the record of a turn tells; nothing where there is none.
-pub fn shown_at(alloc: Global, answered: &Answered, turn: usize) -> Result<String, AllocError> {
+fn shown_at(alloc: Global, answered: &Answered, turn: usize) -> Result<String, AllocError> {
     match records(answered).get(turn) {
         Some(record) => shown(alloc, record),
         None => Ok(String::new(alloc)),
@@ -233,6 +238,16 @@ pub fn end(alloc: Global, answered: &Answered) -> Result<String, AllocError> {
         }
         Err(RunError::Spent { .. }) => format!(in alloc; "{count}, spent"),
     }
+}
+
+/// What the records of so many turns tell, and how the run ended, a line each.
+pub fn told(alloc: Global, answered: &Answered, turns: usize) -> Result<String, AllocError> {
+    let mut lines = String::new(alloc);
+    for turn in 0..turns {
+        add_line(&mut lines, shown_at(alloc, answered, turn)?.as_str())?;
+    }
+    add_line(&mut lines, end(alloc, answered)?.as_str())?;
+    Ok(lines)
 }
 
 /// What was handed over.

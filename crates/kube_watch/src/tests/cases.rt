@@ -1,11 +1,11 @@
 //! Each row of the watcher's table, as a script and what is made of it.
 
-use super::script::{Case, Given, Listing, check};
+use super::script::{Case, Given, Listing, lines, made};
 use std::test::Fail;
 
-const LISTS: [Case; 3] = [
-    // pages, and watches that can't be opened
+const CASES: [Case; 16] = [
     Case {
+        name: "pages, and watches that can't be opened",
         streaming: false,
         timeout: None,
         lists: &[
@@ -17,12 +17,12 @@ const LISTS: [Case; 3] = [
         wanted: &[
             "list, page <t>,: Init InitApply(a)",
             "list <t>, page, <9>: InitApply(b) InitDone",
-            "watch <9>, fault: WatchStartFailed",
-            "watch <9>, fault: WatchStartFailed",
+            "watch <9>, fault: WatchStartFailed, used up",
+            "watch <9>, fault: WatchStartFailed, used up",
         ],
     },
-    // a page with token and version goes on, and is no completion
     Case {
+        name: "a page with token and version goes on, and is no completion",
         streaming: false,
         timeout: None,
         lists: &[
@@ -36,11 +36,11 @@ const LISTS: [Case; 3] = [
             "list, page <t>, <5>: Init InitApply(a) InitApply(b)",
             "list <t>, page <u>, <6>:",
             "list <u>, page, <7>: InitApply(c) InitDone",
-            "watch <7>, fault: WatchStartFailed",
+            "watch <7>, fault: WatchStartFailed, used up",
         ],
     },
-    // pages with neither token nor version, and failed lists
     Case {
+        name: "pages with neither token nor version, and failed lists",
         streaming: false,
         timeout: None,
         lists: &[
@@ -64,19 +64,8 @@ const LISTS: [Case; 3] = [
             "list, page, <2>: Init InitDone",
         ],
     },
-];
-
-#[test]
-fn lists_page_by_page(rt: HostRuntime) -> Result<(), Fail> {
-    for case in &LISTS {
-        check(&rt, rt.alloc(), case)?;
-    }
-    Ok(())
-}
-
-const WATCHES: [Case; 6] = [
-    // a later watch, which goes on from the version that was seen last
     Case {
+        name: "a later watch, which goes on from the version that was seen last",
         streaming: false,
         timeout: None,
         lists: &[Listing::Page(&["a"], "", "1")],
@@ -106,11 +95,11 @@ const WATCHES: [Case; 6] = [
             "next, end:",
             "watch <5>, opened:",
             "next, end:",
-            "watch <5>, fault: WatchStartFailed",
+            "watch <5>, fault: WatchStartFailed, used up",
         ],
     },
-    // an item of code 410 starts anew
     Case {
+        name: "an item of code 410 starts anew",
         streaming: false,
         timeout: None,
         lists: &[
@@ -126,8 +115,8 @@ const WATCHES: [Case; 6] = [
             "list, page, <7>: Init InitApply(b) InitDone",
         ],
     },
-    // an item of a later watch without version starts anew: Added
     Case {
+        name: "an item of a later watch without version starts anew: Added",
         streaming: false,
         timeout: None,
         lists: &[Listing::Page(&[], "", "1"), Listing::Page(&[], "", "2")],
@@ -140,8 +129,8 @@ const WATCHES: [Case; 6] = [
             "list, page, <2>: Init InitDone",
         ],
     },
-    // an item of a later watch without version starts anew: Modified
     Case {
+        name: "an item of a later watch without version starts anew: Modified",
         streaming: false,
         timeout: None,
         lists: &[Listing::Page(&[], "", "1"), Listing::Page(&[], "", "2")],
@@ -154,8 +143,8 @@ const WATCHES: [Case; 6] = [
             "list, page, <2>: Init InitDone",
         ],
     },
-    // an item of a later watch without version starts anew: Deleted
     Case {
+        name: "an item of a later watch without version starts anew: Deleted",
         streaming: false,
         timeout: None,
         lists: &[Listing::Page(&[], "", "1"), Listing::Page(&[], "", "2")],
@@ -168,8 +157,8 @@ const WATCHES: [Case; 6] = [
             "list, page, <2>: Init InitDone",
         ],
     },
-    // a bookmark's version is kept also where it is empty; an ending one is a bookmark
     Case {
+        name: "a bookmark's version is kept also where it is empty; an ending one is a bookmark",
         streaming: false,
         timeout: None,
         lists: &[Listing::Page(&[], "", "1")],
@@ -187,22 +176,11 @@ const WATCHES: [Case; 6] = [
             "watch <>, opened:",
             "next, ending <6>:",
             "next, end:",
-            "watch <6>, fault: WatchStartFailed",
+            "watch <6>, fault: WatchStartFailed, used up",
         ],
     },
-];
-
-#[test]
-fn later_watches(rt: HostRuntime) -> Result<(), Fail> {
-    for case in &WATCHES {
-        check(&rt, rt.alloc(), case)?;
-    }
-    Ok(())
-}
-
-const WINDOWS: [Case; 3] = [
-    // a silent watch is started again
     Case {
+        name: "a silent watch is started again",
         streaming: false,
         timeout: None,
         lists: &[Listing::Page(&["a"], "", "1")],
@@ -217,8 +195,8 @@ const WINDOWS: [Case; 3] = [
             "watch <1>, opened:",
         ],
     },
-    // an item that is there comes also past the window, and the silence begins anew after it
     Case {
+        name: "an item that is there comes also past the window, and the silence begins anew after it",
         streaming: false,
         timeout: Some(1),
         lists: &[Listing::Page(&[], "", "1")],
@@ -246,8 +224,8 @@ const WINDOWS: [Case; 3] = [
             "next, idle:",
         ],
     },
-    // with timeout 0 no watch is too silent
     Case {
+        name: "with timeout 0 no watch is too silent",
         streaming: false,
         timeout: Some(0),
         lists: &[Listing::Page(&[], "", "1")],
@@ -260,19 +238,8 @@ const WINDOWS: [Case; 3] = [
             "next, not ready:",
         ],
     },
-];
-
-#[test]
-fn the_idle_window(rt: HostRuntime) -> Result<(), Fail> {
-    for case in &WINDOWS {
-        check(&rt, rt.alloc(), case)?;
-    }
-    Ok(())
-}
-
-const STARTS: [Case; 3] = [
-    // a start by a watch, and what it gives up to the ending bookmark
     Case {
+        name: "a start by a watch, and what it gives up to the ending bookmark",
         streaming: true,
         timeout: None,
         lists: &[],
@@ -300,11 +267,11 @@ const STARTS: [Case; 3] = [
             "next, ending <>: InitDone",
             "next, added <4>: Apply(b)",
             "next, end:",
-            "watch <4>, fault: WatchStartFailed",
+            "watch <4>, fault: WatchStartFailed, used up",
         ],
     },
-    // a start by a watch that fails, ends, is too old or silent is made again
     Case {
+        name: "a start by a watch that fails, ends, is too old or silent is made again",
         streaming: true,
         timeout: Some(1),
         lists: &[],
@@ -344,24 +311,38 @@ const STARTS: [Case; 3] = [
             "next, end:",
         ],
     },
-    // no watch to start by
     Case {
+        name: "no watch to start by",
         streaming: true,
         timeout: None,
         lists: &[],
         watches: &[],
         polls: &[0, 0],
         wanted: &[
-            "start <0>, fault: WatchStartFailed",
-            "start <0>, fault: WatchStartFailed",
+            "start <0>, fault: WatchStartFailed, used up",
+            "start <0>, fault: WatchStartFailed, used up",
+        ],
+    },
+    Case {
+        name: "a script that is used up is no failure",
+        streaming: false,
+        timeout: None,
+        lists: &[Listing::Page(&[], "", "9"), Listing::Fault],
+        watches: &[],
+        polls: &[0, 0],
+        wanted: &[
+            "list, page, <9>: Init InitDone",
+            "watch <9>, fault: WatchStartFailed, used up",
         ],
     },
 ];
 
 #[test]
-fn starts_by_a_watch(rt: HostRuntime) -> Result<(), Fail> {
-    for case in &STARTS {
-        check(&rt, rt.alloc(), case)?;
+fn each_script_makes_the_units_of_its_row(rt: HostRuntime) -> Result<(), Fail> {
+    for case in &CASES {
+        let made = made(rt.alloc(), case)?;
+        let wanted = lines(rt.alloc(), case.wanted)?;
+        assert_eq!(rt; made.as_str(), wanted.as_str(), "{}", case.name);
     }
     Ok(())
 }

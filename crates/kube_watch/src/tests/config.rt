@@ -2,33 +2,43 @@
 
 use crate::{Config, InitialListStrategy, ListSemantic};
 use kube_meta::{Expression, NoMemory, Selector, Text};
-use std::alloc::Global;
+use std::alloc::{AllocError, Global};
 use std::test::Fail;
+
+fn shown_settings(alloc: Global, config: &Config) -> Result<String, AllocError> {
+    format!(in alloc; "{config:?}")
+}
+
+fn shown_once(alloc: Global, config: Config) -> Result<String, AllocError> {
+    shown_settings(alloc, &config)
+}
+
+fn shown(alloc: Global, config: Result<Config, NoMemory>) -> Result<String, NoMemory> {
+    match config {
+        Ok(config) => Ok(shown_once(alloc, config)?),
+        Err(error) => Err(error),
+    }
+}
+
+fn set_one_by_one(alloc: Global) -> Result<Config, NoMemory> {
+    Ok(
+        Config::default()
+            .timeout(30)
+            .fields(alloc, "metadata.name=a")?
+            .labels(alloc, "app=b")?
+            .page_size(7)
+            .disable_bookmarks()
+            .any_semantic()
+            .streaming_lists(),
+    )
+}
 
 #[test]
 fn settings_are_made_one_by_one(rt: HostRuntime) -> Result<(), Fail> {
-    let alloc = rt.alloc();
-    let config = Config::default()
-        .timeout(30)
-        .fields(alloc, "metadata.name=a")?
-        .labels(alloc, "app=b")?
-        .page_size(7)
-        .disable_bookmarks()
-        .any_semantic()
-        .streaming_lists();
-    assert_eq!(rt; config.timeout, Some(30));
-    assert_eq!(rt;
-        config.field_selector.as_ref().map(|t| t.as_str()),
-        Some("metadata.name=a")
-    );
-    assert_eq!(rt;
-        config.label_selector.as_ref().map(|t| t.as_str()),
-        Some("app=b")
-    );
-    assert_eq!(rt; config.page_size, Some(7));
-    assert!(rt; !config.bookmarks);
-    assert!(rt; config.list_semantic == ListSemantic::Any);
-    assert!(rt; config.initial_list_strategy == InitialListStrategy::StreamingList);
+    let shown = shown(rt.alloc(), set_one_by_one(rt.alloc()))?;
+    let wanted =
+        "Config { label_selector: Some(Text { inner: \"app=b\" }), field_selector: Some(Text { inner: \"metadata.name=a\" }), timeout: Some(30), list_semantic: Any, initial_list_strategy: StreamingList, page_size: Some(7), bookmarks: false }";
+    assert_eq!(rt; shown.as_str(), wanted);
     Ok(())
 }
 
@@ -53,13 +63,16 @@ fn stable(alloc: Global) -> Result<Selector, NoMemory> {
     Ok(selector)
 }
 
+fn with_labels(alloc: Global) -> Result<Config, NoMemory> {
+    let stable = stable(alloc)?;
+    Config::default().labels_from(alloc, &stable)
+}
+
 #[test]
 fn a_selector_gives_its_text(rt: HostRuntime) -> Result<(), Fail> {
-    let alloc = rt.alloc();
-    let config = Config::default().labels_from(alloc, &stable(alloc)?)?;
-    assert_eq!(rt;
-        config.label_selector.as_ref().map(|t| t.as_str()),
-        Some("app,!canary")
-    );
+    let shown = shown(rt.alloc(), with_labels(rt.alloc()))?;
+    let wanted =
+        "Config { label_selector: Some(Text { inner: \"app,!canary\" }), field_selector: None, timeout: None, list_semantic: MostRecent, initial_list_strategy: ListWatch, page_size: Some(500), bookmarks: true }";
+    assert_eq!(rt; shown.as_str(), wanted);
     Ok(())
 }

@@ -2,13 +2,12 @@
 
 use super::script::object;
 use crate::Event;
-use kube_meta::DynamicObject;
+use kube_meta::{DynamicObject, NoMemory};
 use std::alloc::Global;
-use std::process::Abort;
 use std::sync::Arc;
 use std::test::Fail;
 
-/// The event's number, and a word for an event.
+/// A word for an event, and its number.
 fn shown(event: &Event<u32>) -> (&str, u32) {
     match event {
         Event::Apply(number) => ("apply", *number),
@@ -19,46 +18,54 @@ fn shown(event: &Event<u32>) -> (&str, u32) {
     }
 }
 
-fn check_modified(rt: &impl Abort, event: Event<u32>, word: &str, number: u32) -> Result<(), Fail> {
-    let modified = event.modify(|number| *number = number.wrapping_add(1));
-    let (shown_word, shown_number) = shown(&modified);
-    assert_eq!(rt; shown_word, word);
-    assert_eq!(rt; shown_number, number);
-    Ok(())
+/// The event after its object was changed.
+fn modified(event: Event<u32>) -> Event<u32> {
+    event.modify(|number| *number = number.wrapping_add(1))
 }
 
 #[test]
-fn objects_are_changed_in_their_events(rt: HostRuntime) -> Result<(), Fail> {
-    check_modified(&rt, Event::Apply(0), "apply", 1)?;
-    check_modified(&rt, Event::Delete(1), "delete", 2)?;
-    check_modified(&rt, Event::InitApply(10), "init apply", 11)?;
-    check_modified(&rt, Event::Init, "init", 0)?;
-    check_modified(&rt, Event::InitDone, "init done", 0)
+fn objects_are_changed_in_their_events(rt: HostRuntime) {
+    assert_eq!(rt; shown(&modified(Event::Apply(0))), ("apply", 1));
+    assert_eq!(rt; shown(&modified(Event::Delete(1))), ("delete", 2));
+    assert_eq!(rt; shown(&modified(Event::InitApply(10))), ("init apply", 11));
+    assert_eq!(rt; shown(&modified(Event::Init)), ("init", 0));
+    assert_eq!(rt; shown(&modified(Event::InitDone)), ("init done", 0));
 }
 
-/// The event and its copy are shown so.
-fn check_shown(
-    rt: &impl Abort,
-    alloc: Global,
-    event: &Event<Arc<DynamicObject>>,
-    wanted: &str,
-) -> Result<(), Fail> {
-    let shown = format!(in alloc; "{event}")?;
-    assert_eq!(rt; shown.as_str(), wanted);
-    let copy = event.copy()?;
-    let shown = format!(in alloc; "{copy}")?;
-    assert_eq!(rt; shown.as_str(), wanted);
-    Ok(())
+/// A name and a version; the empty text for none.
+type Named = (&'static str, &'static str);
+
+/// The event of an object with this name and version.
+fn named(alloc: Global, event: &Event<Named>) -> Result<Event<Arc<DynamicObject>>, NoMemory> {
+    Ok(match event {
+        Event::Apply(named) => Event::Apply(object(alloc, named.0, named.1)?),
+        Event::Delete(named) => Event::Delete(object(alloc, named.0, named.1)?),
+        Event::Init => Event::Init,
+        Event::InitApply(named) => Event::InitApply(object(alloc, named.0, named.1)?),
+        Event::InitDone => Event::InitDone,
+    })
 }
+
+/// How an event is shown, and how its copy is.
+fn shown_twice(alloc: Global, event: &Event<Named>) -> Result<String, NoMemory> {
+    let event = named(alloc, event)?;
+    let copy = event.copy()?;
+    Ok(format!(in alloc; "{event}, {copy}")?)
+}
+
+const EVENTS: [(Event<Named>, &str); 6] = [
+    (Event::Apply(("a", "1")), "Apply(a), Apply(a)"),
+    (Event::Delete(("a", "1")), "Delete(a), Delete(a)"),
+    (Event::InitApply(("a", "1")), "InitApply(a), InitApply(a)"),
+    (Event::Apply(("", "")), "Apply(), Apply()"),
+    (Event::Init, "Init, Init"),
+    (Event::InitDone, "InitDone, InitDone"),
+];
 
 #[test]
 fn events_are_shown_by_kind_and_name(rt: HostRuntime) -> Result<(), Fail> {
-    let alloc = rt.alloc();
-    let named = object(alloc, "a", "1")?;
-    check_shown(&rt, alloc, &Event::Apply(named.clone()?), "Apply(a)")?;
-    check_shown(&rt, alloc, &Event::Delete(named.clone()?), "Delete(a)")?;
-    check_shown(&rt, alloc, &Event::InitApply(named), "InitApply(a)")?;
-    check_shown(&rt, alloc, &Event::Apply(object(alloc, "", "")?), "Apply()")?;
-    check_shown(&rt, alloc, &Event::Init, "Init")?;
-    check_shown(&rt, alloc, &Event::InitDone, "InitDone")
+    for (event, wanted) in &EVENTS {
+        assert_eq!(rt; shown_twice(rt.alloc(), event)?.as_str(), *wanted);
+    }
+    Ok(())
 }

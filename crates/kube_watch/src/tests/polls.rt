@@ -1,24 +1,65 @@
-//! Polls for one event or error, and for one object.
+//! Polls of a watcher, of each kind, and the parameters of its calls.
 
-use super::script::{Given, Listing, api};
-use crate::{
-    Config, Error, Event, EventStream, StreamFault, WatchObject, Watcher,
-    error_indicates_graceful_watch_seq_exhaustion, watch_object,
-};
-use kube_api::TestMode;
-use kube_meta::{DynamicObject, Moment, Next};
+use super::params::add_calls;
+use super::script::{Api, Given, Listing, add_line, api, lines, shown_error, unit};
+use crate::watcher::watcher;
+use crate::{Config, Error, Event, EventStream, StreamFault, Watcher};
+use kube_meta::{DynamicObject, Moment, Next, NoMemory};
 use std::alloc::{AllocError, Global};
-use std::process::Abort;
 use std::sync::Arc;
 use std::test::Fail;
 
-fn shown_error(error: &Error) -> &str {
-    match error {
-        Error::InitialListFailed(_) => "InitialListFailed",
-        Error::WatchStartFailed(_) => "WatchStartFailed",
-        Error::WatchError(_) => "WatchError",
-        Error::WatchFailed(_) => "WatchFailed",
-        Error::NoResourceVersion => "NoResourceVersion",
+/// How a watcher is configured: by default, or with selectors, a timeout of 30 seconds and pages of 7, of which lists are of
+/// the newest version, of any version, or not made, since it starts by a watch.
+#[derive(Clone, Copy)]
+enum Settings {
+    Default,
+    Newest,
+    Any,
+    Watch,
+}
+
+#[derive(Clone, Copy)]
+enum Poll {
+    /// For one call.
+    Unit,
+    /// For one event or error, with this fuel. It tells how many calls were made by then too.
+    Next(u32),
+    /// The same of a watcher as a stream, with a fuel of 1.
+    Streamed,
+    /// Lends it another API, which answers by these lists.
+    Lend(&'static [Listing]),
+    /// For so many calls. It tells the parameters of all calls that were made.
+    Calls(usize),
+}
+
+/// A script, how a watcher over it is configured and polled, and what it tells.
+#[derive(Drop)]
+struct Case {
+    name: &'static str,
+    settings: Settings,
+    lists: &'static [Listing],
+    watches: &'static [&'static [Given]],
+    polls: &'static [Poll],
+    wanted: &'static [&'static str],
+}
+
+fn selecting(alloc: Global) -> Result<Config, NoMemory> {
+    Ok(
+        Config::default()
+            .timeout(30)
+            .fields(alloc, "metadata.name=a")?
+            .labels(alloc, "app=b")?
+            .page_size(7),
+    )
+}
+
+fn config(alloc: Global, settings: Settings) -> Result<Config, NoMemory> {
+    match settings {
+        Settings::Default => Ok(Config::default()),
+        Settings::Newest => selecting(alloc),
+        Settings::Any => Ok(selecting(alloc)?.any_semantic()),
+        Settings::Watch => Ok(selecting(alloc)?.streaming_lists()),
     }
 }
 
@@ -44,101 +85,35 @@ fn shown(
     }
 }
 
-/// A poll: its fuel, its answer, and how many calls were made when it ended.
-#[derive(Clone, Copy)]
-struct Poll(u32, &'static str, usize);
-
-fn check_poll(
-    rt: &impl Abort,
+fn shown_once(
     alloc: Global,
-    watcher: &mut Watcher<TestMode<DynamicObject>>,
-    poll: Poll,
-) -> Result<(), Fail> {
-    let Poll(fuel, wanted, calls) = poll;
-    let answer = watcher.poll_next(alloc, Moment(0), fuel)?;
-    let shown = shown(alloc, &answer)?;
-    assert_eq!(rt; shown.as_str(), wanted);
-    assert_eq!(rt; watcher.api_mut().get_recordings().len(), calls);
-    Ok(())
+    answer: Next<Result<Event<Arc<DynamicObject>>, Error>>,
+) -> Result<String, AllocError> {
+    shown(alloc, &answer)
 }
 
-fn check_polls(
-    rt: &impl Abort,
+fn next(alloc: Global, watcher: &mut Watcher<Api>, fuel: u32) -> Result<String, NoMemory> {
+    match watcher.poll_next(alloc, Moment(0), fuel) {
+        Ok(answer) => Ok(shown_once(alloc, answer)?),
+        Err(error) => Err(error),
+    }
+}
+
+fn count_of_calls(watcher: &mut Watcher<Api>) -> usize {
+    watcher.api_mut().get_recordings().len()
+}
+
+fn next_and_calls(
     alloc: Global,
-    watcher: &mut Watcher<TestMode<DynamicObject>>,
-    polls: &[Poll],
-) -> Result<(), Fail> {
-    for poll in polls {
-        check_poll(rt, alloc, watcher, *poll)?;
-    }
-    Ok(())
+    watcher: &mut Watcher<Api>,
+    fuel: u32,
+) -> Result<String, NoMemory> {
+    let answer = next(alloc, watcher, fuel)?;
+    let calls = count_of_calls(watcher);
+    Ok(format!(in alloc; "{answer}, {calls}")?)
 }
 
-/// A script, and how polls of a watcher over it are answered.
-#[derive(Drop)]
-struct Polls {
-    lists: &'static [Listing],
-    watches: &'static [&'static [Given]],
-    polls: &'static [Poll],
-}
-
-fn check(rt: &impl Abort, alloc: Global, case: &Polls) -> Result<(), Fail> {
-    let api = api(alloc, case.lists, case.watches)?;
-    let mut watcher = crate::watcher::watcher(alloc, api, Config::default());
-    check_polls(rt, alloc, &mut watcher, case.polls)
-}
-
-const POLLS: [Polls; 3] = [
-    // bookmarks alone spend the fuel
-    Polls {
-        lists: &[Listing::Page(&[], "", "1")],
-        watches: &[&[Given::Bookmark("5"), Given::Bookmark("6")]],
-        polls: &[
-            Poll(2, "Init", 1),
-            Poll(2, "InitDone", 1),
-            Poll(2, "spent", 3),
-        ],
-    },
-    // events of a page come one by one
-    Polls {
-        lists: &[Listing::Page(&["a", "b"], "", "1")],
-        watches: &[&[Given::Wait(5)]],
-        polls: &[
-            Poll(1, "Init", 1),
-            Poll(1, "InitApply(a)", 1),
-            Poll(1, "InitApply(b)", 1),
-            Poll(1, "InitDone", 1),
-            Poll(1, "spent", 2),
-            Poll(9, "not ready", 3),
-        ],
-    },
-    // an error comes after the events before it
-    Polls {
-        lists: &[
-            Listing::Page(&["a"], "", ""),
-            Listing::Page(&["b"], "", "1"),
-        ],
-        watches: &[],
-        polls: &[
-            Poll(1, "Init", 1),
-            Poll(1, "NoResourceVersion", 1),
-            Poll(1, "Init", 2),
-            Poll(1, "InitApply(b)", 2),
-            Poll(1, "InitDone", 2),
-            Poll(1, "WatchStartFailed", 3),
-        ],
-    },
-];
-
-#[test]
-fn polls_give_one_event_or_error_each(rt: HostRuntime) -> Result<(), Fail> {
-    for case in &POLLS {
-        check(&rt, rt.alloc(), case)?;
-    }
-    Ok(())
-}
-
-fn check_stream<S: EventStream>(
+fn poll_stream<S: EventStream>(
     alloc: Global,
     stream: &mut S,
 ) -> Result<Next<Result<S::Item, Error>>, StreamFault>
@@ -147,164 +122,203 @@ fn check_stream<S: EventStream>(
     stream.poll_next(alloc, Moment(0), 1)
 }
 
-fn check_first(
-    rt: &impl Abort,
+fn streamed(alloc: Global, watcher: &mut Watcher<Api>) -> Result<String, NoMemory> {
+    match poll_stream(alloc, watcher) {
+        Ok(answer) => Ok(shown_once(alloc, answer)?),
+        Err(_) => Err(NoMemory),
+    }
+}
+
+fn lend(alloc: Global, watcher: &mut Watcher<Api>, lists: &[Listing]) -> Result<(), NoMemory> {
+    *watcher.api_mut() = api(alloc, lists, &[])?;
+    Ok(())
+}
+
+/// Polls, and adds the parameters of all calls that were made.
+fn add_polled_calls(
     alloc: Global,
-    watcher: &mut Watcher<TestMode<DynamicObject>>,
-) -> Result<(), Fail> {
-    match check_stream(alloc, watcher) {
-        Ok(Next::Item(Ok(Event::Init))) => {}
-        _ => assert!(rt; false),
+    watcher: &mut Watcher<Api>,
+    polls: usize,
+    lines: &mut String,
+) -> Result<(), NoMemory> {
+    for _poll in 0..polls {
+        let _told = unit(alloc, watcher, 0)?;
+    }
+    add_calls(alloc, watcher.api_mut().get_recordings(), lines)?;
+    Ok(())
+}
+
+/// Polls, and adds what that tells.
+fn add_poll(
+    alloc: Global,
+    watcher: &mut Watcher<Api>,
+    poll: Poll,
+    lines: &mut String,
+) -> Result<(), NoMemory> {
+    match poll {
+        Poll::Unit => add_line(lines, unit(alloc, watcher, 0)?.as_str())?,
+        Poll::Next(fuel) => add_line(lines, next_and_calls(alloc, watcher, fuel)?.as_str())?,
+        Poll::Streamed => add_line(lines, streamed(alloc, watcher)?.as_str())?,
+        Poll::Lend(lists) => lend(alloc, watcher, lists)?,
+        Poll::Calls(polls) => add_polled_calls(alloc, watcher, polls, lines)?,
     }
     Ok(())
 }
 
-#[test]
-fn a_watcher_is_a_stream(rt: HostRuntime) -> Result<(), Fail> {
-    let alloc = rt.alloc();
-    let api = api(alloc, &[Listing::Page(&[], "", "1")], &[])?;
-    let mut watcher = crate::watcher::watcher(alloc, api, Config::default());
-    check_first(&rt, alloc, &mut watcher)
-}
-
-/// The watch that can't be opened fails as a script does that is used up.
-fn check_used_up(
-    rt: &impl Abort,
-    alloc: Global,
-    watcher: &mut Watcher<TestMode<DynamicObject>>,
-) -> Result<(), Fail> {
-    let page = watcher.poll_unit(alloc, Moment(0))?;
-    assert!(rt; page.error.is_none());
-    check_graceful(rt, alloc, watcher)
-}
-
-fn check_graceful(
-    rt: &impl Abort,
-    alloc: Global,
-    watcher: &mut Watcher<TestMode<DynamicObject>>,
-) -> Result<(), Fail> {
-    let failed = watcher.poll_unit(alloc, Moment(0))?;
-    match &failed.error {
-        Some(error) => assert!(rt; error_indicates_graceful_watch_seq_exhaustion(error)),
-        None => assert!(rt; false),
+fn polled(alloc: Global, watcher: &mut Watcher<Api>, polls: &[Poll]) -> Result<String, NoMemory> {
+    let mut lines = String::new(alloc);
+    for poll in polls {
+        add_poll(alloc, watcher, *poll, &mut lines)?;
     }
-    Ok(())
+    Ok(lines)
 }
 
-#[test]
-fn a_script_that_is_used_up_is_no_failure(rt: HostRuntime) -> Result<(), Fail> {
-    let alloc = rt.alloc();
-    let api = api(alloc, &[Listing::Page(&[], "", "9"), Listing::Fault], &[])?;
-    let mut watcher = crate::watcher::watcher(alloc, api, Config::default());
-    check_used_up(&rt, alloc, &mut watcher)
+/// The same of a watcher that is let go then.
+fn all_polled(alloc: Global, watcher: Watcher<Api>, polls: &[Poll]) -> Result<String, NoMemory> {
+    let mut watcher = watcher;
+    polled(alloc, &mut watcher, polls)
 }
 
-fn shown_found(alloc: Global, found: &Option<Arc<DynamicObject>>) -> Result<String, AllocError> {
-    match found {
-        Some(object) => match &object.metadata.resource_version {
-            Some(version) => format!(in alloc; "there <{version}>"),
-            None => String::from_str(alloc, "there"),
-        },
-        None => String::from_str(alloc, "gone"),
+/// What polls of the watcher tell.
+fn made(alloc: Global, case: &Case) -> Result<String, NoMemory> {
+    let config = config(alloc, case.settings)?;
+    match api(alloc, case.lists, case.watches) {
+        Ok(api) => all_polled(alloc, watcher(alloc, api, config), case.polls),
+        Err(error) => Err(error),
     }
 }
 
-fn shown_answer(
-    alloc: Global,
-    answer: &Next<Result<Option<Arc<DynamicObject>>, Error>>,
-) -> Result<String, AllocError> {
-    match answer {
-        Next::Item(Ok(found)) => shown_found(alloc, found),
-        Next::Item(Err(error)) => String::from_str(alloc, shown_error(error)),
-        Next::NotReady => String::from_str(alloc, "not ready"),
-        Next::Spent => String::from_str(alloc, "spent"),
-        Next::End => String::from_str(alloc, "end"),
-    }
-}
+const PAGES: [Listing; 2] = [
+    Listing::Page(&["a"], "t", ""),
+    Listing::Page(&["b"], "", "9"),
+];
 
-fn check_look(
-    rt: &impl Abort,
-    alloc: Global,
-    object: &mut WatchObject<TestMode<DynamicObject>>,
-    fuel: u32,
-    wanted: &str,
-) -> Result<(), Fail> {
-    let answer = object.poll_next(alloc, Moment(0), fuel)?;
-    let shown = shown_answer(alloc, &answer)?;
-    assert_eq!(rt; shown.as_str(), wanted);
-    Ok(())
-}
-
-fn check_looks(
-    rt: &impl Abort,
-    alloc: Global,
-    object: &mut WatchObject<TestMode<DynamicObject>>,
-    looks: &[(u32, &'static str)],
-) -> Result<(), Fail> {
-    for look in looks {
-        let (fuel, wanted) = *look;
-        check_look(rt, alloc, object, fuel, wanted)?;
-    }
-    Ok(())
-}
-
-/// A script, and polls for the object "a" over it: their fuel and their answer.
-#[derive(Drop)]
-struct Looks {
-    lists: &'static [Listing],
-    watches: &'static [&'static [Given]],
-    looks: &'static [(u32, &'static str)],
-}
-
-fn check_object(rt: &impl Abort, alloc: Global, case: &Looks) -> Result<(), Fail> {
-    let api = api(alloc, case.lists, case.watches)?;
-    let mut object = watch_object(alloc, api, "a")?;
-    check_looks(rt, alloc, &mut object, case.looks)
-}
-
-const LOOKS: [Looks; 3] = [
-    // an object that no list holds is gone
-    Looks {
+const CASES: [Case; 8] = [
+    Case {
+        name: "bookmarks alone spend the fuel",
+        settings: Settings::Default,
         lists: &[Listing::Page(&[], "", "1")],
         watches: &[&[Given::Bookmark("5"), Given::Bookmark("6")]],
-        looks: &[(5, "gone"), (2, "spent"), (1, "spent")],
+        polls: &[Poll::Next(2), Poll::Next(2), Poll::Next(2)],
+        wanted: &["Init, 1", "InitDone, 1", "spent, 3"],
     },
-    // an object is told as it changes
-    Looks {
-        lists: &[Listing::Page(&["a"], "", "1")],
-        watches: &[&[
-            Given::Modified("a", "2"),
-            Given::Deleted("a", "3"),
-            Given::Error(500),
-            Given::Added("a", "4"),
-            Given::Wait(5),
-        ]],
-        looks: &[
-            (5, "there"),
-            (5, "there <2>"),
-            (5, "gone"),
-            (5, "WatchError"),
-            (5, "there <4>"),
-            (5, "not ready"),
+    Case {
+        name: "events of a page come one by one",
+        settings: Settings::Default,
+        lists: &[Listing::Page(&["a", "b"], "", "1")],
+        watches: &[&[Given::Wait(5)]],
+        polls: &[
+            Poll::Next(1),
+            Poll::Next(1),
+            Poll::Next(1),
+            Poll::Next(1),
+            Poll::Next(1),
+            Poll::Next(9),
+        ],
+        wanted: &[
+            "Init, 1",
+            "InitApply(a), 1",
+            "InitApply(b), 1",
+            "InitDone, 1",
+            "spent, 2",
+            "not ready, 3",
         ],
     },
-    // a relist without the object tells that it is gone
-    Looks {
-        lists: &[Listing::Page(&["a"], "", "1"), Listing::Page(&[], "", "7")],
-        watches: &[&[Given::Error(410)], &[Given::Wait(5)]],
-        looks: &[
-            (5, "there"),
-            (5, "WatchError"),
-            (5, "gone"),
-            (5, "not ready"),
+    Case {
+        name: "an error comes after the events before it",
+        settings: Settings::Default,
+        lists: &[
+            Listing::Page(&["a"], "", ""),
+            Listing::Page(&["b"], "", "1"),
+        ],
+        watches: &[],
+        polls: &[
+            Poll::Next(1),
+            Poll::Next(1),
+            Poll::Next(1),
+            Poll::Next(1),
+            Poll::Next(1),
+            Poll::Next(1),
+        ],
+        wanted: &[
+            "Init, 1",
+            "NoResourceVersion, 1",
+            "Init, 2",
+            "InitApply(b), 2",
+            "InitDone, 2",
+            "WatchStartFailed, 3",
+        ],
+    },
+    Case {
+        name: "a watcher is a stream",
+        settings: Settings::Default,
+        lists: &[Listing::Page(&[], "", "1")],
+        watches: &[],
+        polls: &[Poll::Streamed],
+        wanted: &["Init"],
+    },
+    Case {
+        name: "a lent API changes nothing that is owed",
+        settings: Settings::Default,
+        lists: &PAGES,
+        watches: &[],
+        polls: &[
+            Poll::Unit,
+            Poll::Lend(&[Listing::Page(&["c"], "", "3")]),
+            Poll::Unit,
+        ],
+        wanted: &[
+            "list, page <t>,: Init InitApply(a)",
+            "list <t>, page, <3>: InitApply(c) InitDone",
+        ],
+    },
+    Case {
+        name: "lists of the newest version, page by page, and a watch",
+        settings: Settings::Newest,
+        lists: &PAGES,
+        watches: &[&[]],
+        polls: &[Poll::Calls(4)],
+        wanted: &[
+            "list app=b metadata.name=a 7, none, none",
+            "list app=b metadata.name=a 7, t, none",
+            "watch app=b metadata.name=a 30, 9, true false",
+            "next",
+        ],
+    },
+    Case {
+        name: "lists of any version",
+        settings: Settings::Any,
+        lists: &PAGES,
+        watches: &[],
+        polls: &[Poll::Calls(2)],
+        wanted: &[
+            "list app=b metadata.name=a 7, none, 0, not older",
+            "list app=b metadata.name=a 7, t, 0, not older",
+        ],
+    },
+    Case {
+        name: "a start by a watch",
+        settings: Settings::Watch,
+        lists: &[],
+        watches: &[&[Given::Ending("5")], &[]],
+        polls: &[Poll::Calls(4)],
+        wanted: &[
+            "watch app=b metadata.name=a 30, 0, true true",
+            "next",
+            "next",
+            "watch app=b metadata.name=a 30, 5, true false",
         ],
     },
 ];
 
 #[test]
-fn one_object_is_watched(rt: HostRuntime) -> Result<(), Fail> {
-    for case in &LOOKS {
-        check_object(&rt, rt.alloc(), case)?;
+fn polls_give_one_event_or_error_each_and_calls_have_what_is_configured(
+    rt: HostRuntime,
+) -> Result<(), Fail> {
+    for case in &CASES {
+        let made = made(rt.alloc(), case)?;
+        let wanted = lines(rt.alloc(), case.wanted)?;
+        assert_eq!(rt; made.as_str(), wanted.as_str(), "{}", case.name);
     }
     Ok(())
 }

@@ -1,14 +1,18 @@
 //! Scripts of an API, short to write, and units, short to read.
 
+use crate::watcher::watcher;
 use crate::watching::Watcher;
-use crate::{Answer, ApiError, Call, Config, Error, Event, Status, Unit};
-use kube_api::{Bookmark, Page, ResultPage, Sequence, SequenceStep, TestMode, WatchEvent};
+use crate::{
+    Answer, ApiError, Call, Config, Error, Event, InitialListStrategy, Status, Unit,
+    error_indicates_graceful_watch_seq_exhaustion,
+};
+use kube_api::{ApiMode, Bookmark, Page, ResultPage, Sequence, SequenceStep, TestMode, WatchEvent};
 use kube_meta::{DynamicObject, Moment, NoMemory, ObjectMeta, Resource, Text, TextMap};
 use std::alloc::{AllocError, Global};
 use std::collections::VecDeque;
-use std::process::Abort;
 use std::sync::Arc;
-use std::test::Fail;
+
+pub type Api = TestMode<DynamicObject>;
 
 /// What a list call is answered.
 #[derive(Drop)]
@@ -36,6 +40,7 @@ pub enum Given {
 /// A script, the moments at which a watcher is polled, and what it makes of it.
 #[derive(Drop)]
 pub struct Case {
+    pub name: &'static str,
     pub streaming: bool,
     pub timeout: Option<u32>,
     pub lists: &'static [Listing],
@@ -51,15 +56,42 @@ fn text_of(alloc: Global, text: &str) -> Result<Option<Text>, NoMemory> {
     Ok(Some(Text::new(alloc, text)?))
 }
 
+pub fn metadata(alloc: Global, name: &str, version: &str) -> Result<ObjectMeta, NoMemory> {
+    let name = text_of(alloc, name)?;
+    let resource_version = text_of(alloc, version)?;
+    Ok(ObjectMeta {
+        name,
+        resource_version,
+        ..ObjectMeta::empty()
+    })
+}
+
 pub fn object(alloc: Global, name: &str, version: &str) -> Result<Arc<DynamicObject>, NoMemory> {
-    let mut metadata = ObjectMeta::empty();
-    metadata.name = text_of(alloc, name)?;
-    metadata.resource_version = text_of(alloc, version)?;
+    let metadata = metadata(alloc, name, version)?;
     Ok(Arc::new(alloc, DynamicObject::bare(metadata))?)
 }
 
 fn fault(alloc: Global) -> Result<ApiError, NoMemory> {
     Ok(ApiError::Transport(Text::new(alloc, "torn")?))
+}
+
+fn objects(alloc: Global, names: &[&str]) -> Result<Vec<Arc<DynamicObject>>, NoMemory> {
+    let mut objects = Vec::new(alloc);
+    for name in names {
+        objects.push(object(alloc, name, "")?)?;
+    }
+    Ok(objects)
+}
+
+/// A page of no objects.
+pub fn empty_page<K: Drop>(
+    alloc: Global,
+    token: &str,
+    version: &str,
+) -> Result<ResultPage<K>, NoMemory> {
+    ResultPage::empty(alloc)
+        .continue_token(alloc, Some(token))?
+        .resource_version(alloc, Some(version))
 }
 
 fn page(
@@ -68,15 +100,9 @@ fn page(
     token: &str,
     version: &str,
 ) -> Result<Page<DynamicObject>, NoMemory> {
-    let mut items = Vec::new(alloc);
-    for name in names {
-        items.push(object(alloc, name, "")?)?;
-    }
-    let page = ResultPage::empty(alloc)
-        .continue_token(alloc, Some(token))?
-        .resource_version(alloc, Some(version))?
-        .items(items);
-    Ok(page.into_page())
+    let objects = objects(alloc, names)?;
+    let page = empty_page(alloc, token, version)?;
+    Ok(page.items(objects).into_page())
 }
 
 fn listed(
@@ -106,15 +132,15 @@ fn bookmark(
     }))
 }
 
-fn error_item(alloc: Global, code: u16) -> Result<WatchEvent<DynamicObject>, NoMemory> {
+pub fn status(alloc: Global, code: u16) -> Result<Status, NoMemory> {
     let reason = Text::new(alloc, "Expired")?;
     let message = Text::new(alloc, "too old")?;
-    Ok(WatchEvent::Error(Status {
+    Ok(Status {
         code,
         reason,
         message,
         uid: None,
-    }))
+    })
 }
 
 /// A step with one event.
@@ -134,7 +160,7 @@ fn step(alloc: Global, given: &Given) -> Result<SequenceStep<DynamicObject>, NoM
         Given::Deleted(name, version) => WatchEvent::Deleted(object(alloc, name, version)?),
         Given::Bookmark(version) => bookmark(alloc, version, false)?,
         Given::Ending(version) => bookmark(alloc, version, true)?,
-        Given::Error(code) => error_item(alloc, *code)?,
+        Given::Error(code) => WatchEvent::Error(status(alloc, *code)?),
         Given::Torn => {
             return one(alloc, Err(fault(alloc)?));
         }
@@ -153,20 +179,40 @@ fn sequence(alloc: Global, given: &[Given]) -> Result<Sequence<DynamicObject>, N
     Ok(Sequence::new(steps))
 }
 
-pub fn api(
+fn sequences(
     alloc: Global,
-    lists: &[Listing],
     watches: &[&[Given]],
-) -> Result<TestMode<DynamicObject>, NoMemory> {
-    let mut pages = Vec::new(alloc);
-    for listing in lists {
-        pages.push(listed(alloc, listing)?)?;
-    }
+) -> Result<Vec<Sequence<DynamicObject>>, NoMemory> {
     let mut sequences = Vec::new(alloc);
     for given in watches {
         sequences.push(sequence(alloc, given)?)?;
     }
+    Ok(sequences)
+}
+
+fn pages(
+    alloc: Global,
+    lists: &[Listing],
+) -> Result<Vec<Result<Page<DynamicObject>, ApiError>>, NoMemory> {
+    let mut pages = Vec::new(alloc);
+    for listing in lists {
+        pages.push(listed(alloc, listing)?)?;
+    }
+    Ok(pages)
+}
+
+/// An API that answers by this script.
+pub fn api(alloc: Global, lists: &[Listing], watches: &[&[Given]]) -> Result<Api, NoMemory> {
+    let pages = pages(alloc, lists)?;
+    let sequences = sequences(alloc, watches)?;
     Ok(TestMode::new(alloc, pages, sequences))
+}
+
+pub fn str_of(text: &Option<Text>) -> &str {
+    match text {
+        Some(text) => text.as_str(),
+        None => "none",
+    }
 }
 
 /// A text that may be absent, in angle brackets.
@@ -250,67 +296,110 @@ fn shown_events<K: Resource>(
     Ok(shown)
 }
 
-fn shown_error(error: &Option<Error>) -> &str {
+pub fn shown_error(error: &Error) -> &str {
     match error {
-        None => "",
-        Some(Error::InitialListFailed(_)) => " InitialListFailed",
-        Some(Error::WatchStartFailed(_)) => " WatchStartFailed",
-        Some(Error::WatchError(_)) => " WatchError",
-        Some(Error::WatchFailed(_)) => " WatchFailed",
-        Some(Error::NoResourceVersion) => " NoResourceVersion",
+        Error::InitialListFailed(_) => "InitialListFailed",
+        Error::WatchStartFailed(_) => "WatchStartFailed",
+        Error::WatchError(_) => "WatchError",
+        Error::WatchFailed(_) => "WatchFailed",
+        Error::NoResourceVersion => "NoResourceVersion",
+    }
+}
+
+/// The error, and whether it says that a script is used up.
+fn shown_failure(alloc: Global, error: &Option<Error>) -> Result<String, AllocError> {
+    match error {
+        None => Ok(String::new(alloc)),
+        Some(error) => {
+            let word = shown_error(error);
+            let used_up = if error_indicates_graceful_watch_seq_exhaustion(error) {
+                ", used up"
+            } else {
+                ""
+            };
+            format!(in alloc; " {word}{used_up}")
+        }
     }
 }
 
 /// The call, the answer, the events and the error of a unit.
-pub fn shown<K: Resource>(alloc: Global, unit: &Unit<K>) -> Result<String, AllocError> {
+fn shown<K: Resource>(alloc: Global, unit: &Unit<K>) -> Result<String, AllocError> {
     let call = shown_call(alloc, &unit.call)?;
     let answer = shown_answer(alloc, &unit.answer)?;
     let events = shown_events(alloc, unit.events.as_slice())?;
-    let error = shown_error(&unit.error);
+    let error = shown_failure(alloc, &unit.error)?;
     format!(in alloc; "{call}, {answer}:{events}{error}")
 }
 
-fn config_of(case: &Case) -> Config {
-    let config = Config {
-        timeout: case.timeout,
-        ..Config::default()
-    };
-    if case.streaming {
-        config.streaming_lists()
-    } else {
-        config
-    }
+fn shown_once<K: Resource>(alloc: Global, unit: Unit<K>) -> Result<String, AllocError> {
+    shown(alloc, &unit)
 }
 
-/// The watcher makes of the script what it should.
-pub fn check(rt: &impl Abort, alloc: Global, case: &Case) -> Result<(), Fail> {
-    let api = api(alloc, case.lists, case.watches)?;
-    let mut watcher = crate::watcher::watcher(alloc, api, config_of(case));
-    check_polls(rt, alloc, &mut watcher, case)
-}
-
-fn check_poll(
-    rt: &impl Abort,
+/// What a call of a watcher makes.
+pub fn unit<A: ApiMode>(
     alloc: Global,
-    watcher: &mut Watcher<TestMode<DynamicObject>>,
+    watcher: &mut Watcher<A>,
     at: u64,
-    wanted: &str,
-) -> Result<(), Fail> {
-    let unit = watcher.poll_unit(alloc, Moment(at))?;
-    let shown = shown(alloc, &unit)?;
-    assert_eq!(rt; shown.as_str(), wanted);
-    Ok(())
+) -> Result<String, NoMemory> {
+    match watcher.poll_unit(alloc, Moment(at)) {
+        Ok(unit) => Ok(shown_once(alloc, unit)?),
+        Err(error) => Err(error),
+    }
 }
 
-fn check_polls(
-    rt: &impl Abort,
+/// What calls of a watcher at these moments make, a line each.
+fn units<A: ApiMode>(
     alloc: Global,
-    watcher: &mut Watcher<TestMode<DynamicObject>>,
-    case: &Case,
-) -> Result<(), Fail> {
-    assert_eq!(rt; case.polls.len(), case.wanted.len());
-    for (poll, wanted) in case.polls.iter().zip(case.wanted) {
-        check_poll(rt, alloc, watcher, *poll, wanted)?;
+    watcher: &mut Watcher<A>,
+    moments: &[u64],
+) -> Result<String, NoMemory> {
+    let mut lines = String::new(alloc);
+    for at in moments {
+        add_line(&mut lines, unit(alloc, watcher, *at)?.as_str())?;
     }
-    Ok(())
+    Ok(lines)
+}
+
+/// The same of a watcher that is let go then.
+pub fn all_units<A: ApiMode>(
+    alloc: Global,
+    watcher: Watcher<A>,
+    moments: &[u64],
+) -> Result<String, NoMemory> {
+    let mut watcher = watcher;
+    units(alloc, &mut watcher, moments)
+}
+
+pub fn add_line(lines: &mut String, line: &str) -> Result<(), AllocError> {
+    lines.push_str(line)?;
+    lines.push_str("\n")
+}
+
+/// Texts, a line each.
+pub fn lines(alloc: Global, texts: &[&str]) -> Result<String, AllocError> {
+    let mut lines = String::new(alloc);
+    for text in texts {
+        add_line(&mut lines, text)?;
+    }
+    Ok(lines)
+}
+
+fn config_of(case: &Case) -> Config {
+    Config {
+        timeout: case.timeout,
+        initial_list_strategy: if case.streaming {
+            InitialListStrategy::StreamingList
+        } else {
+            InitialListStrategy::ListWatch
+        },
+        ..Config::default()
+    }
+}
+
+/// What the watcher makes of the script.
+pub fn made(alloc: Global, case: &Case) -> Result<String, NoMemory> {
+    match api(alloc, case.lists, case.watches) {
+        Ok(api) => all_units(alloc, watcher(alloc, api, config_of(case)), case.polls),
+        Err(error) => Err(error),
+    }
 }

@@ -1,14 +1,12 @@
 //! Calls that are not ready, starts of a watch that fail with code 410, and a watcher of metadata alone.
 
-use super::script::shown;
+use super::script::{all_units, empty_page, lines, metadata, status};
 use crate::watcher::metadata_watcher;
-use crate::watching::Watcher;
-use crate::{ApiError, Config, Status};
-use kube_api::{ApiMode, ListParams, Page, ResultPage, WatchEvent, WatchParams};
-use kube_meta::{DynamicObject, Moment, NoMemory, ObjectMeta, PartialObjectMeta, Polled, Text};
+use crate::{ApiError, Config, InitialListStrategy};
+use kube_api::{ApiMode, ListParams, Page, WatchEvent, WatchParams};
+use kube_meta::{DynamicObject, Moment, NoMemory, PartialObjectMeta, Polled};
 use std::alloc::Global;
 use std::marker::PhantomData;
-use std::process::Abort;
 use std::sync::Arc;
 use std::test::Fail;
 
@@ -44,31 +42,23 @@ impl Slow {
     }
 }
 
-fn page(alloc: Global, name: &str, version: &str) -> Result<Page<Metadata>, NoMemory> {
-    let mut metadata = ObjectMeta::empty();
-    metadata.name = Some(Text::new(alloc, name)?);
+fn object(alloc: Global, name: &str) -> Result<Arc<Metadata>, NoMemory> {
     let object = PartialObjectMeta {
         types: None,
-        metadata,
+        metadata: metadata(alloc, name, "")?,
         of: PhantomData,
     };
-    let mut items = Vec::new(alloc);
-    items.push(Arc::new(alloc, object)?)?;
-    let page = ResultPage::empty(alloc)
-        .resource_version(alloc, Some(version))?
-        .items(items);
-    Ok(page.into_page())
+    Ok(Arc::new(alloc, object)?)
+}
+
+fn page(alloc: Global, name: &str, version: &str) -> Result<Page<Metadata>, NoMemory> {
+    let objects = vec![in alloc; object(alloc, name)?]?;
+    let page = empty_page(alloc, "", version)?;
+    Ok(page.items(objects).into_page())
 }
 
 fn too_old(alloc: Global) -> Result<ApiError, NoMemory> {
-    let reason = Text::new(alloc, "Expired")?;
-    let message = Text::new(alloc, "too old")?;
-    Ok(ApiError::Api(Status {
-        code: 410,
-        reason,
-        message,
-        uid: None,
-    }))
+    Ok(ApiError::Api(status(alloc, 410)?))
 }
 
 impl ApiMode for Slow {
@@ -120,49 +110,35 @@ impl ApiMode for Slow {
     }
 }
 
-fn check_poll(
-    rt: &impl Abort,
-    alloc: Global,
-    watcher: &mut Watcher<Slow>,
-    wanted: &str,
-) -> Result<(), Fail> {
-    let unit = watcher.poll_unit(alloc, Moment(0))?;
-    let shown = shown(alloc, &unit)?;
-    assert_eq!(rt; shown.as_str(), wanted);
-    Ok(())
-}
-
-fn check_polls(
-    rt: &impl Abort,
-    alloc: Global,
-    watcher: &mut Watcher<Slow>,
-    wanted: &[&str],
-) -> Result<(), Fail> {
-    for one in wanted {
-        check_poll(rt, alloc, watcher, one)?;
-    }
-    Ok(())
-}
-
-/// A watcher with this config makes of the replies these units.
-fn check(
-    rt: &impl Abort,
-    alloc: Global,
-    config: Config,
+/// A strategy, the replies to calls, and what a watcher makes of them.
+#[derive(Drop)]
+struct Replies {
+    strategy: InitialListStrategy,
     replies: &'static [Reply],
-    wanted: &[&str],
-) -> Result<(), Fail> {
-    let mut watcher = metadata_watcher(alloc, Slow { replies, next: 0 }, config);
-    check_polls(rt, alloc, &mut watcher, wanted)
+    polls: &'static [u64],
+    wanted: &'static [&'static str],
 }
 
-#[test]
-fn a_call_that_is_not_ready_or_fails_is_made_again(rt: HostRuntime) -> Result<(), Fail> {
-    check(
-        &rt,
-        rt.alloc(),
-        Config::default(),
-        &[
+fn starts_by(initial_list_strategy: InitialListStrategy) -> Config {
+    Config {
+        initial_list_strategy,
+        ..Config::default()
+    }
+}
+
+fn made(alloc: Global, case: &Replies) -> Result<String, NoMemory> {
+    let api = Slow {
+        replies: case.replies,
+        next: 0,
+    };
+    let config = starts_by(case.strategy);
+    all_units(alloc, metadata_watcher(alloc, api, config), case.polls)
+}
+
+const REPLIES: [Replies; 2] = [
+    Replies {
+        strategy: InitialListStrategy::ListWatch,
+        replies: &[
             Reply::NotReady,
             Reply::Page("a", "1"),
             Reply::NotReady,
@@ -172,7 +148,8 @@ fn a_call_that_is_not_ready_or_fails_is_made_again(rt: HostRuntime) -> Result<()
             Reply::TooOld,
             Reply::End,
         ],
-        &[
+        polls: &[0, 0, 0, 0, 0, 0, 0, 0, 0],
+        wanted: &[
             "list, not ready:",
             "list, page, <1>: Init InitApply(a) InitDone",
             "watch <1>, not ready:",
@@ -183,16 +160,25 @@ fn a_call_that_is_not_ready_or_fails_is_made_again(rt: HostRuntime) -> Result<()
             "next, end:",
             "watch <1>, not ready:",
         ],
-    )?;
-    check(
-        &rt,
-        rt.alloc(),
-        Config::default().streaming_lists(),
-        &[Reply::NotReady, Reply::TooOld, Reply::Opened],
-        &[
+    },
+    Replies {
+        strategy: InitialListStrategy::StreamingList,
+        replies: &[Reply::NotReady, Reply::TooOld, Reply::Opened],
+        polls: &[0, 0, 0],
+        wanted: &[
             "start <0>, not ready:",
             "start <0>, fault: WatchStartFailed",
             "start <0>, opened: Init",
         ],
-    )
+    },
+];
+
+#[test]
+fn a_call_that_is_not_ready_or_fails_is_made_again(rt: HostRuntime) -> Result<(), Fail> {
+    for case in &REPLIES {
+        let made = made(rt.alloc(), case)?;
+        let wanted = lines(rt.alloc(), case.wanted)?;
+        assert_eq!(rt; made.as_str(), wanted.as_str());
+    }
+    Ok(())
 }
