@@ -10,9 +10,9 @@ use std::alloc::Global;
 use std::sync::{Arc, Wait};
 use std::thread::{self, Threads};
 
-const BATCHES: u32 = 20;
+const BATCHES: u32 = 10;
 
-const BATCH: u32 = 50;
+const BATCH: u32 = 20;
 
 fn config_maps(alloc: Global) -> Result<Arc<ApiResource>, NoMemory> {
     let resource = ApiResource {
@@ -104,14 +104,14 @@ fn main(rt: HostRuntime) -> Result<()> {
     let last = ObjectRef::new_with(alloc, name.as_str(), config_maps(alloc)?)?.within(
         alloc, "default",
     )?;
-    let (seen, written) = thread::join(
+    let (written, seen) = thread::join(
         &rt,
+        || write(&rt, alloc, &mut writer),
         || thread::join(
             &rt,
             || read(&rt, alloc, &mut one, &last),
             || read(&rt, alloc, &mut other, &last),
         ),
-        || write(&rt, alloc, &mut writer),
     );
     written?;
     print_seen(&rt, "one", &seen.0?)?;
