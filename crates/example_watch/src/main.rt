@@ -1,0 +1,137 @@
+//! Watches deployments: prints each whose desired state changed, and what a reflector of them has stored at the end.
+#![tactic(auto)]
+
+use anyhow::Result;
+use kube_api::{ApiError, ResultPage, Sequence, SequenceStep, TestMode, WatchEvent};
+use kube_meta::{ApiResource, DynamicObject, Lookup, Moment, Next, Text, read_object};
+use kube_reflect::Writer;
+use kube_streams::predicates::generation;
+use kube_streams::{EventStream, FnPredicate, PredicateConfig, WatchStreamExt};
+use kube_watch::Config;
+use kube_watch::watcher::watcher;
+use serde_json::Value;
+use std::alloc::Global;
+use std::collections::VecDeque;
+use std::sync::Arc;
+
+const SECOND: u64 = 1_000_000_000;
+
+/// How many answers that give nothing a poll passes over.
+const FUEL: u32 = 100;
+
+/// When the streams are polled, in seconds.
+const WAKES: [u64; 4] = [0, 1, 2, 3];
+
+const LISTED: [&str; 2] = [
+    r#"{"metadata":{"name":"api","namespace":"web","resourceVersion":"3","generation":1}}"#,
+    r#"{"metadata":{"name":"ui","namespace":"web","resourceVersion":"4","generation":1}}"#,
+];
+
+/// The first has a new status, the second also a new desired state.
+const CHANGED: [&str; 2] = [
+    r#"{"metadata":{"name":"api","namespace":"web","resourceVersion":"6","generation":1},"status":{"replicas":2}}"#,
+    r#"{"metadata":{"name":"ui","namespace":"web","resourceVersion":"7","generation":2},"spec":{"replicas":3}}"#,
+];
+
+type Api = TestMode<DynamicObject>;
+
+fn object(alloc: Global, text: &str) -> Result<Arc<DynamicObject>> {
+    let object = read_object(alloc, Value::from_str(alloc, text)?)?;
+    Ok(Arc::new(alloc, object)?)
+}
+
+/// An API that lists two deployments. Its watch can't be opened at first; then two change, one after a second and one after two, and
+/// the first is deleted.
+fn api(alloc: Global) -> Result<Api> {
+    let mut items = Vec::new(alloc);
+    for text in LISTED {
+        items.push(object(alloc, text)?)?;
+    }
+    let page = ResultPage::empty(alloc)
+        .resource_version(alloc, Some("5"))?
+        .items(items);
+    let refused = ApiError::Transport(Text::new(alloc, "connection refused")?);
+    let lists = vec![in alloc; Err(refused), Ok(page.into_page())]?;
+    let mut steps = Vec::new(alloc);
+    for text in CHANGED {
+        let mut events = VecDeque::new(alloc);
+        events.push_back(Ok(WatchEvent::Modified(object(alloc, text)?)))?;
+        steps.push(SequenceStep::Wait(SECOND))?;
+        steps.push(SequenceStep::List(events))?;
+    }
+    let mut gone = VecDeque::new(alloc);
+    gone.push_back(Ok(WatchEvent::Deleted(object(alloc, CHANGED[0])?)))?;
+    steps.push(SequenceStep::List(gone))?;
+    steps.push(SequenceStep::Wait(3600 * SECOND))?;
+    let watches = vec![in alloc; Sequence::new(steps)]?;
+    Ok(TestMode::new(alloc, lists, watches))
+}
+
+fn deployments(alloc: Global) -> Result<Arc<ApiResource>> {
+    let resource = ApiResource {
+        group: Text::new(alloc, "apps")?,
+        version: Text::new(alloc, "v1")?,
+        api_version: Text::new(alloc, "apps/v1")?,
+        kind: Text::new(alloc, "Deployment")?,
+        plural: Text::new(alloc, "deployments")?,
+    };
+    Ok(Arc::new(alloc, resource)?)
+}
+
+/// Prints what a stream of objects gives at a moment, up to so many.
+fn print_changes<S: EventStream<Item = Arc<DynamicObject>>>(
+    rt: &impl Print,
+    alloc: Global,
+    changes: &mut S,
+    at: u64,
+) -> Result<()> {
+    for _poll in 0..FUEL {
+        match changes.poll_next(alloc, Moment(at * SECOND), FUEL) {
+            Ok(Next::Item(Ok(object))) => {
+                let name = object.name().unwrap_or("");
+                println!(rt;
+                    "{at} s: {name} of generation {:?}",
+                    object.metadata.generation
+                )?;
+            }
+            Ok(Next::Item(Err(error))) => println!(rt; "{at} s: {error}")?,
+            Ok(Next::NotReady | Next::End | Next::Spent) => break,
+            Err(fault) => anyhow::bail!("the stream ended: {fault:?}"),
+        }
+    }
+    Ok(())
+}
+
+fn main(rt: HostRuntime) -> Result<()> {
+    let alloc = rt.alloc();
+    let mut changes = watcher(alloc, api(alloc)?, Config::default())
+        .default_backoff()
+        .applied_objects(alloc)
+        .predicate_filter(
+            alloc,
+            FnPredicate(generation::<DynamicObject>),
+            PredicateConfig::default(),
+        );
+    let writer = Writer::new(alloc, deployments(alloc)?, 1)?;
+    let mut events = watcher(alloc, api(alloc)?, Config::default())
+        .default_backoff()
+        .reflect(writer);
+    for at in WAKES {
+        print_changes(&rt, alloc, &mut changes, at)?;
+        for _poll in 0..FUEL {
+            match events.poll_next(alloc, Moment(at * SECOND), FUEL) {
+                Ok(Next::Item(Ok(event))) => println!(&rt; "{at} s: {event}")?,
+                Ok(Next::Item(Err(_))) => {}
+                _ => break,
+            }
+        }
+    }
+    for object in events.writer().cache().state(alloc)? {
+        println!(&rt;
+            "stored: {} of version {:?}",
+            object.name().unwrap_or(""),
+            object.resource_version()
+        )?;
+    }
+    Ok(())
+}
