@@ -1,0 +1,2 @@
+-- lemmas that the proofs cite
+pub mod Steps
