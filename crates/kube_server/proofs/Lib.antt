@@ -1,1 +1,3 @@
 pub mod ObjectLemmas
+pub mod HistoryLemmas
+pub mod ServerLemmas

@@ -54,7 +54,7 @@ state-insert [] p v = refl
 state-insert (e ∷ es) p v =
     held-match (place_cmp p e.0) _ _ _
     ∙ ap₂ (λ o r. match_ordering o ((key_at p, arc_value v) ∷ (key_at e.0, arc_value e.1) ∷ state_held es) ((key_at e.0, arc_value v) ∷ state_held es) ((key_at e.0, arc_value e.1) ∷ r))
-        (sym (key_cmp-key_at p e.0)) (state-insert es p v)
+    (sym (key_cmp-key_at p e.0)) (state-insert es p v)
 
 held-cond : {A B V : Type 0} (b : Bool) (x y : List ((Option (String A) × String A) × Arc V B))
     → state_held (cond b x y) ≡ cond b (state_held x) (state_held y)
