@@ -1,4 +1,7 @@
 -- lemmas on the definitions
+pub mod ObjectLemmas
+pub mod HistoryLemmas
+pub mod ServerLemmas
 pub mod HonestLemmas
 pub mod PollLemmas
 pub mod WatchLemmas

@@ -180,17 +180,19 @@ pub(crate) fn deleting(
     })
 }
 
-/// The uid of an object that brings none: that of the object in whose place it comes, or a new one.
-fn other_uid(
+/// The uid of an object that is put: its own, that of the object in whose place it comes, or a new one.
+fn uid_for(
     alloc: Global,
+    own: &Option<Text>,
     stored: Option<&Arc<DynamicObject>>,
     revision: u64,
 ) -> Result<Option<Text>, NoMemory>
-    ensures { IfOk result (λ u. u ≡ uid_of revision None (option_map (λ a. seen_object (arc_value a)) (option_copied stored.entry))) }
+    ensures { IfOk result (λ u. u ≡ uid_of revision own.now (option_map (λ a. seen_object (arc_value a)) (option_copied stored.entry))) }
 {
-    match stored {
-        Some(stored) => copy_option(alloc, &stored.metadata.uid),
-        None => Ok(Some(Text::from(format!(in alloc; "uid-{revision}")?))),
+    match (own, stored) {
+        (Some(uid), _) => Ok(Some(uid.copy(alloc)?)),
+        (None, Some(stored)) => copy_option(alloc, &stored.metadata.uid),
+        (None, None) => Ok(Some(Text::from(format!(in alloc; "uid-{revision}")?))),
     }
 }
 
@@ -205,16 +207,12 @@ fn placed(
         ≡ put_object revision (option_map (λ a. seen_object (arc_value a)) (option_copied stored.entry)) (seen_object object)) }
 {
     let version = decimal(alloc, revision)?;
-    let other = other_uid(alloc, stored, revision)?;
+    let uid = uid_for(alloc, &object.metadata.uid, stored, revision)?;
     let DynamicObject {
         types,
         metadata,
         content,
     } = object;
-    let uid = match metadata.uid {
-        Some(uid) => Some(uid),
-        None => other,
-    };
     Ok(DynamicObject {
         types,
         metadata: ObjectMeta {

@@ -95,7 +95,7 @@ impl Objects {
         ensures { IfOk result (λ v. map arc_value v.items ≡ objects_of self.now) }
     {
         let mut all = Vec::with_capacity(alloc, self.by_place.len())?;
-        for (_place, object) in self.by_place.iter() {
+        for object in self.by_place.values() {
             all.push(object.clone()?)?;
         }
         Ok(all)

@@ -187,16 +187,7 @@ impl Server {
         ensures history { IsHistory meta_of self.new.changes }
         ensures later { IsLater self.old.changes self.new.changes self.old.compacted self.new.compacted }
     {
-        if object.metadata.name.is_none() {
-            return Err(ServerRefusal::Unnamed);
-        }
-        let place = place_of(alloc, &object.metadata)?;
-        let entry = put_entry(
-            alloc,
-            object,
-            self.objects.get(&place),
-            self.next_revision(),
-        )?;
+        let entry = self.put_of(alloc, object)?;
         Ok(self.make(alloc, entry)?)
     }
 
@@ -302,14 +293,16 @@ impl Server {
 
     // The newest revision.
     pub(crate) fn revision(&self) -> u64
-        ensures { result ≡ newest self.now }
+        ensures value { result ≡ newest self.now }
+        ensures small { result < 2 ^ 63 }
     {
         self.log.len() as u64
     }
 
-    // The revision of the next change.
+    // The revision of the next change of a history.
     fn next_revision(&self) -> u64
-        ensures { result ≡ next_revision self.now }
+        ensures value { result ≡ next_revision self.now }
+        ensures history { IsHistory meta_of self.now.changes }
     {
         self.revision() + 1
     }
@@ -329,6 +322,22 @@ impl Server {
         self.objects.get(place)
     }
 
+    // The entry of a put of an object.
+    fn put_of(&self, alloc: Global, object: DynamicObject) -> Result<Entry, ServerRefusal>
+        ensures ok { IfOk result (λ e. change_seen seen_object (change_of e) ≡ put_change self.now (key_of object.metadata) (seen_object object)) }
+        ensures fits { IfOk result (λ e. IsNextChange meta_of self.now.changes (change_of e)) }
+        ensures history { IsHistory meta_of self.now.changes }
+        ensures unnamed { (result ≡ Err ServerRefusal.Unnamed) ↔ (is_named object.metadata ≡ false) }
+        ensures found { ¬ (result ≡ Err ServerRefusal.NotFound) }
+    {
+        let revision = self.next_revision();
+        if object.metadata.name.is_none() {
+            return Err(ServerRefusal::Unnamed);
+        }
+        let place = place_of(alloc, &object.metadata)?;
+        Ok(put_entry(alloc, object, self.objects.get(&place), revision)?)
+    }
+
     // The entry with which the object of a reference goes.
     fn removal_of(
         &self,
@@ -337,12 +346,14 @@ impl Server {
     ) -> Result<Entry, ServerRefusal>
         ensures ok { IfOk result (λ e. IsHeldAnd (held self.now (reference_of (λ t. resource_type t.value) key.now)) (λ o. change_seen seen_object (change_of e) ≡ removal (next_revision self.now) o)) }
         ensures fits { IfOk result (λ e. IsNextChange meta_of self.now.changes (change_of e)) }
+        ensures history { IsHistory meta_of self.now.changes }
         ensures missing { IsErrOf result ServerRefusal.NotFound → held self.now (reference_of (λ t. resource_type t.value) key.now) ≡ None }
         ensures named { ¬ (result ≡ Err ServerRefusal.Unnamed) }
     {
+        let revision = self.next_revision();
         let place = place_named(alloc, key)?;
         match self.stored(key, &place) {
-            Some(stored) => Ok(removed(alloc, stored, self.next_revision())?),
+            Some(stored) => Ok(removed(alloc, stored, revision)?),
             None => Err(ServerRefusal::NotFound),
         }
     }
@@ -357,12 +368,14 @@ impl Server {
         ensures ok { IfOk result (λ e. IsHeldAnd (held self.now (reference_of (λ t. resource_type t.value) key.now))
             (λ o. option_map (λ x. change_seen seen_object (change_of x)) e ≡ deletion (next_revision self.now) now.0 o)) }
         ensures fits { IfOk result (λ e. IfSome e (λ x. IsNextChange meta_of self.now.changes (change_of x))) }
+        ensures history { IsHistory meta_of self.now.changes }
         ensures missing { IsErrOf result ServerRefusal.NotFound → held self.now (reference_of (λ t. resource_type t.value) key.now) ≡ None }
         ensures named { ¬ (result ≡ Err ServerRefusal.Unnamed) }
     {
+        let revision = self.next_revision();
         let place = place_named(alloc, key)?;
         match self.stored(key, &place) {
-            Some(stored) => Ok(deleted(alloc, stored, self.next_revision(), now)?),
+            Some(stored) => Ok(deleted(alloc, stored, revision, now)?),
             None => Err(ServerRefusal::NotFound),
         }
     }
@@ -378,12 +391,14 @@ impl Server {
         ensures ok { IfOk result (λ e. IsHeldAnd (held self.now (reference_of (λ t. resource_type t.value) key.now))
             (λ o. patch_change (next_revision self.now) (map operation_of patch.now) o ≡ Ok (change_seen seen_object (change_of e)))) }
         ensures fits { IfOk result (λ e. IsNextChange meta_of self.now.changes (change_of e)) }
+        ensures history { IsHistory meta_of self.now.changes }
         ensures refused { IfErr result (λ e. IsPatchRefusal (held self.now (reference_of (λ t. resource_type t.value) key.now))
             (patch_change (next_revision self.now) (map operation_of patch.now)) e) }
     {
+        let revision = self.next_revision();
         let place = place_named(alloc, key)?;
         match self.stored(key, &place) {
-            Some(stored) => patched(alloc, stored, patch, self.next_revision()),
+            Some(stored) => patched(alloc, stored, patch, revision),
             None => Err(PatchRefusal::NotFound),
         }
     }
@@ -394,6 +409,7 @@ impl Server {
         ensures revision { IfOk result (λ r. r ≡ newest self.new) }
         ensures ok { OnOk result (self.new ≡ record self.old { changes = self.old.changes ++ change_of entry ∷ [] }) }
         ensures err { OnErr result (self.new ≡ self.old) }
+        ensures history { IsHistory meta_of self.new.changes }
     {
         self.log.reserve(1)?;
         self.objects.apply(alloc, &entry)?;
