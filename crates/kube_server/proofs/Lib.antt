@@ -8,3 +8,4 @@ pub mod WatchLemmas
 pub mod NumberLemmas
 pub mod ListLemmas
 pub mod StandingLemmas
+pub mod PlaceLemmas

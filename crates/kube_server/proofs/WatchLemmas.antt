@@ -63,7 +63,7 @@ module _ {V : Type 0} (meta : V → ObjectMeta) (h : List (Change V)) where
   following t w names x (inl q) =
       let to : x.reached + length (drop x.reached h) ≡ length h = omega (arith, length-drop x.reached h, x.told.within) in
       let none : selected_between meta (selected_by meta) h t.selection x.reached (x.reached + length (drop x.reached h)) ≡ [] =
-          between_named t.selection w.name x.reached (length (drop x.reached h)) names ∙ rw (take-length (drop x.reached h)) q.none in
+      between_named t.selection w.name x.reached (length (drop x.reached h)) names ∙ rw (take-length (drop x.reached h)) q.none in
       rw q.poll (record {
         names = names;
         is = inr (inl (record {
@@ -79,7 +79,7 @@ module _ {V : Type 0} (meta : V → ObjectMeta) (h : List (Change V)) where
       })
   following t w names x (inr f) =
       let alone : selected_between meta (selected_by meta) h t.selection x.reached (x.reached + suc f.before) ≡ f.change ∷ [] =
-          between_named t.selection w.name x.reached (suc f.before) names ∙ f.alone in
+      between_named t.selection w.name x.reached (suc f.before) names ∙ f.alone in
       let within : x.reached + suc f.before ≤ length h = omega (arith, length-drop x.reached h, f.within) in
       rw (f.poll, after_change t f.change) (record {
         names = names;
@@ -99,7 +99,7 @@ module _ {V : Type 0} (meta : V → ObjectMeta) (h : List (Change V)) where
   beyond t w names x (inl q) =
       let to : x.reached + length (drop x.reached h) ≡ length h = omega (arith, length-drop x.reached h, x.told.within) in
       let none : selected_between meta (selected_by meta) h t.selection x.reached (x.reached + length (drop x.reached h)) ≡ [] =
-          between_named t.selection w.name x.reached (length (drop x.reached h)) names ∙ rw (take-length (drop x.reached h)) q.none in
+      between_named t.selection w.name x.reached (length (drop x.reached h)) names ∙ rw (take-length (drop x.reached h)) q.none in
       rw q.poll (record {
         names = names;
         is = inr (inr (inr (record {
@@ -118,7 +118,7 @@ module _ {V : Type 0} (meta : V → ObjectMeta) (h : List (Change V)) where
       })
   beyond t w names x (inr f) =
       let alone : selected_between meta (selected_by meta) h t.selection x.reached (x.reached + suc f.before) ≡ f.change ∷ [] =
-          between_named t.selection w.name x.reached (suc f.before) names ∙ f.alone in
+      between_named t.selection w.name x.reached (suc f.before) names ∙ f.alone in
       let within : x.reached + suc f.before ≤ length h = omega (arith, length-drop x.reached h, f.within) in
       rw (f.poll, after_change t f.change) (record {
         names = names;

@@ -1,6 +1,6 @@
 //! A connection to a server: an API of lists and watches in memory.
 
-ghost use Rattle.std.specs.Prelude.{◌≡◌, ◌≤◌, [], IfOk, OnOk, OnErr, Ok, Some, None, map, option_map, length, drop};
+ghost use Rattle.std.specs.Prelude.{◌≡◌, ◌≤◌, ◌<◌, ◌+◌, ◌^◌, ◌&&◌, nat_le, [], IfOk, OnOk, OnErr, Ok, Some, None, map, option_map, length, drop};
 ghost use Rattle.std.specs.Arc.{arc_value};
 ghost use Rattle.kube_model.specs.Raw.{grown, ListAsked, WatchAsked, NextAsked, Ends, FaultRose, IsNeverOpened, is_fault};
 ghost use Rattle.kube_api.specs.Answers.{list_answer, watch_answer, next_answer, is_watch_fault};
@@ -9,7 +9,7 @@ ghost use Rattle.kube_server.specs.History.{state_at, objects_of, IsLater};
 ghost use Rattle.kube_server.specs.Numbers.{name_sought, number_at};
 ghost use Rattle.kube_server.specs.Tokens.{token_of};
 ghost use Rattle.kube_server.specs.Honest.{IsHonest};
-ghost use Rattle.kube_server.specs.Connections.{fresh, selected_by, place_asked, version_known, named_at, page_of, listed, after_list, watched, opening, opened, after_watch, poll_current, left_current, polled, after_next, IsMove};
+ghost use Rattle.kube_server.specs.Connections.{fresh, selected_by, place_asked, version_known, named_at, last_page, page_within, page_of, listed, after_list, watched, opening, opened, after_watch, poll_current, left_current, polled, after_next, IsMove};
 ghost use Rattle.kube_server.specs.Servers.{meta_of};
 ghost use Rattle.kube_server.specs.Stored.{change_of, name_of};
 ghost use Rattle.kube_server.specs.Watches.{watch_of};
@@ -89,28 +89,45 @@ impl Model for Conn {
     }) };
 }
 
-/// A page of what is left of a list, in which so many objects at most are.
-fn page(
-    alloc: Global,
-    objects: &[Arc<DynamicObject>],
-    token: Token,
-    limit: Option<u32>,
-) -> Result<Page<DynamicObject>, NoMemory>
-    ensures { IfOk result (λ p. list_answer (Polled.Ready (Ok p)) ≡ page_of limit (token_of token) (drop token.offset (map arc_value objects.now))) }
+/// What is left of a list behind so many objects.
+fn left_after(objects: &[Arc<DynamicObject>], offset: u64) -> &[Arc<DynamicObject>]
+    ensures { result.now ≡ drop offset objects.now }
 {
-    let start = objects.len().min(token.offset as usize);
-    let left = &objects[start..];
-    let most = limit.unwrap_or(0) as usize;
-    if most == 0 || left.len() <= most {
-        return Ok(Page {
-            items: share_all(alloc, left)?,
-            token: None,
-            version: Some(decimal(alloc, token.revision)?),
-        });
+    let start = objects.len().min(offset as usize);
+    &objects[start..]
+}
+
+/// The last page of a list.
+fn last(
+    alloc: Global,
+    left: &[Arc<DynamicObject>],
+    revision: u64,
+) -> Result<Page<DynamicObject>, NoMemory>
+    ensures { IfOk result (λ p. list_answer (Polled.Ready (Ok p)) ≡ last_page revision (map arc_value left.now)) }
+{
+    Ok(Page {
+        items: share_all(alloc, left)?,
+        token: None,
+        version: Some(decimal(alloc, revision)?),
+    })
+}
+
+/// A page of no more than so many objects.
+fn within(
+    alloc: Global,
+    left: &[Arc<DynamicObject>],
+    token: Token,
+    most: usize,
+) -> Result<Page<DynamicObject>, NoMemory>
+    requires { token.offset + length left.now < 2 ^ 64 }
+    ensures { IfOk result (λ p. list_answer (Polled.Ready (Ok p)) ≡ page_within most (token_of token) (map arc_value left.now)) }
+{
+    if left.len() <= most {
+        return last(alloc, left, token.revision);
     }
     let next = Token {
         revision: token.revision,
-        offset: (start + most) as u64,
+        offset: token.offset + most as u64,
     };
     Ok(Page {
         items: share_all(alloc, &left[..most])?,
@@ -119,8 +136,26 @@ fn page(
     })
 }
 
+/// A page of what is left of a list at a place; a limit of 0 is none.
+fn page(
+    alloc: Global,
+    objects: &[Arc<DynamicObject>],
+    token: Token,
+    limit: Option<u32>,
+) -> Result<Page<DynamicObject>, NoMemory>
+    ensures { IfOk result (λ p. list_answer (Polled.Ready (Ok p)) ≡ page_of limit (token_of token) (drop token.offset (map arc_value objects.now))) }
+{
+    let left = left_after(objects, token.offset);
+    match limit {
+        None | Some(0) => last(alloc, left, token.revision),
+        Some(most) => within(alloc, left, token, most as usize),
+    }
+}
+
 /// A revision that was not compacted away and is not above the newest.
-fn is_known(revision: u64, compacted: u64, newest: usize) -> bool {
+fn is_known(revision: u64, compacted: u64, newest: usize) -> bool
+    ensures { result ≡ (nat_le compacted revision && nat_le revision newest) }
+{
     compacted <= revision && revision <= newest as u64
 }
 
