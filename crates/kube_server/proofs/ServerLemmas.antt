@@ -1,6 +1,9 @@
 -- What a server's calls make of it.
 use Rattle.std.proofs.Common.{◌≡◌, ℕ, ◌+◌, ◌≤◌, Bool, true, false, List, [], ◌∷◌, ◌++◌, length, Option, Some, None, Result, Ok, Err, option_map, map, refl, sym, ap, ◌∙◌, subst, cond, arith, length-append}
 use Rattle.kube_server.specs.declared.entry.Entry.{Entry}
+use Rattle.std.specs.Arc.{arc_value}
+use Rattle.std.specs.declared.alloc.Global.{Global}
+use Rattle.std.specs.declared.sync.Arc.{Arc}
 use Rattle.kube_server.specs.Stored.{change_of}
 use Rattle.std.specs.Prelude.{decimal, IsSome, IfSome, is_some, unwrap_or, if◌then◌else◌}
 use Rattle.kube_meta.specs.declared.metadata.ObjectMeta.{ObjectMeta}
@@ -217,3 +220,14 @@ pub deletion-fits : (s : ServerState) (r : Reference) (o : ObjectData) (now : �
     → IfSome e (λ x. IsNextChange meta_of s.changes (change_of x))
 deletion-fits s r o now None h e seen = tt
 deletion-fits s r o now (Some x) h e seen = next-of-deletion s r o now (change_of x) h e seen
+
+map-twice : {A B C : Type 0} (f : B → C) (g : A → B) (x : Option A) → option_map (λ a. f (g a)) x ≡ option_map f (option_map g x)
+map-twice f g None = refl
+map-twice f g (Some a) = refl
+
+-- a shared object that is found in the map is what is held under its key
+pub shared-held : (s : ServerState) (key place : Key) (objects : State DynamicObject) (found : Option (Arc DynamicObject Global))
+    → option_map arc_value found ≡ object_at place objects → place ≡ key → objects ≡ state_of meta_of s.changes
+    → option_map (λ a. seen_object (arc_value a)) found ≡ held_under s key
+shared-held s key place objects found h k e =
+    map-twice seen_object arc_value found ∙ found-held s key objects (option_map arc_value found) (h ∙ ap (λ q. object_at q objects) k) e
