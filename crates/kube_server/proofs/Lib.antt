@@ -1,3 +1,4 @@
 pub mod ObjectLemmas
 pub mod HistoryLemmas
 pub mod ServerLemmas
+pub mod PatchLemmas

@@ -5,7 +5,7 @@ use Rattle.std.specs.Arc.{arc_value}
 use Rattle.std.specs.declared.alloc.Global.{Global}
 use Rattle.std.specs.declared.sync.Arc.{Arc}
 use Rattle.kube_server.specs.Stored.{change_of}
-use Rattle.std.specs.Prelude.{decimal, IsSome, IfSome, is_some, unwrap_or, if◌then◌else◌}
+use Rattle.std.specs.Prelude.{decimal, IsSome, IfSome, IfOk, is_some, unwrap_or, if◌then◌else◌}
 use Rattle.kube_meta.specs.declared.metadata.ObjectMeta.{ObjectMeta}
 use Rattle.kube_meta.specs.declared.dynamic.DynamicObject.{DynamicObject}
 use Rattle.kube_meta.specs.Keys.{is_named, key_of as reference_of_meta}
@@ -13,7 +13,13 @@ use Rattle.kube_meta.specs.Reference.{Reference, same_type}
 use Rattle.kube_meta.specs.Reading.{ObjectData, seen_object}
 use Rattle.kube_api.specs.declared.patch.PatchRefusal.{PatchRefusal}
 use Rattle.kube_server.specs.History.{Key, key_of, State, object_at, Change, Adds, Modifies, Removes, object_of, change_seen, changed, state_of, Fits, IsNextChange, IsHistory}
-use Rattle.kube_server.specs.Servers.{ServerState, meta_of, data_meta, next_revision, reference_key, held_under, held, IsStep, IsMade, IsAtMostStep, IsHeldAnd, IsPatched, put_over, put_object, put_change, removal, remove_change, deletion, deleting, has_finalizers, is_deleting}
+use Rattle.kube_server.specs.Servers.{ServerState, meta_of, data_meta, next_revision, reference_key, held_under, held, IsStep, IsMade, IsAtMostStep, IsHeldAnd, IsPatched, put_over, put_object, put_change, removal, remove_change, deletion, deleting, has_finalizers, is_deleting, is_gone, with_version, read_patched, patch_document, patch_change}
+use Rattle.serde_json.specs.Data.{Data}
+use Rattle.kube_meta.specs.declared.object_fault.ObjectFault.{ObjectFault}
+use Rattle.kube_meta.specs.Reading.{object_data_at}
+use Rattle.kube_meta.specs.Writing.{object_data}
+use Rattle.kube_api.specs.Patches.{Operation, patched}
+use Rattle.kube_server.proofs.PatchLemmas.{patched-named}
 use Rattle.kube_server.specs.Serving.{IsServed}
 use Rattle.kube_server.proofs.HistoryLemmas.{state-more, history-more, next-of-stored, IsOfStored}
 
@@ -231,3 +237,40 @@ pub shared-held : (s : ServerState) (key place : Key) (objects : State DynamicOb
     → option_map (λ a. seen_object (arc_value a)) found ≡ held_under s key
 shared-held s key place objects found h k e =
     map-twice seen_object arc_value found ∙ found-held s key objects (option_map arc_value found) (h ∙ ap (λ q. object_at q objects) k) e
+
+-- ---- patches
+
+gone-when : (r : ℕ) (o p : ObjectData) (b : Bool) → p.metadata.name ≡ o.metadata.name → p.metadata.namespace ≡ o.metadata.namespace
+    → IsChangeOf r o (if b then removal r p else Modifies (with_version r p))
+gone-when r o p true n ns = record { stored = tt; name = n; namespace = ns; version = refl }
+gone-when r o p false n ns = record { stored = tt; name = n; namespace = ns; version = refl }
+
+abbrev IsOkOf : {A E : Type 0} → (A → Type 0) → Result A E → Type 0
+IsOkOf P (Ok a) = P a
+IsOkOf P (Err e) = Unit {0}
+
+read-is : (r : ℕ) (os : List Operation) (o : ObjectData) (e : Data) (read : Result ObjectData ObjectFault)
+    → patched os (object_data o) ≡ Ok e → object_data_at e ≡ read → IsOkOf (IsChangeOf r o) (read_patched r read)
+read-is r os o e (Err f) h k = tt
+read-is r os o e (Ok p) h k =
+    let same = patched-named os o p e h k in gone-when r o p (is_gone p.metadata) same.name same.namespace
+
+document-is : (r : ℕ) (os : List Operation) (o : ObjectData) (document : Result Data PatchRefusal)
+    → patched os (object_data o) ≡ document → IsOkOf (IsChangeOf r o) (patch_document r document)
+document-is r os o (Err e) h = tt
+document-is r os o (Ok e) h = read-is r os o e (object_data_at e) h refl
+
+patch-is : (r : ℕ) (os : List Operation) (o : ObjectData) → IsOkOf (IsChangeOf r o) (patch_change r os o)
+patch-is r os o = document-is r os o (patched os (object_data o)) refl
+
+pub next-of-patch : (s : ServerState) (r : Reference) (o : ObjectData) (os : List Operation) (c : Change DynamicObject)
+    → IsHistory meta_of s.changes → held s r ≡ Some o → patch_change (next_revision s) os o ≡ Ok (change_seen seen_object c)
+    → IsNextChange meta_of s.changes c
+next-of-patch s r o os c h e seen =
+    let is : IsChangeOf (next_revision s) o (change_seen seen_object c) =
+        subst (λ d. IsOkOf (IsChangeOf (next_revision s) o) d) seen (patch-is (next_revision s) os o) in
+    next-of-held s r o c (change_seen seen_object c) h e refl is.stored is.name is.namespace is.version
+
+pub ok-map : {A E : Type 0} (r : Result A E) (P Q : A → Type 0) → ((a : A) → P a → Q a) → IfOk r P → IfOk r Q
+ok-map (Ok a) P Q f h = f a h
+ok-map (Err e) P Q f h = tt
