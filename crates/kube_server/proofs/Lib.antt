@@ -2,6 +2,7 @@
 pub mod ObjectLemmas
 pub mod HistoryLemmas
 pub mod ServerLemmas
+pub mod PatchLemmas
 pub mod HonestLemmas
 pub mod PollLemmas
 pub mod WatchLemmas

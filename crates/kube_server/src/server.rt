@@ -291,10 +291,11 @@ impl Server {
         &self.resource
     }
 
-    // The newest revision.
+    // The newest revision of a history.
     pub(crate) fn revision(&self) -> u64
         ensures value { result ≡ newest self.now }
         ensures small { result < 2 ^ 63 }
+        ensures history { IsHistory meta_of self.now.changes }
     {
         self.log.len() as u64
     }
