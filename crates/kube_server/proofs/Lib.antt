@@ -10,3 +10,4 @@ pub mod NumberLemmas
 pub mod ListLemmas
 pub mod StandingLemmas
 pub mod PlaceLemmas
+pub mod SelectorLemmas
