@@ -11,3 +11,4 @@ pub mod ListLemmas
 pub mod StandingLemmas
 pub mod PlaceLemmas
 pub mod SelectorLemmas
+pub mod LogLemmas

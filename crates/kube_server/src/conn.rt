@@ -1,11 +1,12 @@
 //! A connection to a server: an API of lists and watches in memory.
 
-ghost use Rattle.std.specs.Prelude.{◌≡◌, ◌≤◌, ◌<◌, ◌+◌, ◌^◌, ◌&&◌, nat_le, [], IfOk, OnOk, OnErr, Ok, Some, None, map, option_map, length, drop};
+ghost use Rattle.std.specs.Prelude.{◌≡◌, ◌≤◌, ◌<◌, ◌+◌, ◌^◌, ◌&&◌, nat_le, List, [], IfOk, IfSome, OnOk, OnErr, Ok, Some, None, map, option_map, length, drop};
 ghost use Rattle.std.specs.Arc.{arc_value};
+ghost use Rattle.kube_meta.specs.declared.dynamic.DynamicObject.{DynamicObject};
 ghost use Rattle.kube_model.specs.Raw.{grown, ListAsked, WatchAsked, NextAsked, Ends, FaultRose, IsNeverOpened, is_fault};
 ghost use Rattle.kube_api.specs.Answers.{list_answer, watch_answer, next_answer, is_watch_fault};
 ghost use Rattle.kube_api.specs.Ready.{IsReady, IsNotReady};
-ghost use Rattle.kube_server.specs.History.{state_at, objects_of, IsLater};
+ghost use Rattle.kube_server.specs.History.{Change, state_at, objects_of, IsLater};
 ghost use Rattle.kube_server.specs.Numbers.{name_sought, number_at};
 ghost use Rattle.kube_server.specs.Tokens.{token_of};
 ghost use Rattle.kube_server.specs.Honest.{IsHonest};
@@ -160,10 +161,10 @@ fn is_known(revision: u64, compacted: u64, newest: usize) -> bool
 }
 
 /// Where a list goes on; none where its token says no such place.
-fn place(asked: &Option<Text>, compacted: u64, log: &Log) -> Option<Token>
-    ensures { option_map token_of result ≡ place_asked (fresh log.now.changes compacted) asked.now }
+fn place(asked: &Option<Text>, compacted: u64, newest: usize) -> Option<Token>
+    ensures known { IfSome result (λ t. t.revision ≤ newest) }
+    ensures place { (changes : List (Change DynamicObject)) → length changes ≡ newest → option_map token_of result ≡ place_asked (fresh changes compacted) asked.now }
 {
-    let newest = log.entries().len();
     let Some(text) = asked else {
         return Some(Token {
             revision: newest as u64,
@@ -205,13 +206,15 @@ fn list_answered(
     compacted: u64,
     params: &ListParams,
 ) -> Result<Result<Page<DynamicObject>, ApiError>, NoMemory>
+    ensures counted { length log.new.changes < 2 ^ 64 }
     ensures answer { IfOk result (λ r. list_answer (Polled.Ready r) ≡ listed meta_of params.now (fresh log.old.changes compacted)) }
     ensures kept { log.new.changes ≡ log.old.changes }
 {
+    let newest = log.entries().len();
     let Some(name) = name_asked(alloc, &params.label_selector, &params.field_selector)? else {
         return Ok(Err(unsupported(alloc)?));
     };
-    let Some(token) = place(&params.continue_token, compacted, log) else {
+    let Some(token) = place(&params.continue_token, compacted, newest) else {
         return Ok(Err(ApiError::Api(expired(alloc)?)));
     };
     Ok(Ok(page_at(alloc, log, &name, token, params.limit)?))
