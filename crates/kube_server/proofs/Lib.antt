@@ -12,3 +12,5 @@ pub mod StandingLemmas
 pub mod PlaceLemmas
 pub mod SelectorLemmas
 pub mod LogLemmas
+pub mod ConnLemmas
+pub mod PageLemmas

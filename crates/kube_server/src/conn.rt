@@ -147,10 +147,11 @@ fn page(
     ensures { IfOk result (λ p. list_answer (Polled.Ready (Ok p)) ≡ page_of limit (token_of token) (drop token.offset (map arc_value objects.now))) }
 {
     let left = left_after(objects, token.offset);
-    match limit {
-        None | Some(0) => last(alloc, left, token.revision),
-        Some(most) => within(alloc, left, token, most as usize),
+    let most = limit.unwrap_or(0) as usize;
+    if most == 0 {
+        return last(alloc, left, token.revision);
     }
+    within(alloc, left, token, most)
 }
 
 /// A revision that was not compacted away and is not above the newest.
@@ -255,6 +256,24 @@ fn opened_watch(
     Watching::initial(alloc, name, &selected, newest)
 }
 
+/// The watch that a call opens; none where its selectors aren't supported.
+fn asked_watch(
+    alloc: Global,
+    log: &mut Log,
+    compacted: u64,
+    params: &WatchParams,
+    version: &str,
+) -> Result<Option<Watching>, NoMemory>
+    ensures watch { IfOk result (λ w. option_map watch_of w ≡ opened meta_of params.now version.now (fresh log.old.changes compacted)) }
+    ensures kept { log.new.changes ≡ log.old.changes }
+{
+    let Some(name) = name_asked(alloc, &params.label_selector, &params.field_selector)? else {
+        return Ok(None);
+    };
+    let initial = params.send_initial_events;
+    Ok(Some(opened_watch(alloc, log, compacted, name, initial, version)?))
+}
+
 /// The place of the next entry that the open watch gives.
 fn current_place(watch: &Option<Watching>, log: &[Entry]) -> usize
     ensures { IsCurrentPlace (option_map watch_of watch.now) (map change_of log.now) result }
@@ -355,9 +374,9 @@ impl ApiMode for Conn {
         ensures faults { IfOk result (λ a. FaultRose (is_fault (list_answer a)) self.old.failures self.new.failures) }
         ensures rises { self.old.failures ≤ self.new.failures }
     {
-        let call = copy_list_params(alloc, params)?;
         let answer = list_answered(alloc, &mut self.log, self.compacted, params)?;
         let kept = copy_listed(alloc, &answer)?;
+        let call = copy_list_params(alloc, params)?;
         self.talk.tell(Told::List(call, kept))?;
         Ok(Polled::Ready(answer))
     }
@@ -383,16 +402,15 @@ impl ApiMode for Conn {
         ensures faults { IfOk result (λ a. FaultRose (is_watch_fault a) self.old.failures self.new.failures) }
         ensures rises { self.old.failures ≤ self.new.failures }
     {
+        let opened = asked_watch(alloc, &mut self.log, self.compacted, params, version)?;
         let call = copy_watch_params(alloc, params)?;
         let from = Text::new(alloc, version)?;
-        let Some(name) = name_asked(alloc, &params.label_selector, &params.field_selector)? else {
+        let Some(watch) = opened else {
             let kept = unsupported(alloc)?;
             let answer = unsupported(alloc)?;
             self.talk.tell(Told::Watch(call, from, Err(kept)))?;
             return Ok(Polled::Ready(Err(answer)));
         };
-        let initial = params.send_initial_events;
-        let watch = opened_watch(alloc, &mut self.log, self.compacted, name, initial, version)?;
         self.talk.tell(Told::Watch(call, from, Ok(())))?;
         self.watch = Some(watch);
         Ok(Polled::Ready(Ok(())))
