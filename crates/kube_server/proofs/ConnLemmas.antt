@@ -10,7 +10,6 @@ use Rattle.kube_server.specs.Numbers.{NameSought, name_sought}
 use Rattle.kube_server.specs.Honest.{WatchTold, watch_told, watch_after, after_watch_answer, after_next_answer}
 use Rattle.kube_server.specs.Connections.{OpenWatch, Connection, fresh, failures_after, unsupported, listed, after_list, watched_by, watched, opening, opened_by, opened, after_watch, poll_current, left_current, polled, after_next}
 use Rattle.kube_server.specs.Standing.{WatchStands, Stands}
-use Rattle.kube_server.proofs.StandingLemmas.{Stands-called, Stands-fed}
 
 module _ {V : Type 0} (meta : V → ObjectMeta) where
   made : (raw : Raw V) (call : RawCall) (answer : RawAnswer V) → raw.call ≡ call → raw.answer ≡ answer → raw ≡ record { call = call; answer = answer }

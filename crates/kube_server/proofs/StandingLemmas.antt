@@ -10,7 +10,7 @@ use Rattle.kube_model.specs.Raw.{RawCall, ListAsked, WatchAsked, NextAsked, RawA
 use Rattle.kube_server.specs.History.{Change, state_at, objects_of}
 use Rattle.kube_server.specs.Numbers.{NameSought, name_sought, number_at}
 use Rattle.kube_server.specs.Honest.{ListTold, list_after, list_told, WatchTold, watch_after, watch_told, watch_selection, just_opened, after_watch_answer, after_next_answer, IsHonest, IsHonestSoFar}
-use Rattle.kube_server.specs.Connections.{OpenWatch, Connection, selected_by, is_known, if_known, version_known, initial_watch, later_watch, opening, watched_by, opened_by, watched, opened, polled, poll_current, left_current, named_at, listed, answered, left_by, told, Act, Calls, Feeds, acted, fresh}
+use Rattle.kube_server.specs.Connections.{OpenWatch, Connection, selected_by, is_known, if_known, version_known, initial_watch, later_watch, opening, watched_by, opened_by, watched, opened, polled, poll_current, left_current, named_at, listed, after_list, after_watch, after_next, left_by, told, Act, Calls, Feeds, acted, fresh}
 use Rattle.kube_server.specs.Standing.{ListStands, WatchStands, IsWatching, Stands}
 use Rattle.kube_server.proofs.HonestLemmas.{IsHonest-more, IsHonest-push}
 use Rattle.kube_server.proofs.PollLemmas.{selected_between-none}
@@ -27,7 +27,7 @@ module _ {V : Type 0} (meta : V → ObjectMeta) where
   watch_told-push talk raw = fold-append (λ watch r. watch_after watch r.call r.answer) None talk (raw ∷ [])
 
   -- where the list and the watch go on, all was honest
-  pub told_stands : (c : Connection V) (call : RawCall) (answer : RawAnswer V) → IsHonest meta (selected_by meta) c.changes c.talk → ListStands meta c.changes (list_after (list_told c.talk) call answer) → WatchStands meta c.changes (watch_after (watch_told c.talk) call answer) c.watch → Stands meta (told call answer c)
+  told_stands : (c : Connection V) (call : RawCall) (answer : RawAnswer V) → IsHonest meta (selected_by meta) c.changes c.talk → ListStands meta c.changes (list_after (list_told c.talk) call answer) → WatchStands meta c.changes (watch_after (watch_told c.talk) call answer) c.watch → Stands meta (told call answer c)
   told_stands c call answer honest list watch =
       let raw : Raw V = record { call = call; answer = answer } in
       let list' : ListStands meta c.changes (list_told (c.talk ++ raw ∷ [])) = rw (list_told-push c.talk raw) list in
@@ -106,12 +106,22 @@ module _ {V : Type 0} (meta : V → ObjectMeta) where
 
   -- ---- any call, and a log that grows
 
-  pub Stands-called : (c : Connection V) (call : RawCall) → length c.changes < 2 ^ 64 → Stands meta c → Stands meta (left_by meta call c)
-  Stands-called c (ListAsked params) small s = told_stands c (ListAsked params) (listed meta params c) s.honest (ListStands-listed meta c (list_told c.talk) params small s.list) s.watch
-  Stands-called c (WatchAsked params version) small s =
+  pub Stands-listed : (c : Connection V) (params : ListParams) → length c.changes < 2 ^ 64 → Stands meta c → Stands meta (after_list meta params c)
+  Stands-listed c params small s =
+      told_stands c (ListAsked params) (listed meta params c) s.honest (ListStands-listed meta c (list_told c.talk) params small s.list) s.watch
+
+  pub Stands-watched : (c : Connection V) (params : WatchParams) (version : List ℕ) → Stands meta c → Stands meta (after_watch meta params version c)
+  Stands-watched c params version s =
       told_stands (record c { watch = opened meta params version c }) (WatchAsked params version) (watched params) s.honest s.list (opened_stands c params version (name_sought params.label_selector params.field_selector) refl s.watch)
-  Stands-called c NextAsked small s =
+
+  pub Stands-polled : (c : Connection V) → Stands meta c → Stands meta (after_next meta c)
+  Stands-polled c s =
       told_stands (record c { watch = left_current meta c.changes c.watch }) NextAsked (polled meta c) s.honest s.list (looked c.changes (watch_told c.talk) c.watch s.watch)
+
+  Stands-called : (c : Connection V) (call : RawCall) → length c.changes < 2 ^ 64 → Stands meta c → Stands meta (left_by meta call c)
+  Stands-called c (ListAsked params) small s = Stands-listed c params small s
+  Stands-called c (WatchAsked params version) small s = Stands-watched c params version s
+  Stands-called c NextAsked small s = Stands-polled c s
 
   pub Stands-fed : (c : Connection V) (more : List (Change V)) (compacted : ℕ) → Stands meta c → Stands meta (record c { changes = c.changes ++ more; compacted = compacted })
   Stands-fed c more compacted s = record {

@@ -7,7 +7,7 @@ use Rattle.kube_server.specs.Servers.{meta_of}
 use Rattle.kube_server.specs.Stored.{raw_of}
 use Rattle.kube_server.specs.Connections.{Connection, listed, after_list}
 use Rattle.kube_server.specs.Standing.{Stands}
-use Rattle.kube_server.proofs.StandingLemmas.{Stands-called}
+use Rattle.kube_server.proofs.StandingLemmas.{Stands-listed}
 use Rattle.kube_server.proofs.ConnLemmas.{list_left}
 use Rattle.kube_server.proofs.conn.ConnApiMode.list.Goals as goal
 
@@ -19,7 +19,7 @@ left c =
 stands : (c : goal.In_ok-tell) → Stands meta_of (the_view (record { log = c.list_answered.new.log; compacted = c.self.inside.compacted; watch = c.self.inside.watch; talk = c.tell.new.self }))
 stands c =
     let small : length (the_view c.self.inside).changes < 2 ^ 64 = subst (λ cs. length cs < 2 ^ 64) c.in_ok-answer.ensures.kept c.in_ok-answer.ensures.counted in
-    subst (λ (d : Connection DynamicObject). Stands meta_of d) (left c) (Stands-called meta_of (the_view c.self.inside) (ListAsked c.args.params.now) small c.self.invariant)
+    subst (λ (d : Connection DynamicObject). Stands meta_of d) (left c) (Stands-listed meta_of (the_view c.self.inside) c.args.params.now small c.self.invariant)
 
 pub invariant_of-self-2 : goal.invariant_of-self-2
 invariant_of-self-2 c = stands c
