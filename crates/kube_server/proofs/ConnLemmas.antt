@@ -10,6 +10,7 @@ use Rattle.kube_server.specs.Numbers.{NameSought, name_sought}
 use Rattle.kube_server.specs.Honest.{WatchTold, watch_told, watch_after, after_watch_answer, after_next_answer}
 use Rattle.kube_server.specs.Connections.{OpenWatch, Connection, fresh, failures_after, unsupported, listed, after_list, watched_by, watched, opening, opened_by, opened, after_watch, poll_current, left_current, polled, after_next}
 use Rattle.kube_server.specs.Standing.{WatchStands, Stands}
+use Rattle.kube_server.proofs.StandingLemmas.{Stands-watched}
 
 module _ {V : Type 0} (meta : V → ObjectMeta) where
   made : (raw : Raw V) (call : RawCall) (answer : RawAnswer V) → raw.call ≡ call → raw.answer ≡ answer → raw ≡ record { call = call; answer = answer }
@@ -24,6 +25,10 @@ module _ {V : Type 0} (meta : V → ObjectMeta) where
   watch_left old params version raw changes watch raws failures same call answer left talk count =
       let one : raw ≡ record { call = WatchAsked params version; answer = watched params } = made raw _ _ call answer in
       rw (same, left, talk, count, one) refl
+
+  pub watch_stands : (old : Connection V) (params : WatchParams) (version : List ℕ) (raw : Raw V) (changes : List (Change V)) (watch : Option (OpenWatch V)) (raws : List (Raw V)) (failures : ℕ) → changes ≡ old.changes → raw.call ≡ WatchAsked params version → raw.answer ≡ watched params → watch ≡ opened meta params version old → raws ≡ old.talk ++ raw ∷ [] → failures ≡ failures_after raw.answer old.failures → Stands meta old → Stands meta (record { changes = changes; compacted = old.compacted; watch = watch; talk = raws; failures = failures })
+  watch_stands old params version raw changes watch raws failures same call answer left talk count s =
+      subst (λ (c : Connection V). Stands meta c) (watch_left old params version raw changes watch raws failures same call answer left talk count) (Stands-watched meta old params version s)
 
   pub next_left : (old : Connection V) (raw : Raw V) (watch : Option (OpenWatch V)) (raws : List (Raw V)) (failures : ℕ) → raw.call ≡ NextAsked → raw.answer ≡ polled meta old → watch ≡ left_current meta old.changes old.watch → raws ≡ old.talk ++ raw ∷ [] → failures ≡ failures_after raw.answer old.failures → after_next meta old ≡ record { changes = old.changes; compacted = old.compacted; watch = watch; talk = raws; failures = failures }
   next_left old raw watch raws failures call answer left talk count =

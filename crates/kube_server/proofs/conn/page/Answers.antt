@@ -20,6 +20,6 @@ returns-then-most-eq0 c =
 pub returns : goal.returns
 returns c =
     let left = seen_left arc_value c.args.token.offset c.args.objects.now c.left_after-left.result.now c.left_after-left.ensures in
-    let asked : c.unwrap_or-most.result ≡ unwrap_or c.args.limit 0 = first_of (c.unwrap_or-most.ensures, cc, search rules) in
+    let asked : c.unwrap_or-most.result ≡ unwrap_or c.args.limit 0 = first_of (cc, search rules) in
     let some : 0 < unwrap_or c.args.limit 0 = first_of (omega arith, search rules) in
     subst (λ (a : RawAnswer DynamicObject). IfOk c.within.result (λ p. list_answer (Ready (Ok p)) ≡ a)) (ap (λ (xs : List DynamicObject). page_within c.unwrap_or-most.result (token_of c.args.token) xs) left ∙ (ap (λ (n : ℕ). page_within n (token_of c.args.token) (drop c.args.token.offset (map arc_value c.args.objects.now))) asked ∙ page_of-within c.args.limit (token_of c.args.token) _ some)) c.within.ensures
