@@ -1,8 +1,8 @@
 -- What entries of a log make, one after another.
-use Rattle.std.proofs.Common.{◌≡◌, ℕ, ◌+◌, ◌≤◌, ◌<◌, List, [], ◌∷◌, ◌++◌, map, take, drop, fold, length, get_or, refl, sym, ap, ◌∙◌, arith, length-append}
+use Rattle.std.proofs.Common.{◌≡◌, ℕ, ◌+◌, ◌-◌, ◌≤◌, ◌<◌, List, [], ◌∷◌, ◌++◌, map, take, drop, fold, length, get_or, refl, sym, ap, ◌∙◌, arith, length-append, length-drop}
 use Rattle.std.proofs.Math.ListN.{get_or-map}
 use Rattle.std.proofs.Math.Seq.{drop-append_seam}
-use Rattle.std.proofs.lemmas.List.{take_more, take_all, take-append-le, take-map, length-map, map-append}
+use Rattle.std.proofs.lemmas.List.{take_more, take_all, take-append-le, take-map, drop-map, length-map}
 use Rattle.std.proofs.lemmas.List.Sums.{fold-append}
 use Rattle.std.specs.Arc.{arc_value}
 use Rattle.std.specs.declared.alloc.Global.{Global}
@@ -40,3 +40,10 @@ pub rest_is : (old new : List (Change DynamicObject)) (a b : ℕ) → IsLater ol
 rest_is old new a b later =
     let e = drop-append_seam old later.more in
     rw later.goes_on (ap (λ xs. old ++ xs) e)
+
+-- the log that is known, and the entries behind it, are the longer log
+pub fed : (log new : List (Change DynamicObject)) (known entries : List Entry) (a b : ℕ) → map change_of known ≡ log → map change_of entries ≡ new → IsLater log new a b → log ++ map change_of (take (length entries - length known) (drop (length known) entries)) ≡ new
+fed log new known entries a b is_log is_new later =
+    let n : length known ≡ length log = sym (length-map known change_of) ∙ ap length is_log in
+    let all : take (length entries - length known) (drop (length known) entries) ≡ drop (length known) entries = take_all _ _ (omega (arith, length-drop (length known) entries)) in
+    ap (λ xs. log ++ xs) (ap (map change_of) all ∙ (sym (drop-map change_of (length known) entries) ∙ (ap (λ xs. drop (length known) xs) is_new ∙ ap (λ k. drop k new) n))) ∙ rest_is log new a b later
