@@ -2,3 +2,4 @@ pub mod ObjectLemmas
 pub mod HistoryLemmas
 pub mod ServerLemmas
 pub mod PatchLemmas
+pub mod CallLemmas
