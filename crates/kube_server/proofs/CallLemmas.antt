@@ -207,3 +207,6 @@ pub delete-kept : (x : ObjectAnswer DynamicObject) (found : Option ObjectData) (
 delete-kept x None now old new e l = none-held x old new l
 delete-kept x (Some o) now old new e l =
     told-kept x old new (seen-tells x ∙ (ap tells e ∙ deleted-tells o (deletion (next_revision old) now o)))
+
+pub held-at : (found : Option ObjectData) (o : ObjectData) (P : ObjectData → Type 0) → found ≡ Some o → IsHeldAnd found P → P o
+held-at found o P e h = subst (λ f. IsHeldAnd f P) e h
