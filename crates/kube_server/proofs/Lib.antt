@@ -3,3 +3,4 @@ pub mod HistoryLemmas
 pub mod ServerLemmas
 pub mod PatchLemmas
 pub mod CallLemmas
+pub mod LaterLemmas

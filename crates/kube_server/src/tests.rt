@@ -1,5 +1,8 @@
 //! Scripts of what is done with a server and a connection, and what comes of it.
 
+ghost use Rattle.std.specs.Prelude.{◌≡◌, IfOk};
+ghost use Rattle.kube_server.specs.History.{IsLater};
+
 use crate::{Conn, Server, ServerRefusal};
 use kube_api::{ApiError, ApiMode, ListParams, Page, Patch, PatchRefusal, WatchEvent, WatchParams};
 use kube_meta::{
@@ -246,27 +249,37 @@ struct World {
     conn: Conn,
 }
 
-fn begun(alloc: Global) -> Result<World, NoMemory> {
+fn begun(alloc: Global) -> Result<World, NoMemory>
+    ensures { IfOk result (λ w. IsLater w.conn.changes w.server.changes w.conn.compacted w.server.compacted) }
+{
     let server = Server::new(alloc, resource(alloc)?);
     let conn = Conn::new(alloc, &server)?;
     Ok(World { server, conn })
 }
 
-fn put(alloc: Global, server: &mut Server, metadata: ObjectMeta) -> Result<String, NoMemory> {
+fn put(alloc: Global, server: &mut Server, metadata: ObjectMeta) -> Result<String, NoMemory>
+    ensures { IsLater server.old.changes server.new.changes server.old.compacted server.new.compacted }
+{
     answered(alloc, server.put(alloc, DynamicObject::bare(metadata)))
 }
 
-fn remove(alloc: Global, server: &mut Server, name: &str) -> Result<String, NoMemory> {
+fn remove(alloc: Global, server: &mut Server, name: &str) -> Result<String, NoMemory>
+    ensures { IsLater server.old.changes server.new.changes server.old.compacted server.new.compacted }
+{
     let key = key(alloc, server, name)?;
     answered(alloc, server.remove(alloc, &key))
 }
 
-fn delete(alloc: Global, server: &mut Server, name: &str, now: u64) -> Result<String, NoMemory> {
+fn delete(alloc: Global, server: &mut Server, name: &str, now: u64) -> Result<String, NoMemory>
+    ensures { IsLater server.old.changes server.new.changes server.old.compacted server.new.compacted }
+{
     let key = key(alloc, server, name)?;
     answered(alloc, server.request_delete(alloc, &key, Moment(now)))
 }
 
-fn patch(alloc: Global, server: &mut Server, name: &str, text: &str) -> Result<String, Fail> {
+fn patch(alloc: Global, server: &mut Server, name: &str, text: &str) -> Result<String, Fail>
+    ensures { IsLater server.old.changes server.new.changes server.old.compacted server.new.compacted }
+{
     let key = key(alloc, server, name)?;
     let patch = operations(alloc, text)?;
     if patch.len() > 9 {
@@ -275,7 +288,10 @@ fn patch(alloc: Global, server: &mut Server, name: &str, text: &str) -> Result<S
     Ok(patch_answered(alloc, server.patch(alloc, &key, &patch))?)
 }
 
-fn list(alloc: Global, conn: &mut Conn, params: &ListParams) -> Result<String, NoMemory> {
+fn list(alloc: Global, conn: &mut Conn, params: &ListParams) -> Result<String, NoMemory>
+    ensures changes { conn.new.changes ≡ conn.old.changes }
+    ensures compacted { conn.new.compacted ≡ conn.old.compacted }
+{
     let answer = conn.list(alloc, params, Moment(0))?;
     list_answered(alloc, &answer)
 }
@@ -285,18 +301,26 @@ fn watch(
     conn: &mut Conn,
     params: &WatchParams,
     version: &str,
-) -> Result<String, NoMemory> {
+) -> Result<String, NoMemory>
+    ensures changes { conn.new.changes ≡ conn.old.changes }
+    ensures compacted { conn.new.compacted ≡ conn.old.compacted }
+{
     let answer = conn.watch(alloc, params, version, Moment(0))?;
     watch_answered(alloc, &answer)
 }
 
-fn next(alloc: Global, conn: &mut Conn) -> Result<String, NoMemory> {
+fn next(alloc: Global, conn: &mut Conn) -> Result<String, NoMemory>
+    ensures changes { conn.new.changes ≡ conn.old.changes }
+    ensures compacted { conn.new.compacted ≡ conn.old.compacted }
+{
     let answer = conn.next(alloc, Moment(0))?;
     next_answered(alloc, &answer)
 }
 
 /// What is done with the server; none where it is an act of the connection.
-fn serve(alloc: Global, server: &mut Server, act: Act) -> Result<Option<String>, Fail> {
+fn serve(alloc: Global, server: &mut Server, act: Act) -> Result<Option<String>, Fail>
+    ensures { IsLater server.old.changes server.new.changes server.old.compacted server.new.compacted }
+{
     Ok(Some(match act {
         Act::Put(name) => put(alloc, server, metadata(alloc, name)?)?,
         Act::PutHeld(name) => put(alloc, server, held(alloc, name)?)?,
@@ -313,7 +337,10 @@ fn serve(alloc: Global, server: &mut Server, act: Act) -> Result<Option<String>,
 }
 
 /// What is asked of the connection.
-fn ask(alloc: Global, conn: &mut Conn, act: Act) -> Result<String, NoMemory> {
+fn ask(alloc: Global, conn: &mut Conn, act: Act) -> Result<String, NoMemory>
+    ensures changes { conn.new.changes ≡ conn.old.changes }
+    ensures compacted { conn.new.compacted ≡ conn.old.compacted }
+{
     match act {
         Act::List(limit, token) => { list(alloc, conn, &list_params(alloc, limit, token, "", "")?) }
         Act::ListBy(labels, fields) => {
@@ -334,7 +361,10 @@ fn ask(alloc: Global, conn: &mut Conn, act: Act) -> Result<String, NoMemory> {
 }
 
 /// Does one act, and says what came of it.
-fn come_of(alloc: Global, world: &mut World, act: Act) -> Result<String, Fail> {
+fn come_of(alloc: Global, world: &mut World, act: Act) -> Result<String, Fail>
+    requires { IsLater world.old.conn.changes world.old.server.changes world.old.conn.compacted world.old.server.compacted }
+    ensures { IsLater world.new.conn.changes world.new.server.changes world.new.conn.compacted world.new.server.compacted }
+{
     if let Some(text) = serve(alloc, &mut world.server, act)? {
         return Ok(text);
     }

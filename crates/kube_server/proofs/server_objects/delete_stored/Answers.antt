@@ -14,6 +14,6 @@ pub returns-in_ok-make-in-Some-clause-left : goal.returns-in_ok-make-in-Some-cla
 returns-in_ok-make-in-Some-clause-left c =
     let o = seen_object (arc_value c.args.stored) in
     at-most-step c.args.server.now _ (change_of c.in-Some.entry) (deletion (next_revision c.args.server.now) c.args.now.0 o)
-        (ap (option_map (λ x. change_seen seen_object (change_of x))) (sym c.in-Some.is)
-        ∙ held-at (held c.args.server.now (reference_of (λ t. resource_type t.value) c.args.key.now)) o _ c.requires c.in-Ok.ensures.ok)
-        c.in_ok-make-in-Some.ensures.ok
+    (ap (option_map (λ x. change_seen seen_object (change_of x))) (sym c.in-Some.is)
+    ∙ held-at (held c.args.server.now (reference_of (λ t. resource_type t.value) c.args.key.now)) o _ c.requires c.in-Ok.ensures.ok)
+    c.in_ok-make-in-Some.ensures.ok
