@@ -6,11 +6,11 @@ use Rattle.kube_meta.specs.declared.dynamic.DynamicObject.{DynamicObject}
 use Rattle.kube_meta.specs.declared.object_fault.ObjectFault.{ObjectFault}
 use Rattle.kube_meta.specs.Reading.{ObjectData, seen_object, object_data_at}
 use Rattle.kube_meta.specs.Writing.{object_data}
-use Rattle.kube_model.specs.Raw.{grown}
+use Rattle.kube_model.specs.Raw.{grown, FaultRose}
 use Rattle.kube_api.specs.declared.patch.PatchRefusal.{PatchRefusal}
 use Rattle.kube_api.specs.declared.patch.PatchRefusal.TheVariants.{NoMemory as memory}
 use Rattle.kube_api.specs.Patches.{Operation, performed_from, then_by, unless_changed, stays, is_object, is_read, is_same_object, patched}
-use Rattle.kube_api.specs.ObjectTalk.{ObjectAnswer, AnswersLater, AnswersFault, AnswersObject, AnswersGone, AnswersNone, AnswersRefusal, ObjectRaw, refusal_in, refusal_of, AnswersPatch, AnswersDelete, IsKept}
+use Rattle.kube_api.specs.ObjectTalk.{ObjectAnswer, AnswersLater, AnswersFault, AnswersObject, AnswersGone, AnswersNone, AnswersRefusal, ObjectRaw, refusal_in, refusal_of, AnswersPatch, AnswersDelete, IsKept, is_object_fault}
 use Rattle.kube_server.specs.History.{Change, Adds, Modifies, Removes, object_of, change_seen}
 use Rattle.kube_server.specs.Servers.{ServerState, meta_of, next_revision, IsHeldAnd, IsStep, patch_change, patch_document, read_patched, deletion, RefusesAs, IsOfHeld, IsPatchRefusal}
 use Rattle.kube_server.specs.ObjectCalls.{answer_seen, patched_answer, answer_of_patch, IsPatchedOrKept, IsLeftByPatch, IsKeptServer, gone_status, change_answer, deleted_answer, answer_of_delete, IsLeftByDelete, object_raw}
@@ -210,3 +210,28 @@ delete-kept x (Some o) now old new e l =
 
 pub held-at : (found : Option ObjectData) (o : ObjectData) (P : ObjectData → Type 0) → found ≡ Some o → IsHeldAnd found P → P o
 held-at found o P e h = subst (λ f. IsHeldAnd f P) e h
+
+-- ---- no call fails
+
+seen-fault : (x : ObjectAnswer DynamicObject) → is_object_fault x ≡ is_object_fault (answer_seen seen_object x)
+seen-fault AnswersLater = refl
+seen-fault (AnswersFault e) = refl
+seen-fault (AnswersObject o) = refl
+seen-fault (AnswersGone s) = refl
+seen-fault AnswersNone = refl
+seen-fault (AnswersRefusal e) = refl
+
+patched-fault : (c : Result (Change ObjectData) PatchRefusal) → is_object_fault (patched_answer c) ≡ false
+patched-fault (Ok c) = refl
+patched-fault (Err e) = refl
+
+patch-fault : (found : Option ObjectData) (r : ℕ) (os : List Operation) → is_object_fault (answer_of_patch r os found) ≡ false
+patch-fault None r os = refl
+patch-fault (Some o) r os = patched-fault (patch_change r os o)
+
+never : (b : Bool) → b ≡ false → FaultRose b 0 0
+never b e = λ t. absurd (true≢false (sym t ∙ e))
+
+pub patch-rose : (x : ObjectAnswer DynamicObject) (found : Option ObjectData) (r : ℕ) (os : List Operation)
+    → answer_seen seen_object x ≡ answer_of_patch r os found → FaultRose (is_object_fault x) 0 0
+patch-rose x found r os e = never (is_object_fault x) (seen-fault x ∙ (ap is_object_fault e ∙ patch-fault found r os))

@@ -3,8 +3,11 @@
 ghost use Rattle.std.specs.Prelude.{◌≡◌, IfOk};
 ghost use Rattle.kube_server.specs.History.{IsLater};
 
-use crate::{Conn, Server, ServerRefusal};
-use kube_api::{ApiError, ApiMode, ListParams, Page, Patch, PatchRefusal, WatchEvent, WatchParams};
+use crate::{Conn, Server, ServerObjects, ServerRefusal};
+use kube_api::{
+    ApiError, ApiMode, DeleteAnswer, ListParams, ObjectApi, Page, Patch, PatchAnswer, PatchRefusal,
+    WatchEvent, WatchParams,
+};
 use kube_meta::{
     ApiResource, DynamicObject, List, Moment, NoMemory, ObjectMeta, ObjectRef, Polled, Text,
 };
@@ -573,4 +576,172 @@ const SELECTORS: [Row; 20] = [
 #[test]
 fn selectors_of_the_name_alone_are_supported(rt: HostRuntime) -> Result<(), Fail> {
     plays(&rt, &SELECTORS)
+}
+
+/// A call to the objects of a server.
+#[derive(Clone, Copy)]
+enum Request {
+    Patch(&'static str, &'static str),
+    Delete(&'static str, u64),
+}
+
+fn patch_told(
+    alloc: Global,
+    answer: &Polled<PatchAnswer<DynamicObject>>,
+) -> Result<String, NoMemory> {
+    match answer {
+        Polled::Ready(PatchAnswer::Done(object)) => with_object(alloc, "done", object),
+        Polled::Ready(PatchAnswer::Refused(refusal)) => patch_answered(alloc, Err(*refusal)),
+        _ => Ok(String::from_str(alloc, "another answer")?),
+    }
+}
+
+fn delete_told(
+    alloc: Global,
+    answer: &Polled<DeleteAnswer<DynamicObject>>,
+) -> Result<String, NoMemory> {
+    match answer {
+        Polled::Ready(DeleteAnswer::Object(object)) => with_object(alloc, "stays", object),
+        Polled::Ready(DeleteAnswer::Status(status)) => {
+            let (code, uid) = (status.code, or_none(&status.uid));
+            Ok(format!(in alloc; "gone {code} {uid}")?)
+        }
+        Polled::Ready(DeleteAnswer::NotFound) => Ok(String::from_str(alloc, "NotFound")?),
+        _ => Ok(String::from_str(alloc, "another answer")?),
+    }
+}
+
+fn asked_patch(
+    alloc: Global,
+    objects: &mut ServerObjects,
+    name: &str,
+    text: &str,
+) -> Result<String, Fail> {
+    let patch = operations(alloc, text)?;
+    if patch.len() > 9 {
+        return Ok(String::new(alloc));
+    }
+    let answer = objects.patch(alloc, name, &patch, Moment(0))?;
+    Ok(patch_told(alloc, &answer)?)
+}
+
+fn asked(alloc: Global, objects: &mut ServerObjects, ask: Request) -> Result<String, Fail> {
+    match ask {
+        Request::Patch(name, text) => asked_patch(alloc, objects, name, text),
+        Request::Delete(name, now) => {
+            let answer = objects.delete(alloc, name, Moment(now))?;
+            Ok(delete_told(alloc, &answer)?)
+        }
+    }
+}
+
+/// A server with an object `a` that has a finalizer, and one `b` without.
+fn filled(alloc: Global) -> Result<Server, Fail> {
+    let mut server = Server::new(alloc, resource(alloc)?);
+    let first = held(alloc, "a")?;
+    let second = metadata(alloc, "b")?;
+    server.put(alloc, DynamicObject::bare(first))?;
+    server.put(alloc, DynamicObject::bare(second))?;
+    Ok(server)
+}
+
+/// Each call and its answer, up to the first that is answered otherwise.
+fn first_other_answer(alloc: Global, rows: &[(Request, &str)]) -> Result<String, Fail> {
+    let mut server = filled(alloc)?;
+    let mut objects = ServerObjects::new(alloc, &mut server, None)?;
+    for (number, (ask, wanted)) in rows.iter().enumerate() {
+        let text = asked(alloc, &mut objects, *ask)?;
+        if text.as_str() != *wanted {
+            return Ok(format!(in alloc; "{number}: {text}")?);
+        }
+    }
+    Ok(String::new(alloc))
+}
+
+const ANSWERS: [(Request, &str); 9] = [
+    (Request::Patch("c", "[]"), "NotFound"),
+    (Request::Delete("c", 1), "NotFound"),
+    (
+        Request::Patch("a", r#"[["test","/metadata/finalizers/0","g"]]"#),
+        "TestFailed 0",
+    ),
+    (Request::Delete("a", 5), "stays a/uid-1@3/5"),
+    (Request::Delete("a", 6), "stays a/uid-1@3/5"),
+    (
+        Request::Patch("a", r#"[["remove","/metadata/finalizers"]]"#),
+        "done a/uid-1@4/5",
+    ),
+    (Request::Patch("a", "[]"), "NotFound"),
+    (Request::Delete("b", 7), "gone 200 uid-2"),
+    (Request::Delete("b", 8), "NotFound"),
+];
+
+#[test]
+fn objects_answer_patches_and_deletions(rt: HostRuntime) -> Result<(), Fail> {
+    assert_eq!(rt; first_other_answer(rt.alloc(), &ANSWERS)?.as_str(), "");
+    Ok(())
+}
+
+/// Puts objects with as many names.
+fn put_many(alloc: Global, server: &mut Server, count: u32) -> Result<(), Fail> {
+    for number in 0..count {
+        let name = format!(in alloc; "object-{number}")?;
+        let metadata = metadata(alloc, name.as_str())?;
+        server.put(alloc, DynamicObject::bare(metadata))?;
+    }
+    Ok(())
+}
+
+/// How many pages of 500 a list has, at most 100, and how many objects are in them.
+fn counted_pages(alloc: Global, conn: &mut Conn) -> Result<String, Fail> {
+    let mut objects: usize = 0;
+    let mut token: Option<Text> = None;
+    for page in 1..100_u32 {
+        let params = ListParams {
+            continue_token: token,
+            ..list_params(alloc, 500, "", "", "")?
+        };
+        let Polled::Ready(Ok(given)) = conn.list(alloc, &params, Moment(0))? else {
+            return Ok(String::from_str(alloc, "fault")?);
+        };
+        objects = objects.wrapping_add(given.items.len());
+        if given.token.is_none() {
+            return Ok(format!(in alloc; "{objects} in {page}")?);
+        }
+        token = given.token;
+    }
+    Ok(String::from_str(alloc, "no end")?)
+}
+
+/// How many events an initial watch gives before its bookmark.
+fn counted_events(alloc: Global, conn: &mut Conn) -> Result<String, Fail> {
+    let _opened = conn.watch(alloc, &watch_params(alloc, true, "", "")?, "", Moment(0))?;
+    for count in 0..30_000_u32 {
+        match conn.next(alloc, Moment(0))? {
+            Polled::Ready(Some(Ok(WatchEvent::Added(_)))) => {}
+            Polled::Ready(Some(Ok(WatchEvent::Bookmark(bookmark)))) => {
+                let version = bookmark.version.as_str();
+                return Ok(format!(in alloc; "{count} at {version}")?);
+            }
+            _ => return Ok(String::from_str(alloc, "another event")?),
+        }
+    }
+    Ok(String::from_str(alloc, "no end")?)
+}
+
+/// Pages and a watch of a server of many objects.
+fn counted(alloc: Global, count: u32) -> Result<String, Fail> {
+    let mut server = Server::new(alloc, resource(alloc)?);
+    put_many(alloc, &mut server, count)?;
+    let mut conn = Conn::new(alloc, &server)?;
+    let pages = counted_pages(alloc, &mut conn)?;
+    let events = counted_events(alloc, &mut conn)?;
+    Ok(format!(in alloc; "{pages}, {events}")?)
+}
+
+#[test]
+fn twenty_thousand_objects_are_listed_and_watched(rt: HostRuntime) -> Result<(), Fail> {
+    let text = counted(rt.alloc(), 20_000)?;
+    assert_eq!(rt; text.as_str(), "20000 in 40, 20000 at 20000");
+    Ok(())
 }
