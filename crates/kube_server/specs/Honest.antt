@@ -103,6 +103,17 @@ IsEnding annotations = text_at ending_mark annotations ≡ Some (codes "true")
 
 -- ---- honesty
 
+-- the one change is one that puts the object
+abbrev pub PutsAlone : {V : Type 0} → V → List (Change V) → Type 0
+PutsAlone object (Adds o ∷ []) = o ≡ object
+PutsAlone object (Modifies o ∷ []) = o ≡ object
+PutsAlone object _ = ⊥
+
+-- the one change is the object's removal
+abbrev pub RemovesAlone : {V : Type 0} → V → List (Change V) → Type 0
+RemovesAlone object (Removes o ∷ []) = o ≡ object
+RemovesAlone object _ = ⊥
+
 module _ {V : Type 0} (meta : V → ObjectMeta) (selects : Selection → V → Bool) (history : List (Change V)) where
   -- the selected objects at a revision
   abbrev pub selected_at : Selection → ℕ → List V
@@ -111,15 +122,6 @@ module _ {V : Type 0} (meta : V → ObjectMeta) (selects : Selection → V → B
   -- the selected changes after one revision, up to another
   abbrev pub selected_between : Selection → ℕ → ℕ → List (Change V)
   selected_between selection from to = filter (λ c. selects selection (object_of c)) (drop from (take to history))
-
-  abbrev pub PutsAlone : V → List (Change V) → Type 0
-  PutsAlone object (Adds o ∷ []) = o ≡ object
-  PutsAlone object (Modifies o ∷ []) = o ≡ object
-  PutsAlone object _ = ⊥
-
-  abbrev pub RemovesAlone : V → List (Change V) → Type 0
-  RemovesAlone object (Removes o ∷ []) = o ≡ object
-  RemovesAlone object _ = ⊥
 
   -- an event brings a later watch from one revision to another: the selected changes between are the one that it tells, and none where it is a bookmark, whose version is the revision reached
   abbrev pub Tells : Selection → ℕ → RawAnswer V → ℕ → Type 0

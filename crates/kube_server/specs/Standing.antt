@@ -1,11 +1,12 @@
 -- What a connection holds after what it told, which no clause of it shows: by this each talk is honest.
-use Rattle.std.specs.Prelude.{◌≡◌, ℕ, ◌≤◌, ◌⊎◌, true, false, List, [], ◌∷◌, ◌++◌, map, take, length, Option, Some, None}
-use Rattle.kube_meta.specs.declared.metadata.ObjectMeta.{ObjectMeta}
+use Rattle.std.specs.Prelude.{◌≡◌, ℕ, ◌+◌, ◌≤◌, ◌⊎◌, true, false, List, [], ◌∷◌, ◌++◌, map, take, length, Option, Some, None, decimal, codes}
+use Rattle.kube_meta.specs.Reading.{unless_empty}
 use Rattle.kube_meta.specs.declared.dynamic.DynamicObject.{DynamicObject}
-use Rattle.kube_model.specs.Raw.{RawAnswer, GivesAdded, GivesError, IsNeverOpened}
+use Rattle.kube_meta.specs.declared.metadata.ObjectMeta.{ObjectMeta}
+use Rattle.kube_model.specs.Raw.{RawAnswer, GivesAdded, GivesError, GivesBookmark}
 use Rattle.kube_server.specs.History.{Change}
 use Rattle.kube_server.specs.Numbers.{number_at, Token, token_text, name_sought}
-use Rattle.kube_server.specs.Honest.{Selection, ListTold, list_told, WatchTold, watch_told, selected_at, selected_between, Follow, IsAfterBookmark, IsHonest}
+use Rattle.kube_server.specs.Honest.{Selection, ListTold, list_told, WatchTold, watch_told, selected_at, selected_between, Follow, IsHonest, IsHonestEnd}
 use Rattle.kube_server.specs.Connections.{OpenWatch, Connection, expired, selected_by, ending_bookmark}
 use Rattle.kube_server.specs.Places.{IsNextPlace}
 
@@ -15,6 +16,14 @@ IsCurrentPlace None changes place = Unit {0}
 IsCurrentPlace (Some w) changes place = IsNextPlace w changes place
 
 module _ {V : Type 0} (meta : V → ObjectMeta) (history : List (Change V)) where
+  -- events after one revision, and from the last change that they tell up to where a watch stands there was none
+  pub record IsToldUpTo (selection : Selection) (from : ℕ) (events : List (RawAnswer V)) (reached : ℕ) : Type 0 where
+    pub told : ℕ
+    pub follow : Follow meta (selected_by meta) history selection from events told
+    pub quiet : selected_between meta (selected_by meta) history selection told reached ≡ []
+    pub rises : told ≤ reached
+    pub within : reached ≤ length history
+
   -- from a version that isn't there: an error item, and then nothing
   pub record IsExpired (t : WatchTold V) (w : OpenWatch V) : Type 0 where
     pub later : t.initial ≡ false
@@ -22,18 +31,14 @@ module _ {V : Type 0} (meta : V → ObjectMeta) (history : List (Change V)) wher
     pub ends : w.follows ≡ None
     pub error : (w.pending ≡ GivesError expired ∷ []) ⊎ (w.pending ≡ [])
 
-  -- the changes after a version: those up to one revision were told, and from there to where the watch stands there is none
+  -- the changes after a version
   pub record IsFollowing (t : WatchTold V) (w : OpenWatch V) : Type 0 where
     pub from : ℕ
-    pub told : ℕ
     pub reached : ℕ
     pub later : t.initial ≡ false
     pub names : number_at t.version ≡ Some from
     pub known : from ≤ length history
-    pub follow : Follow meta (selected_by meta) history t.selection from t.events told
-    pub quiet : selected_between meta (selected_by meta) history t.selection told reached ≡ []
-    pub rises : told ≤ reached
-    pub within : reached ≤ length history
+    pub told : IsToldUpTo t.selection from t.events reached
     pub nothing : w.pending ≡ []
     pub stands : w.follows ≡ Some reached
 
@@ -51,12 +56,15 @@ module _ {V : Type 0} (meta : V → ObjectMeta) (history : List (Change V)) wher
 
   -- the state at a revision and its bookmark were told, and then the changes after it
   pub record IsBeyond (t : WatchTold V) (w : OpenWatch V) : Type 0 where
-    pub told : IsAfterBookmark meta (selected_by meta) history t.selection t.events
+    pub revision : ℕ
+    pub state : List V
+    pub events : List (RawAnswer V)
     pub reached : ℕ
     pub initial : t.initial ≡ true
-    pub quiet : selected_between meta (selected_by meta) history t.selection told.to reached ≡ []
-    pub rises : told.to ≤ reached
-    pub within : reached ≤ length history
+    pub known : revision ≤ length history
+    pub whole : state ≡ selected_at meta (selected_by meta) history t.selection revision
+    pub in_order : t.events ≡ map GivesAdded state ++ ending_bookmark revision ∷ events
+    pub told : IsToldUpTo t.selection revision events reached
     pub nothing : w.pending ≡ []
     pub stands : w.follows ≡ Some reached
 
@@ -75,11 +83,13 @@ module _ {V : Type 0} (meta : V → ObjectMeta) (history : List (Change V)) wher
   pub record IsListing (list : ListTold V) (text : List ℕ) : Type 0 where
     pub place : Token
     pub known : place.revision ≤ length history
+    pub within : place.offset ≤ length (selected_at meta (selected_by meta) history list.selection place.revision)
     pub token : text ≡ token_text place
     pub given : list.objects ≡ take place.offset (selected_at meta (selected_by meta) history list.selection place.revision)
+    pub goes_on : list.version ≡ None
 
   abbrev pub ListGoesOn : ListTold V → Option (List ℕ) → Type 0
-  ListGoesOn list None = Unit {0}
+  ListGoesOn list None = IsHonestEnd meta (selected_by meta) history list.selection list.objects None (unless_empty list.version)
   ListGoesOn list (Some text) = IsListing list text
 
   abbrev pub ListStands : Option (ListTold V) → Type 0

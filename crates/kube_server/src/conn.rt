@@ -1,15 +1,16 @@
 //! A connection to a server: an API of lists and watches in memory.
 
-ghost use Rattle.std.specs.Prelude.{◌≡◌, ◌≤◌, [], IfOk, OnOk, OnErr, Ok, Some, None, map, option_map, length, drop};
+ghost use Rattle.std.specs.Prelude.{◌≡◌, ◌≤◌, ◌<◌, ◌+◌, ◌^◌, ◌&&◌, nat_le, List, [], IfOk, IfSome, OnOk, OnErr, Ok, Some, None, map, option_map, length, drop};
 ghost use Rattle.std.specs.Arc.{arc_value};
+ghost use Rattle.kube_meta.specs.declared.dynamic.DynamicObject.{DynamicObject};
 ghost use Rattle.kube_model.specs.Raw.{grown, ListAsked, WatchAsked, NextAsked, Ends, FaultRose, IsNeverOpened, is_fault};
 ghost use Rattle.kube_api.specs.Answers.{list_answer, watch_answer, next_answer, is_watch_fault};
 ghost use Rattle.kube_api.specs.Ready.{IsReady, IsNotReady};
-ghost use Rattle.kube_server.specs.History.{state_at, objects_of, IsLater};
+ghost use Rattle.kube_server.specs.History.{Change, state_at, objects_of, IsLater};
 ghost use Rattle.kube_server.specs.Numbers.{name_sought, number_at};
 ghost use Rattle.kube_server.specs.Tokens.{token_of};
 ghost use Rattle.kube_server.specs.Honest.{IsHonest};
-ghost use Rattle.kube_server.specs.Connections.{fresh, selected_by, place_asked, version_known, named_at, page_of, listed, after_list, watched, opening, opened, after_watch, poll_current, left_current, polled, after_next, IsMove};
+ghost use Rattle.kube_server.specs.Connections.{fresh, selected_by, place_asked, version_known, named_at, last_page, page_within, page_of, listed, after_list, watched, opening, opened, after_watch, poll_current, left_current, polled, after_next, IsMove};
 ghost use Rattle.kube_server.specs.Servers.{meta_of};
 ghost use Rattle.kube_server.specs.Stored.{change_of, name_of};
 ghost use Rattle.kube_server.specs.Watches.{watch_of};
@@ -89,28 +90,45 @@ impl Model for Conn {
     }) };
 }
 
-/// A page of what is left of a list, in which so many objects at most are.
-fn page(
-    alloc: Global,
-    objects: &[Arc<DynamicObject>],
-    token: Token,
-    limit: Option<u32>,
-) -> Result<Page<DynamicObject>, NoMemory>
-    ensures { IfOk result (λ p. list_answer (Polled.Ready (Ok p)) ≡ page_of limit (token_of token) (drop token.offset (map arc_value objects.now))) }
+/// What is left of a list behind so many objects.
+fn left_after(objects: &[Arc<DynamicObject>], offset: u64) -> &[Arc<DynamicObject>]
+    ensures { result.now ≡ drop offset objects.now }
 {
-    let start = objects.len().min(token.offset as usize);
-    let left = &objects[start..];
-    let most = limit.unwrap_or(0) as usize;
-    if most == 0 || left.len() <= most {
-        return Ok(Page {
-            items: share_all(alloc, left)?,
-            token: None,
-            version: Some(decimal(alloc, token.revision)?),
-        });
+    let start = objects.len().min(offset as usize);
+    &objects[start..]
+}
+
+/// The last page of a list.
+fn last(
+    alloc: Global,
+    left: &[Arc<DynamicObject>],
+    revision: u64,
+) -> Result<Page<DynamicObject>, NoMemory>
+    ensures { IfOk result (λ p. list_answer (Polled.Ready (Ok p)) ≡ last_page revision (map arc_value left.now)) }
+{
+    Ok(Page {
+        items: share_all(alloc, left)?,
+        token: None,
+        version: Some(decimal(alloc, revision)?),
+    })
+}
+
+/// A page of no more than so many objects.
+fn within(
+    alloc: Global,
+    left: &[Arc<DynamicObject>],
+    token: Token,
+    most: usize,
+) -> Result<Page<DynamicObject>, NoMemory>
+    requires { token.offset + length left.now < 2 ^ 64 }
+    ensures { IfOk result (λ p. list_answer (Polled.Ready (Ok p)) ≡ page_within most (token_of token) (map arc_value left.now)) }
+{
+    if left.len() <= most {
+        return last(alloc, left, token.revision);
     }
     let next = Token {
         revision: token.revision,
-        offset: (start + most) as u64,
+        offset: token.offset + most as u64,
     };
     Ok(Page {
         items: share_all(alloc, &left[..most])?,
@@ -119,16 +137,35 @@ fn page(
     })
 }
 
+/// A page of what is left of a list at a place; a limit of 0 is none.
+fn page(
+    alloc: Global,
+    objects: &[Arc<DynamicObject>],
+    token: Token,
+    limit: Option<u32>,
+) -> Result<Page<DynamicObject>, NoMemory>
+    ensures { IfOk result (λ p. list_answer (Polled.Ready (Ok p)) ≡ page_of limit (token_of token) (drop token.offset (map arc_value objects.now))) }
+{
+    let left = left_after(objects, token.offset);
+    let most = limit.unwrap_or(0) as usize;
+    if most == 0 {
+        return last(alloc, left, token.revision);
+    }
+    within(alloc, left, token, most)
+}
+
 /// A revision that was not compacted away and is not above the newest.
-fn is_known(revision: u64, compacted: u64, newest: usize) -> bool {
+fn is_known(revision: u64, compacted: u64, newest: usize) -> bool
+    ensures { result ≡ (nat_le compacted revision && nat_le revision newest) }
+{
     compacted <= revision && revision <= newest as u64
 }
 
 /// Where a list goes on; none where its token says no such place.
-fn place(asked: &Option<Text>, compacted: u64, log: &Log) -> Option<Token>
-    ensures { option_map token_of result ≡ place_asked (fresh log.now.changes compacted) asked.now }
+fn place(asked: &Option<Text>, compacted: u64, newest: usize) -> Option<Token>
+    ensures known { IfSome result (λ t. t.revision ≤ newest) }
+    ensures place { (changes : List (Change DynamicObject)) → length changes ≡ newest → option_map token_of result ≡ place_asked (fresh changes compacted) asked.now }
 {
-    let newest = log.entries().len();
     let Some(text) = asked else {
         return Some(Token {
             revision: newest as u64,
@@ -170,13 +207,15 @@ fn list_answered(
     compacted: u64,
     params: &ListParams,
 ) -> Result<Result<Page<DynamicObject>, ApiError>, NoMemory>
+    ensures counted { length log.new.changes < 2 ^ 64 }
     ensures answer { IfOk result (λ r. list_answer (Polled.Ready r) ≡ listed meta_of params.now (fresh log.old.changes compacted)) }
     ensures kept { log.new.changes ≡ log.old.changes }
 {
+    let newest = log.entries().len();
     let Some(name) = name_asked(alloc, &params.label_selector, &params.field_selector)? else {
         return Ok(Err(unsupported(alloc)?));
     };
-    let Some(token) = place(&params.continue_token, compacted, log) else {
+    let Some(token) = place(&params.continue_token, compacted, newest) else {
         return Ok(Err(ApiError::Api(expired(alloc)?)));
     };
     Ok(Ok(page_at(alloc, log, &name, token, params.limit)?))
@@ -215,6 +254,24 @@ fn opened_watch(
     log.show(alloc, newest)?;
     let selected = name.select(alloc, log.shown())?;
     Watching::initial(alloc, name, &selected, newest)
+}
+
+/// The watch that a call opens; none where its selectors aren't supported.
+fn asked_watch(
+    alloc: Global,
+    log: &mut Log,
+    compacted: u64,
+    params: &WatchParams,
+    version: &str,
+) -> Result<Option<Watching>, NoMemory>
+    ensures watch { IfOk result (λ w. option_map watch_of w ≡ opened meta_of params.now version.now (fresh log.old.changes compacted)) }
+    ensures kept { log.new.changes ≡ log.old.changes }
+{
+    let Some(name) = name_asked(alloc, &params.label_selector, &params.field_selector)? else {
+        return Ok(None);
+    };
+    let initial = params.send_initial_events;
+    Ok(Some(opened_watch(alloc, log, compacted, name, initial, version)?))
 }
 
 /// The place of the next entry that the open watch gives.
@@ -317,9 +374,9 @@ impl ApiMode for Conn {
         ensures faults { IfOk result (λ a. FaultRose (is_fault (list_answer a)) self.old.failures self.new.failures) }
         ensures rises { self.old.failures ≤ self.new.failures }
     {
-        let call = copy_list_params(alloc, params)?;
         let answer = list_answered(alloc, &mut self.log, self.compacted, params)?;
         let kept = copy_listed(alloc, &answer)?;
+        let call = copy_list_params(alloc, params)?;
         self.talk.tell(Told::List(call, kept))?;
         Ok(Polled::Ready(answer))
     }
@@ -345,16 +402,15 @@ impl ApiMode for Conn {
         ensures faults { IfOk result (λ a. FaultRose (is_watch_fault a) self.old.failures self.new.failures) }
         ensures rises { self.old.failures ≤ self.new.failures }
     {
+        let opened = asked_watch(alloc, &mut self.log, self.compacted, params, version)?;
         let call = copy_watch_params(alloc, params)?;
         let from = Text::new(alloc, version)?;
-        let Some(name) = name_asked(alloc, &params.label_selector, &params.field_selector)? else {
+        let Some(watch) = opened else {
             let kept = unsupported(alloc)?;
             let answer = unsupported(alloc)?;
             self.talk.tell(Told::Watch(call, from, Err(kept)))?;
             return Ok(Polled::Ready(Err(answer)));
         };
-        let initial = params.send_initial_events;
-        let watch = opened_watch(alloc, &mut self.log, self.compacted, name, initial, version)?;
         self.talk.tell(Told::Watch(call, from, Ok(())))?;
         self.watch = Some(watch);
         Ok(Polled::Ready(Ok(())))

@@ -79,6 +79,31 @@ fn catch_up(
     Ok(())
 }
 
+/// The objects of a revision. Of the newest they come from those that the first entries made, brought up to date.
+///
+/// Errors: `NoMemory`.
+fn laid(
+    alloc: Global,
+    entries: &[Entry],
+    newest: &mut Objects,
+    applied: &mut usize,
+    revision: usize,
+) -> Result<Vec<Arc<DynamicObject>>, NoMemory>
+    requires count { applied.old ≤ length entries.now }
+    requires made { newest.old ≡ state_at meta_of (map change_of entries.now) applied.old }
+    requires known { revision ≤ length entries.now }
+    ensures count { applied.new ≤ length entries.now }
+    ensures made { newest.new ≡ state_at meta_of (map change_of entries.now) applied.new }
+    ensures laid { IfOk result (λ v. map arc_value v.items ≡ objects_of (state_at meta_of (map change_of entries.now) revision)) }
+{
+    if revision < entries.len() {
+        let objects = replayed(alloc, &entries[..revision])?;
+        return objects.all(alloc);
+    }
+    catch_up(alloc, entries, newest, applied)?;
+    newest.all(alloc)
+}
+
 /// Equal entries, whose objects are shared.
 fn share_all(alloc: Global, entries: &[Entry]) -> Result<Vec<Entry>, NoMemory>
     ensures { IfOk result (λ v. map change_of v.items ≡ map change_of entries.now) }
@@ -135,12 +160,7 @@ impl Log {
             return Ok(());
         }
         let entries = self.entries.as_slice();
-        let shown = if revision == entries.len() {
-            catch_up(alloc, entries, &mut self.newest, &mut self.applied)?;
-            self.newest.all(alloc)?
-        } else {
-            replayed(alloc, &entries[..revision])?.all(alloc)?
-        };
+        let shown = laid(alloc, entries, &mut self.newest, &mut self.applied, revision)?;
         self.shown = shown;
         self.revision = revision;
         Ok(())

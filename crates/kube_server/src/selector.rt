@@ -2,6 +2,7 @@
 
 ghost use Rattle.std.specs.Prelude.{◌≡◌, None, Some, IfOk, map, option_map, filter};
 ghost use Rattle.std.specs.Arc.{arc_value};
+ghost use Rattle.std.specs.List.{list_any};
 ghost use Rattle.kube_server.specs.Numbers.{name_sought, field_name, plain_name, is_special as is_special_byte, has_name};
 ghost use Rattle.kube_server.specs.Stored.{name_of};
 ghost use Rattle.kube_server.specs.Servers.{meta_of};
@@ -23,11 +24,17 @@ fn is_special(byte: u8) -> bool
     byte == b',' || byte == b'=' || byte == b'\\'
 }
 
+fn has_special(name: &str) -> bool
+    ensures { result ≡ list_any is_special_byte name.now }
+{
+    name.as_bytes().iter().any(|byte| is_special(*byte))
+}
+
 /// A name as a field selector has it, unless it holds what ends a term, belongs to another operator or is an escape.
 fn plain(alloc: Global, name: &str) -> Result<Option<Sought>, NoMemory>
     ensures { IfOk result (λ s. option_map name_of s ≡ plain_name name.now) }
 {
-    if name.as_bytes().iter().any(|byte| is_special(*byte)) {
+    if has_special(name) {
         return Ok(None);
     }
     Ok(Some(Sought::Named(Text::new(alloc, name)?)))

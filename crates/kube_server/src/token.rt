@@ -1,10 +1,9 @@
 //! Numbers and tokens as texts.
 
-ghost use Rattle.std.specs.Prelude.{◌≡◌, ◌==◌, IfOk, length, decimal, slice_index, option_map};
-ghost use Rattle.kube_server.specs.Numbers.{number_at, token_at, token_text};
+ghost use Rattle.std.specs.Prelude.{◌≡◌, ◌==◌, ◌||◌, ◌&&◌, not, IfOk, length, decimal, slice_index, option_map};
+ghost use Rattle.kube_server.specs.Numbers.{number_at, token_at, token_text, both_numbers as token_parts};
 ghost use Rattle.kube_server.specs.Tokens.{token_of};
 
-use fast_float::Numeral;
 use kube_meta::{NoMemory, Text};
 use std::alloc::Global;
 
@@ -21,20 +20,20 @@ pub(crate) fn decimal(alloc: Global, number: u64) -> Result<Text, NoMemory>
 pub(crate) fn number(text: &str) -> Option<u64>
     ensures { result ≡ number_at text.now }
 {
-    let bytes = text.as_bytes();
-    let numeral = Numeral::scan(bytes);
-    let number = numeral.to_u64()?;
-    if numeral.len() == bytes.len() && (bytes.len() == 1 || !starts_with_zero(bytes)) {
-        Some(number)
-    } else {
-        None
+    if is_signed_or_padded(text.as_bytes()) {
+        return None;
     }
+    text.parse::<u64>().ok()
 }
 
-fn starts_with_zero(bytes: &[u8]) -> bool
-    ensures { result ≡ (slice_index bytes.now 0 == 48) }
+/// Whether a text begins with a plus, or with a zero before another byte.
+fn is_signed_or_padded(bytes: &[u8]) -> bool
+    ensures { result ≡ ((slice_index bytes.now 0 == 43) || not (length bytes.now == 1) && (slice_index bytes.now 0 == 48)) }
 {
-    !bytes.is_empty() && bytes[0] == b'0'
+    match bytes {
+        [b'+', ..] | [b'0', _, ..] => true,
+        _ => false,
+    }
 }
 
 /// Where a list goes on: at a revision, behind so many objects.
@@ -48,11 +47,19 @@ pub(crate) struct Token {
 pub(crate) fn read_token(text: &str) -> Option<Token>
     ensures { option_map token_of result ≡ token_at text.now }
 {
-    let (revision, offset) = text.split_once(':')?;
-    Some(Token {
-        revision: number(revision)?,
-        offset: number(offset)?,
-    })
+    match text.split_once(':') {
+        Some((revision, offset)) => both_numbers(revision, offset),
+        None => None,
+    }
+}
+
+fn both_numbers(revision: &str, offset: &str) -> Option<Token>
+    ensures { option_map token_of result ≡ token_parts (number_at revision.now) (number_at offset.now) }
+{
+    match (number(revision), number(offset)) {
+        (Some(revision), Some(offset)) => Some(Token { revision, offset }),
+        _ => None,
+    }
 }
 
 impl Token {

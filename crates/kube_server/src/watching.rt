@@ -1,6 +1,6 @@
 //! An open watch of a connection.
 
-ghost use Rattle.std.specs.Prelude.{◌≡◌, ◌≤◌, ◌<◌, ◌∷◌, ◌++◌, [], true, Some, None, IfOk, IfSome, length, map, drop, slice_index_or};
+ghost use Rattle.std.specs.Prelude.{◌≡◌, ◌+◌, ◌∷◌, ◌++◌, [], Some, IfOk, length, map, nat_lt, if◌then◌else◌};
 ghost use Rattle.std.specs.Arc.{arc_value};
 ghost use Rattle.kube_model.specs.Raw.{GivesAdded};
 ghost use Rattle.kube_api.specs.Answers.{next_answer, event_answer};
@@ -155,9 +155,20 @@ impl Watching {
         requires { IsNextPlace (watch_of self.old) (map change_of log.now) place }
         ensures { watch_of self.new ≡ (poll_watch meta_of (map change_of log.now) (watch_of self.old)).left }
     {
-        if self.pending.pop_front().is_some() || self.follows.is_none() {
-            return;
+        match self.pending.pop_front() {
+            Some(_told) => {}
+            None => {
+                if self.follows.is_some() {
+                    self.follows = Some(past(log, place));
+                }
+            }
         }
-        self.follows = Some(if place < log.len() { place + 1 } else { place });
     }
+}
+
+/// The place behind the entry that is there, if there is one.
+fn past(log: &[Entry], place: usize) -> usize
+    ensures { result ≡ (if nat_lt place (length log.now) then place + 1 else place) }
+{
+    if place < log.len() { place + 1 } else { place }
 }
