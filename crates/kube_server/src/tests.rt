@@ -379,7 +379,7 @@ fn come_of(alloc: Global, world: &mut World, act: Act) -> Result<String, Fail>
 }
 
 /// Each act and what came of it, up to the first of which something else came.
-fn first_other(alloc: Global, rows: &[(Act, &str)]) -> Result<String, Fail> {
+fn first_other(alloc: Global, rows: &[Row]) -> Result<String, Fail> {
     let mut world = begun(alloc)?;
     for (number, (one, wanted)) in rows.iter().enumerate() {
         let text = come_of(alloc, &mut world, *one)?;
@@ -390,9 +390,20 @@ fn first_other(alloc: Global, rows: &[(Act, &str)]) -> Result<String, Fail> {
     Ok(String::new(alloc))
 }
 
-fn plays<R: Abort + AllocGlobal>(rt: &R, rows: &[(Act, &str)]) -> Result<(), Fail> {
-    assert_eq!(rt; first_other(rt.alloc(), rows)?.as_str(), "");
+fn is_text(rt: &impl Abort, text: &str, wanted: &str) -> Result<(), Fail> {
+    assert_eq!(rt; text, wanted);
     Ok(())
+}
+
+/// Nothing else came.
+fn is_empty(rt: &impl Abort, text: &str) -> Result<(), Fail> {
+    assert_eq!(rt; text.len(), 0, "{text}");
+    Ok(())
+}
+
+fn plays<R: Abort + AllocGlobal>(rt: &R, rows: &[Row]) -> Result<(), Fail> {
+    let text = first_other(rt.alloc(), rows)?;
+    is_empty(rt, text.as_str())
 }
 
 type Row = (Act, &'static str);
@@ -646,7 +657,7 @@ fn filled(alloc: Global) -> Result<Server, Fail> {
 }
 
 /// Each call and its answer, up to the first that is answered otherwise.
-fn first_other_answer(alloc: Global, rows: &[(Request, &str)]) -> Result<String, Fail> {
+fn first_other_answer(alloc: Global, rows: &[(Request, &'static str)]) -> Result<String, Fail> {
     let mut server = filled(alloc)?;
     let mut objects = ServerObjects::new(alloc, &mut server, None)?;
     for (number, (ask, wanted)) in rows.iter().enumerate() {
@@ -658,7 +669,7 @@ fn first_other_answer(alloc: Global, rows: &[(Request, &str)]) -> Result<String,
     Ok(String::new(alloc))
 }
 
-const ANSWERS: [(Request, &str); 9] = [
+const ANSWERS: [(Request, &'static str); 9] = [
     (Request::Patch("c", "[]"), "NotFound"),
     (Request::Delete("c", 1), "NotFound"),
     (
@@ -678,8 +689,8 @@ const ANSWERS: [(Request, &str); 9] = [
 
 #[test]
 fn objects_answer_patches_and_deletions(rt: HostRuntime) -> Result<(), Fail> {
-    assert_eq!(rt; first_other_answer(rt.alloc(), &ANSWERS)?.as_str(), "");
-    Ok(())
+    let text = first_other_answer(rt.alloc(), &ANSWERS)?;
+    is_empty(&rt, text.as_str())
 }
 
 /// Puts objects with as many names.
@@ -742,6 +753,5 @@ fn counted(alloc: Global, count: u32) -> Result<String, Fail> {
 #[test]
 fn twenty_thousand_objects_are_listed_and_watched(rt: HostRuntime) -> Result<(), Fail> {
     let text = counted(rt.alloc(), 20_000)?;
-    assert_eq!(rt; text.as_str(), "20000 in 40, 20000 at 20000");
-    Ok(())
+    is_text(&rt, text.as_str(), "20000 in 40, 20000 at 20000")
 }
