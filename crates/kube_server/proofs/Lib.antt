@@ -16,3 +16,4 @@ pub mod SelectorLemmas
 pub mod LogLemmas
 pub mod ConnLemmas
 pub mod PageLemmas
+pub mod OrderLemmas
