@@ -82,9 +82,9 @@ keyed-with : {V : Type 0} (meta : V → ObjectMeta) (key : Key) (object : V) (st
 keyed-with meta key object [] k h = (k, tt)
 keyed-with meta key object (p ∷ ps) k h =
     keyed-match meta (key_cmp key p.0) ((key, object) ∷ p ∷ ps) ((p.0, object) ∷ ps) (p ∷ with_object key object ps)
-        (k, h)
-        (λ e. (record { key = sym (keys-equal key p.0 e) ∙ k.key; named = k.named }, h.1))
-        (h.0, keyed-with meta key object ps k h.1)
+    (k, h)
+    (λ e. (record { key = sym (keys-equal key p.0 e) ∙ k.key; named = k.named }, h.1))
+    (h.0, keyed-with meta key object ps k h.1)
 
 keyed-cond : {V : Type 0} (meta : V → ObjectMeta) (b : Bool) (x y : State V) → AllKeyed meta x → AllKeyed meta y → AllKeyed meta (cond b x y)
 keyed-cond meta true x y h k = h

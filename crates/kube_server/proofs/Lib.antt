@@ -3,6 +3,8 @@ pub mod ObjectLemmas
 pub mod HistoryLemmas
 pub mod ServerLemmas
 pub mod PatchLemmas
+pub mod CallLemmas
+pub mod LaterLemmas
 pub mod HonestLemmas
 pub mod PollLemmas
 pub mod WatchLemmas
@@ -14,3 +16,4 @@ pub mod SelectorLemmas
 pub mod LogLemmas
 pub mod ConnLemmas
 pub mod PageLemmas
+pub mod OrderLemmas

@@ -173,9 +173,9 @@ meta-read : (d : Data) (m : ObjectMeta) → meta_at d ≡ Ok m → IsNamed (Some
 unfolding meta_at
 meta-read d m h =
     let r = read-parts (object_at d) (maybe_field (codes "name") text_at d) (maybe_field (codes "namespace") text_at d) (maybe_field (codes "uid") text_at d)
-        (maybe_field (codes "resourceVersion") text_at d) (maybe_field (codes "deletionTimestamp") text_at d) (maybe_field (codes "generation") whole_at d)
-        (full_field (codes "labels") texts_at d) (full_field (codes "annotations") texts_at d) (full_field (codes "finalizers") (list_at text_at) d)
-        (full_field (codes "ownerReferences") (list_at owner_at) d) m h in
+    (maybe_field (codes "resourceVersion") text_at d) (maybe_field (codes "deletionTimestamp") text_at d) (maybe_field (codes "generation") whole_at d)
+    (full_field (codes "labels") texts_at d) (full_field (codes "annotations") texts_at d) (full_field (codes "finalizers") (list_at text_at) d)
+    (full_field (codes "ownerReferences") (list_at owner_at) d) m h in
     record { name = text-read (codes "name") d m.name r.name; namespace = text-read (codes "namespace") d m.namespace r.namespace }
 
 -- read where it is there
@@ -223,15 +223,15 @@ object-named d p h =
 
 -- ---- what a patch leaves
 
-then-ok : (r : Result Data PatchRefusal) (f : Data → Result Data PatchRefusal) (e : Data) → then_by r f ≡ Ok e → (d : Data) × (f d ≡ Ok e)
+pub then-ok : (r : Result Data PatchRefusal) (f : Data → Result Data PatchRefusal) (e : Data) → then_by r f ≡ Ok e → (d : Data) × (f d ≡ Ok e)
 then-ok (Ok d) f e h = (d, h)
 then-ok (Err x) f e h = absurd (err-no _ _ e refl h)
 
-unless-ok : (b : Bool) (d e : Data) → unless_changed b d ≡ Ok e → (b ≡ true) × (d ≡ e)
+pub unless-ok : (b : Bool) (d e : Data) → unless_changed b d ≡ Ok e → (b ≡ true) × (d ≡ e)
 unless-ok true d e h = (refl, ok-same _ d e refl h)
 unless-ok false d e h = absurd (err-no _ _ e refl h)
 
-and-first : (a b : Bool) → (a && b) ≡ true → a ≡ true
+pub and-first : (a b : Bool) → (a && b) ≡ true → a ≡ true
 and-first true b h = refl
 and-first false b h = h
 

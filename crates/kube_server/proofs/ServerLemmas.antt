@@ -89,9 +89,9 @@ next-of-held s r o c d h e seen stored name namespace version =
     let meta : meta_of (object_of c) ≡ data_meta (object_of d) = seen-meta c ∙ ap (λ x. data_meta (object_of x)) seen in
     let old : o.metadata ≡ meta_of k.object = ap (λ x. x.metadata) (sym k.seen) in
     next-of-stored meta_of s.changes (reference_key r) k.object c h k.kept (seen-stored c (subst IsOfStored (sym seen) stored))
-        (ap (λ m. m.name) meta ∙ (name ∙ ap (λ m. m.name) old))
-        (ap (λ m. m.namespace) meta ∙ (namespace ∙ ap (λ m. m.namespace) old))
-        (ap (λ m. m.resource_version) meta ∙ version)
+    (ap (λ m. m.name) meta ∙ (name ∙ ap (λ m. m.name) old))
+    (ap (λ m. m.namespace) meta ∙ (namespace ∙ ap (λ m. m.namespace) old))
+    (ap (λ m. m.resource_version) meta ∙ version)
 
 -- what holds of the object that is held
 pub held-and : (found : Option ObjectData) (o : ObjectData) (P : ObjectData → Type 0) → found ≡ Some o → P o → IsHeldAnd found P
@@ -146,15 +146,15 @@ all-when P false g x y h k = k
 deletion-is : (r now : ℕ) (o : ObjectData) → AllOf (IsChangeOf r o) (deletion r now o)
 deletion-is r now o =
     all-when (IsChangeOf r o) (has_finalizers o.metadata) (is_deleting o.metadata) (Modifies (deleting r now o)) (removal r o)
-        (record { stored = tt; name = refl; namespace = refl; version = refl })
-        (record { stored = tt; name = refl; namespace = refl; version = refl })
+    (record { stored = tt; name = refl; namespace = refl; version = refl })
+    (record { stored = tt; name = refl; namespace = refl; version = refl })
 
 pub next-of-deletion : (s : ServerState) (r : Reference) (o : ObjectData) (now : ℕ) (c : Change DynamicObject)
     → IsHistory meta_of s.changes → held s r ≡ Some o → Some (change_seen seen_object c) ≡ deletion (next_revision s) now o
     → IsNextChange meta_of s.changes c
 next-of-deletion s r o now c h e seen =
     let is : IsChangeOf (next_revision s) o (change_seen seen_object c) =
-        subst (λ d. AllOf (IsChangeOf (next_revision s) o) d) (sym seen) (deletion-is (next_revision s) now o) in
+    subst (λ d. AllOf (IsChangeOf (next_revision s) o) d) (sym seen) (deletion-is (next_revision s) now o) in
     next-of-held s r o c (change_seen seen_object c) h e refl is.stored is.name is.namespace is.version
 
 -- ---- puts
@@ -206,7 +206,7 @@ pub next-of-put : (s : ServerState) (o : ObjectData) (c : Change DynamicObject)
 next-of-put s o c named seen =
     let is = put-is (next_revision s) (held_under s (key_of o.metadata)) o c seen in
     let key : key_of o.metadata ≡ key_of (meta_of (object_of c)) =
-        λ i. record { namespace = (sym is.namespace) i; name = unwrap_or ((sym is.name) i) [] } in
+    λ i. record { namespace = (sym is.namespace) i; name = unwrap_or ((sym is.name) i) [] } in
     record {
       named = ap (λ n. is_some n) is.name ∙ named;
       versioned = is.version;
@@ -268,7 +268,7 @@ pub next-of-patch : (s : ServerState) (r : Reference) (o : ObjectData) (os : Lis
     → IsNextChange meta_of s.changes c
 next-of-patch s r o os c h e seen =
     let is : IsChangeOf (next_revision s) o (change_seen seen_object c) =
-        subst (λ d. IsOkOf (IsChangeOf (next_revision s) o) d) seen (patch-is (next_revision s) os o) in
+    subst (λ d. IsOkOf (IsChangeOf (next_revision s) o) d) seen (patch-is (next_revision s) os o) in
     next-of-held s r o c (change_seen seen_object c) h e refl is.stored is.name is.namespace is.version
 
 pub ok-map : {A E : Type 0} (r : Result A E) (P Q : A → Type 0) → ((a : A) → P a → Q a) → IfOk r P → IfOk r Q

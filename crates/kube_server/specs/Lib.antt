@@ -13,3 +13,4 @@ pub mod Kept
 pub mod Places
 pub mod Standing
 pub mod Serving
+pub mod ObjectCalls

@@ -6,10 +6,12 @@ mod entry;
 pub mod laws;
 mod log;
 mod object;
+mod object_told;
 mod objects;
 mod place;
 mod selector;
 pub mod server;
+mod server_objects;
 mod status;
 mod talk;
 mod token;
@@ -17,6 +19,7 @@ mod watching;
 
 pub use conn::Conn;
 pub use server::{Server, ServerRefusal};
+pub use server_objects::ServerObjects;
 
 #[cfg(test)]
 mod tests;

@@ -323,6 +323,21 @@ impl Server {
         self.objects.get(place)
     }
 
+    // The object of a reference, which is shared.
+    pub(crate) fn object(
+        &self,
+        alloc: Global,
+        key: &ObjectRef<DynamicObject>,
+    ) -> Result<Option<Arc<DynamicObject>>, NoMemory>
+        ensures { IfOk result (λ o. option_map (λ a. seen_object (arc_value a)) o ≡ held self.now (reference_of (λ t. resource_type t.value) key.now)) }
+    {
+        let place = place_named(alloc, key)?;
+        match self.stored(key, &place) {
+            Some(stored) => Ok(Some(stored.clone()?)),
+            None => Ok(None),
+        }
+    }
+
     // The entry of a put of an object.
     fn put_of(&self, alloc: Global, object: DynamicObject) -> Result<Entry, ServerRefusal>
         ensures ok { IfOk result (λ e. change_seen seen_object (change_of e) ≡ put_change self.now (key_of object.metadata) (seen_object object)) }

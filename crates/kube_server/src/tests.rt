@@ -1,7 +1,13 @@
 //! Scripts of what is done with a server and a connection, and what comes of it.
 
-use crate::{Conn, Server, ServerRefusal};
-use kube_api::{ApiError, ApiMode, ListParams, Page, Patch, PatchRefusal, WatchEvent, WatchParams};
+ghost use Rattle.std.specs.Prelude.{◌≡◌, IfOk};
+ghost use Rattle.kube_server.specs.History.{IsLater};
+
+use crate::{Conn, Server, ServerObjects, ServerRefusal};
+use kube_api::{
+    ApiError, ApiMode, DeleteAnswer, ListParams, ObjectApi, Page, Patch, PatchAnswer, PatchRefusal,
+    WatchEvent, WatchParams,
+};
 use kube_meta::{
     ApiResource, DynamicObject, List, Moment, NoMemory, ObjectMeta, ObjectRef, Polled, Text,
 };
@@ -246,27 +252,37 @@ struct World {
     conn: Conn,
 }
 
-fn begun(alloc: Global) -> Result<World, NoMemory> {
+fn begun(alloc: Global) -> Result<World, NoMemory>
+    ensures { IfOk result (λ w. IsLater w.conn.changes w.server.changes w.conn.compacted w.server.compacted) }
+{
     let server = Server::new(alloc, resource(alloc)?);
     let conn = Conn::new(alloc, &server)?;
     Ok(World { server, conn })
 }
 
-fn put(alloc: Global, server: &mut Server, metadata: ObjectMeta) -> Result<String, NoMemory> {
+fn put(alloc: Global, server: &mut Server, metadata: ObjectMeta) -> Result<String, NoMemory>
+    ensures { IsLater server.old.changes server.new.changes server.old.compacted server.new.compacted }
+{
     answered(alloc, server.put(alloc, DynamicObject::bare(metadata)))
 }
 
-fn remove(alloc: Global, server: &mut Server, name: &str) -> Result<String, NoMemory> {
+fn remove(alloc: Global, server: &mut Server, name: &str) -> Result<String, NoMemory>
+    ensures { IsLater server.old.changes server.new.changes server.old.compacted server.new.compacted }
+{
     let key = key(alloc, server, name)?;
     answered(alloc, server.remove(alloc, &key))
 }
 
-fn delete(alloc: Global, server: &mut Server, name: &str, now: u64) -> Result<String, NoMemory> {
+fn delete(alloc: Global, server: &mut Server, name: &str, now: u64) -> Result<String, NoMemory>
+    ensures { IsLater server.old.changes server.new.changes server.old.compacted server.new.compacted }
+{
     let key = key(alloc, server, name)?;
     answered(alloc, server.request_delete(alloc, &key, Moment(now)))
 }
 
-fn patch(alloc: Global, server: &mut Server, name: &str, text: &str) -> Result<String, Fail> {
+fn patch(alloc: Global, server: &mut Server, name: &str, text: &str) -> Result<String, Fail>
+    ensures { IsLater server.old.changes server.new.changes server.old.compacted server.new.compacted }
+{
     let key = key(alloc, server, name)?;
     let patch = operations(alloc, text)?;
     if patch.len() > 9 {
@@ -275,7 +291,10 @@ fn patch(alloc: Global, server: &mut Server, name: &str, text: &str) -> Result<S
     Ok(patch_answered(alloc, server.patch(alloc, &key, &patch))?)
 }
 
-fn list(alloc: Global, conn: &mut Conn, params: &ListParams) -> Result<String, NoMemory> {
+fn list(alloc: Global, conn: &mut Conn, params: &ListParams) -> Result<String, NoMemory>
+    ensures changes { conn.new.changes ≡ conn.old.changes }
+    ensures compacted { conn.new.compacted ≡ conn.old.compacted }
+{
     let answer = conn.list(alloc, params, Moment(0))?;
     list_answered(alloc, &answer)
 }
@@ -285,18 +304,26 @@ fn watch(
     conn: &mut Conn,
     params: &WatchParams,
     version: &str,
-) -> Result<String, NoMemory> {
+) -> Result<String, NoMemory>
+    ensures changes { conn.new.changes ≡ conn.old.changes }
+    ensures compacted { conn.new.compacted ≡ conn.old.compacted }
+{
     let answer = conn.watch(alloc, params, version, Moment(0))?;
     watch_answered(alloc, &answer)
 }
 
-fn next(alloc: Global, conn: &mut Conn) -> Result<String, NoMemory> {
+fn next(alloc: Global, conn: &mut Conn) -> Result<String, NoMemory>
+    ensures changes { conn.new.changes ≡ conn.old.changes }
+    ensures compacted { conn.new.compacted ≡ conn.old.compacted }
+{
     let answer = conn.next(alloc, Moment(0))?;
     next_answered(alloc, &answer)
 }
 
 /// What is done with the server; none where it is an act of the connection.
-fn serve(alloc: Global, server: &mut Server, act: Act) -> Result<Option<String>, Fail> {
+fn serve(alloc: Global, server: &mut Server, act: Act) -> Result<Option<String>, Fail>
+    ensures { IsLater server.old.changes server.new.changes server.old.compacted server.new.compacted }
+{
     Ok(Some(match act {
         Act::Put(name) => put(alloc, server, metadata(alloc, name)?)?,
         Act::PutHeld(name) => put(alloc, server, held(alloc, name)?)?,
@@ -313,7 +340,10 @@ fn serve(alloc: Global, server: &mut Server, act: Act) -> Result<Option<String>,
 }
 
 /// What is asked of the connection.
-fn ask(alloc: Global, conn: &mut Conn, act: Act) -> Result<String, NoMemory> {
+fn ask(alloc: Global, conn: &mut Conn, act: Act) -> Result<String, NoMemory>
+    ensures changes { conn.new.changes ≡ conn.old.changes }
+    ensures compacted { conn.new.compacted ≡ conn.old.compacted }
+{
     match act {
         Act::List(limit, token) => { list(alloc, conn, &list_params(alloc, limit, token, "", "")?) }
         Act::ListBy(labels, fields) => {
@@ -334,7 +364,10 @@ fn ask(alloc: Global, conn: &mut Conn, act: Act) -> Result<String, NoMemory> {
 }
 
 /// Does one act, and says what came of it.
-fn come_of(alloc: Global, world: &mut World, act: Act) -> Result<String, Fail> {
+fn come_of(alloc: Global, world: &mut World, act: Act) -> Result<String, Fail>
+    requires { IsLater world.old.conn.changes world.old.server.changes world.old.conn.compacted world.old.server.compacted }
+    ensures { IsLater world.new.conn.changes world.new.server.changes world.new.conn.compacted world.new.server.compacted }
+{
     if let Some(text) = serve(alloc, &mut world.server, act)? {
         return Ok(text);
     }
@@ -346,7 +379,7 @@ fn come_of(alloc: Global, world: &mut World, act: Act) -> Result<String, Fail> {
 }
 
 /// Each act and what came of it, up to the first of which something else came.
-fn first_other(alloc: Global, rows: &[(Act, &str)]) -> Result<String, Fail> {
+fn first_other(alloc: Global, rows: &[Row]) -> Result<String, Fail> {
     let mut world = begun(alloc)?;
     for (number, (one, wanted)) in rows.iter().enumerate() {
         let text = come_of(alloc, &mut world, *one)?;
@@ -357,9 +390,20 @@ fn first_other(alloc: Global, rows: &[(Act, &str)]) -> Result<String, Fail> {
     Ok(String::new(alloc))
 }
 
-fn plays<R: Abort + AllocGlobal>(rt: &R, rows: &[(Act, &str)]) -> Result<(), Fail> {
-    assert_eq!(rt; first_other(rt.alloc(), rows)?.as_str(), "");
+fn is_text(rt: &impl Abort, text: &str, wanted: &str) -> Result<(), Fail> {
+    assert_eq!(rt; text, wanted);
     Ok(())
+}
+
+/// Nothing else came.
+fn is_empty(rt: &impl Abort, text: &str) -> Result<(), Fail> {
+    assert_eq!(rt; text.len(), 0, "{text}");
+    Ok(())
+}
+
+fn plays<R: Abort + AllocGlobal>(rt: &R, rows: &[Row]) -> Result<(), Fail> {
+    let text = first_other(rt.alloc(), rows)?;
+    is_empty(rt, text.as_str())
 }
 
 type Row = (Act, &'static str);
@@ -543,4 +587,171 @@ const SELECTORS: [Row; 20] = [
 #[test]
 fn selectors_of_the_name_alone_are_supported(rt: HostRuntime) -> Result<(), Fail> {
     plays(&rt, &SELECTORS)
+}
+
+/// A call to the objects of a server.
+#[derive(Clone, Copy)]
+enum Request {
+    Patch(&'static str, &'static str),
+    Delete(&'static str, u64),
+}
+
+fn patch_told(
+    alloc: Global,
+    answer: &Polled<PatchAnswer<DynamicObject>>,
+) -> Result<String, NoMemory> {
+    match answer {
+        Polled::Ready(PatchAnswer::Done(object)) => with_object(alloc, "done", object),
+        Polled::Ready(PatchAnswer::Refused(refusal)) => patch_answered(alloc, Err(*refusal)),
+        _ => Ok(String::from_str(alloc, "another answer")?),
+    }
+}
+
+fn delete_told(
+    alloc: Global,
+    answer: &Polled<DeleteAnswer<DynamicObject>>,
+) -> Result<String, NoMemory> {
+    match answer {
+        Polled::Ready(DeleteAnswer::Object(object)) => with_object(alloc, "stays", object),
+        Polled::Ready(DeleteAnswer::Status(status)) => {
+            let (code, uid) = (status.code, or_none(&status.uid));
+            Ok(format!(in alloc; "gone {code} {uid}")?)
+        }
+        Polled::Ready(DeleteAnswer::NotFound) => Ok(String::from_str(alloc, "NotFound")?),
+        _ => Ok(String::from_str(alloc, "another answer")?),
+    }
+}
+
+fn asked_patch(
+    alloc: Global,
+    objects: &mut ServerObjects,
+    name: &str,
+    text: &str,
+) -> Result<String, Fail> {
+    let patch = operations(alloc, text)?;
+    if patch.len() > 9 {
+        return Ok(String::new(alloc));
+    }
+    let answer = objects.patch(alloc, name, &patch, Moment(0))?;
+    Ok(patch_told(alloc, &answer)?)
+}
+
+fn asked(alloc: Global, objects: &mut ServerObjects, ask: Request) -> Result<String, Fail> {
+    match ask {
+        Request::Patch(name, text) => asked_patch(alloc, objects, name, text),
+        Request::Delete(name, now) => {
+            let answer = objects.delete(alloc, name, Moment(now))?;
+            Ok(delete_told(alloc, &answer)?)
+        }
+    }
+}
+
+/// A server with an object `a` that has a finalizer, and one `b` without.
+fn filled(alloc: Global) -> Result<Server, Fail> {
+    let mut server = Server::new(alloc, resource(alloc)?);
+    let first = held(alloc, "a")?;
+    let second = metadata(alloc, "b")?;
+    server.put(alloc, DynamicObject::bare(first))?;
+    server.put(alloc, DynamicObject::bare(second))?;
+    Ok(server)
+}
+
+/// Each call and its answer, up to the first that is answered otherwise.
+fn first_other_answer(alloc: Global, rows: &[(Request, &'static str)]) -> Result<String, Fail> {
+    let mut server = filled(alloc)?;
+    let mut objects = ServerObjects::new(alloc, &mut server, None)?;
+    for (number, (ask, wanted)) in rows.iter().enumerate() {
+        let text = asked(alloc, &mut objects, *ask)?;
+        if text.as_str() != *wanted {
+            return Ok(format!(in alloc; "{number}: {text}")?);
+        }
+    }
+    Ok(String::new(alloc))
+}
+
+const ANSWERS: [(Request, &'static str); 9] = [
+    (Request::Patch("c", "[]"), "NotFound"),
+    (Request::Delete("c", 1), "NotFound"),
+    (
+        Request::Patch("a", r#"[["test","/metadata/finalizers/0","g"]]"#),
+        "TestFailed 0",
+    ),
+    (Request::Delete("a", 5), "stays a/uid-1@3/5"),
+    (Request::Delete("a", 6), "stays a/uid-1@3/5"),
+    (
+        Request::Patch("a", r#"[["remove","/metadata/finalizers"]]"#),
+        "done a/uid-1@4/5",
+    ),
+    (Request::Patch("a", "[]"), "NotFound"),
+    (Request::Delete("b", 7), "gone 200 uid-2"),
+    (Request::Delete("b", 8), "NotFound"),
+];
+
+#[test]
+fn objects_answer_patches_and_deletions(rt: HostRuntime) -> Result<(), Fail> {
+    let text = first_other_answer(rt.alloc(), &ANSWERS)?;
+    is_empty(&rt, text.as_str())
+}
+
+/// Puts objects with as many names.
+fn put_many(alloc: Global, server: &mut Server, count: u32) -> Result<(), Fail> {
+    for number in 0..count {
+        let name = format!(in alloc; "object-{number}")?;
+        let metadata = metadata(alloc, name.as_str())?;
+        server.put(alloc, DynamicObject::bare(metadata))?;
+    }
+    Ok(())
+}
+
+/// How many pages of 500 a list has, at most 100, and how many objects are in them.
+fn counted_pages(alloc: Global, conn: &mut Conn) -> Result<String, Fail> {
+    let mut objects: usize = 0;
+    let mut token: Option<Text> = None;
+    for page in 1..100_u32 {
+        let params = ListParams {
+            continue_token: token,
+            ..list_params(alloc, 500, "", "", "")?
+        };
+        let Polled::Ready(Ok(given)) = conn.list(alloc, &params, Moment(0))? else {
+            return Ok(String::from_str(alloc, "fault")?);
+        };
+        objects = objects.wrapping_add(given.items.len());
+        if given.token.is_none() {
+            return Ok(format!(in alloc; "{objects} in {page}")?);
+        }
+        token = given.token;
+    }
+    Ok(String::from_str(alloc, "no end")?)
+}
+
+/// How many events an initial watch gives before its bookmark.
+fn counted_events(alloc: Global, conn: &mut Conn) -> Result<String, Fail> {
+    let _opened = conn.watch(alloc, &watch_params(alloc, true, "", "")?, "", Moment(0))?;
+    for count in 0..30_000_u32 {
+        match conn.next(alloc, Moment(0))? {
+            Polled::Ready(Some(Ok(WatchEvent::Added(_)))) => {}
+            Polled::Ready(Some(Ok(WatchEvent::Bookmark(bookmark)))) => {
+                let version = bookmark.version.as_str();
+                return Ok(format!(in alloc; "{count} at {version}")?);
+            }
+            _ => return Ok(String::from_str(alloc, "another event")?),
+        }
+    }
+    Ok(String::from_str(alloc, "no end")?)
+}
+
+/// Pages and a watch of a server of many objects.
+fn counted(alloc: Global, count: u32) -> Result<String, Fail> {
+    let mut server = Server::new(alloc, resource(alloc)?);
+    put_many(alloc, &mut server, count)?;
+    let mut conn = Conn::new(alloc, &server)?;
+    let pages = counted_pages(alloc, &mut conn)?;
+    let events = counted_events(alloc, &mut conn)?;
+    Ok(format!(in alloc; "{pages}, {events}")?)
+}
+
+#[test]
+fn twenty_thousand_objects_are_listed_and_watched(rt: HostRuntime) -> Result<(), Fail> {
+    let text = counted(rt.alloc(), 20_000)?;
+    is_text(&rt, text.as_str(), "20000 in 40, 20000 at 20000")
 }

@@ -10,6 +10,6 @@ use Rattle.kube_server.proofs.server.Server.patch.Goals as goal
 pub returns-clause-step : goal.returns-clause-step
 returns-clause-step c =
     held-map (held c.args.self.now (reference_of (λ t. resource_type t.value) c.args.key.now)) _ _
-        (λ o h. patched-step c.args.self.now _ (change_of c.in_ok-entry.entry)
-            (patch_change (next_revision c.args.self.now) (map operation_of c.args.patch.now) o) h c.in_ok-make.ensures.ok)
-        c.in_ok-entry.ensures.ok
+    (λ o h. patched-step c.args.self.now _ (change_of c.in_ok-entry.entry)
+    (patch_change (next_revision c.args.self.now) (map operation_of c.args.patch.now) o) h c.in_ok-make.ensures.ok)
+    c.in_ok-entry.ensures.ok

@@ -13,8 +13,8 @@ made : (c : goal.After-drop-place-3)
 made c =
     c.in_ok-put_entry.ensures
     ∙ ap₂ (λ r stored. put_over r stored (seen_object c.args.object)) c.next_revision-revision.ensures.value
-        (shared-held c.args.self.now (key_of c.args.object.metadata) (key_at c.in_ok-place.place) c.self.inside.objects (option_copied c.get.result)
-            c.get.ensures c.in_ok-place.ensures (c.self.invariant.newest ∙ ap (λ s. state_of meta_of s.changes) c.self.view_is))
+    (shared-held c.args.self.now (key_of c.args.object.metadata) (key_at c.in_ok-place.place) c.self.inside.objects (option_copied c.get.result)
+    c.get.ensures c.in_ok-place.ensures (c.self.invariant.newest ∙ ap (λ s. state_of meta_of s.changes) c.self.view_is))
 
 pub returns-clause-ok : goal.returns-clause-ok
 returns-clause-ok c = made c
