@@ -1,12 +1,12 @@
 -- What an honest talk keeps as the history goes on, and as the talk does.
-use Rattle.std.proofs.Common.{◌≡◌, ℕ, ◌+◌, ◌≤◌, ◌⊎◌, inl, inr, Bool, true, false, List, [], ◌∷◌, ◌++◌, map, take, drop, length, filter, Option, Some, None, refl, sym, ap, subst, ◌∙◌, arith, length-append, append_assoc, append-nil}
-use Rattle.std.specs.Prelude.{IsPermutation, decimal}
+use Rattle.std.proofs.Common.{◌≡◌, ℕ, ◌≤◌, inl, inr, Bool, true, false, List, [], ◌∷◌, ◌++◌, drop, length, filter, Option, Some, None, refl, sym, ap, subst, ◌∙◌, arith, length-append, append_assoc, append-nil}
+use Rattle.std.specs.Prelude.{IsPermutation}
 use Rattle.std.proofs.lemmas.List.{take-append-le}
 use Rattle.kube_meta.specs.Reading.{unless_empty}
 use Rattle.kube_meta.specs.declared.metadata.ObjectMeta.{ObjectMeta}
 use Rattle.kube_model.specs.Raw.{RawAnswer, Waits, Fails, GivesPage, Opens, GivesAdded, GivesModified, GivesDeleted, GivesBookmark, GivesError, Ends, Raw}
 use Rattle.kube_server.specs.History.{Change, state_of, objects_of, object_of}
-use Rattle.kube_server.specs.Honest.{Selection, ListTold, list_told, WatchTold, watch_told, PutsAlone, RemovesAlone, selected_at, selected_between, Tells, Follow, FollowsVersion, IsHonestLater, IsBeforeBookmark, IsAfterBookmark, IsHonestInitial, IsHonestBy, IsHonestWatch, IsWholeList, IsHonestEnd, IsHonestList, IsHonestSoFar, IsHonestAfter, IsHonest}
+use Rattle.kube_server.specs.Honest.{Selection, ListTold, list_told, WatchTold, watch_told, PutsAlone, RemovesAlone, selected_at, selected_between, Tells, Follow, IsHonestLater, IsHonestInitial, IsHonestBy, IsHonestWatch, IsHonestEnd, IsHonestList, IsHonestSoFar, IsHonestAfter, IsHonest}
 
 -- ---- the history goes on
 

@@ -1,24 +1,21 @@
 -- A list under way goes on where its pages left it, whatever is listed.
-use Rattle.std.proofs.Common.{◌≡◌, ℕ, zero, suc, ◌+◌, ◌-◌, ◌≤◌, ◌<◌, ◌^◌, ◌⊎◌, inl, inr, Bool, true, false, List, [], ◌∷◌, ◌++◌, map, fold, take, drop, length, filter, Option, Some, None, refl, sym, ap, subst, ◌∙◌, arith, length-drop, leb-false}
-use Rattle.std.specs.Prelude.{IsPermutation, decimal, nat_le, ◌&&◌, if◌then◌else◌, count_by}
+use Rattle.std.proofs.Common.{◌≡◌, ℕ, zero, suc, ◌+◌, ◌≤◌, ◌<◌, ◌^◌, ◌⊎◌, inl, inr, Bool, true, false, List, [], ◌∷◌, ◌++◌, fold, take, drop, length, filter, Option, Some, None, refl, sym, ap, subst, ◌∙◌, arith, length-drop, leb-false}
+use Rattle.std.specs.Prelude.{decimal, nat_le, ◌&&◌, if◌then◌else◌}
 use Rattle.std.specs.Option.{option_eq}
 use Rattle.std.specs.Str.{bytes_eq}
-use Rattle.std.specs.Map.{remove_entry}
 use Rattle.std.specs.Ordering.{match_ordering}
-use Rattle.std.specs.declared.cmp.Ordering.{Ordering}
 use Rattle.std.specs.declared.cmp.Ordering.TheVariants.{Less, Equal, Greater}
 use Rattle.std.proofs.Math.Seq.{take-add}
 use Rattle.std.proofs.lemmas.List.{length-map, take-append-drop, length-take}
 use Rattle.std.proofs.lemmas.List.Sums.{length-filter, count_by-le-length}
 use Rattle.std.proofs.lemmas.List.Sorted.{IsPermutation-refl}
 use Rattle.std.proofs.lemmas.Bool.{cases_Bool}
-use Rattle.std.proofs.lemmas.Bool.Decides.{nat_tests}
 use Rattle.std.proofs.lemmas.Slice.Eq.{bytes_eq-Decides}
 use Rattle.kube_meta.specs.Reading.{unless_empty}
 use Rattle.kube_meta.specs.declared.metadata.ObjectMeta.{ObjectMeta}
 use Rattle.kube_model.specs.declared.params.ListParams.{ListParams}
 use Rattle.kube_model.specs.Raw.{RawAnswer, ListAsked, GivesPage}
-use Rattle.kube_server.specs.History.{Key, key_of, key_cmp, same_key, State, Change, Adds, Modifies, Removes, with_object, without_object, changed, objects_of, state_of, state_at}
+use Rattle.kube_server.specs.History.{Key, key_of, key_cmp, same_key, State, Change, Adds, Modifies, Removes, with_object, without_object, changed, objects_of, state_at}
 use Rattle.kube_server.specs.Numbers.{NameSought, name_sought, Token, token_text, token_at}
 use Rattle.kube_server.specs.Honest.{Selection, same_selection, list_selection, ListTold, goes_on, after_page, list_after, selected_at, IsWholeList, IsHonestEnd, IsHonestList}
 use Rattle.kube_server.specs.Connections.{Connection, selects_name, selected_by, is_known, if_known, named_at, place_asked, last_page, page_within, page_of, page_at, listed_by, listed}

@@ -1,10 +1,10 @@
 -- Pages of a list, as code makes them.
-use Rattle.std.proofs.Common.{◌≡◌, ℕ, zero, suc, ◌+◌, ◌<◌, Bool, true, false, List, [], ◌∷◌, map, take, drop, filter, length, Option, Some, None, refl, sym, ap, ◌∙◌, arith}
+use Rattle.std.proofs.Common.{◌≡◌, ℕ, zero, suc, ◌+◌, ◌<◌, false, List, [], ◌∷◌, map, take, drop, filter, length, Option, Some, None, refl, sym, ap, ◌∙◌, arith}
 use Rattle.std.specs.Prelude.{nat_le, unwrap_or}
 use Rattle.std.proofs.lemmas.Bool.Decides.{nat_tests}
 use Rattle.std.proofs.lemmas.List.{take-map, drop-map, length-map}
 use Rattle.kube_meta.specs.declared.metadata.ObjectMeta.{ObjectMeta}
-use Rattle.kube_model.specs.Raw.{RawAnswer, GivesPage}
+use Rattle.kube_model.specs.Raw.{GivesPage}
 use Rattle.kube_server.specs.Numbers.{AnyName, has_name, Token, token_text}
 use Rattle.kube_server.specs.Connections.{last_page, page_within, page_of}
 

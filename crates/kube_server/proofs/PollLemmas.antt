@@ -1,15 +1,15 @@
 -- What a poll of the changes after a revision gives, and how the changes between revisions join.
-use Rattle.std.proofs.Common.{◌≡◌, ℕ, zero, suc, ◌+◌, ◌-◌, ◌≤◌, ◌<◌, ◌⊎◌, inl, inr, Bool, true, false, List, [], ◌∷◌, ◌++◌, take, drop, length, filter, Option, Some, None, refl, sym, ap, subst, ◌∙◌, arith, add-zero, add-one}
+use Rattle.std.proofs.Common.{◌≡◌, ℕ, suc, ◌+◌, ◌-◌, ◌≤◌, ◌<◌, ◌⊎◌, inl, inr, Bool, true, false, List, [], ◌∷◌, ◌++◌, take, drop, length, filter, Some, refl, ◌∙◌, arith, add-zero}
 use Rattle.std.proofs.Math.Seq.{take-add}
 use Rattle.std.proofs.lemmas.List.{drop-take, drop-drop}
 use Rattle.std.proofs.lemmas.List.Elements.{filter-append}
 use Rattle.std.proofs.lemmas.Bool.{cases_Bool}
 use Rattle.kube_meta.specs.declared.metadata.ObjectMeta.{ObjectMeta}
-use Rattle.kube_model.specs.Raw.{RawAnswer, Waits}
+use Rattle.kube_model.specs.Raw.{Waits}
 use Rattle.kube_server.specs.History.{Change, object_of}
 use Rattle.kube_server.specs.Numbers.{NameSought, has_name}
 use Rattle.kube_server.specs.Honest.{Selection, selected_between}
-use Rattle.kube_server.specs.Connections.{OpenWatch, Poll, event_of, first_named}
+use Rattle.kube_server.specs.Connections.{Poll, event_of, first_named}
 
 -- ---- the first change of a name
 

@@ -1,16 +1,16 @@
 -- What was told stays honest, whatever is asked of a connection, and whenever its log grows.
-use Rattle.std.proofs.Common.{◌≡◌, ℕ, ◌+◌, ◌≤◌, ◌<◌, ◌^◌, ◌⊎◌, inl, inr, Bool, true, false, leb-true, List, [], ◌∷◌, ◌++◌, fold, length, Option, Some, None, refl, sym, ap, subst, ◌∙◌, arith, length-append}
-use Rattle.std.specs.Prelude.{nat_le, option_and_then, ◌&&◌}
+use Rattle.std.proofs.Common.{◌≡◌, ℕ, ◌≤◌, ◌<◌, ◌^◌, inl, inr, Bool, true, false, leb-true, List, [], ◌∷◌, ◌++◌, fold, length, Option, Some, None, refl, ap, subst, ◌∙◌, arith, length-append}
+use Rattle.std.specs.Prelude.{nat_le, option_and_then}
 use Rattle.std.proofs.lemmas.Bool.{cases_Bool}
 use Rattle.std.proofs.lemmas.List.Sums.{fold-append}
 use Rattle.kube_meta.specs.declared.metadata.ObjectMeta.{ObjectMeta}
 use Rattle.kube_model.specs.declared.params.ListParams.{ListParams}
 use Rattle.kube_model.specs.declared.params.WatchParams.{WatchParams}
-use Rattle.kube_model.specs.Raw.{RawCall, ListAsked, WatchAsked, NextAsked, RawAnswer, Opens, Raw}
-use Rattle.kube_server.specs.History.{Change, state_at, objects_of}
+use Rattle.kube_model.specs.Raw.{RawCall, ListAsked, WatchAsked, NextAsked, RawAnswer, Raw}
+use Rattle.kube_server.specs.History.{Change}
 use Rattle.kube_server.specs.Numbers.{NameSought, name_sought, number_at}
-use Rattle.kube_server.specs.Honest.{ListTold, list_after, list_told, WatchTold, watch_after, watch_told, watch_selection, just_opened, after_watch_answer, after_next_answer, IsHonest, IsHonestSoFar}
-use Rattle.kube_server.specs.Connections.{OpenWatch, Connection, selected_by, is_known, if_known, version_known, initial_watch, later_watch, opening, watched_by, opened_by, watched, opened, polled, poll_current, left_current, named_at, listed, after_list, after_watch, after_next, left_by, told, Act, Calls, Feeds, acted, fresh}
+use Rattle.kube_server.specs.Honest.{list_after, list_told, WatchTold, watch_after, watch_told, watch_selection, just_opened, after_watch_answer, after_next_answer, IsHonest}
+use Rattle.kube_server.specs.Connections.{OpenWatch, Connection, selected_by, is_known, if_known, version_known, later_watch, opening, watched_by, opened_by, watched, opened, polled, poll_current, left_current, named_at, listed, after_list, after_watch, after_next, left_by, told, Act, Calls, Feeds, acted, fresh}
 use Rattle.kube_server.specs.Standing.{ListStands, WatchStands, IsWatching, Stands}
 use Rattle.kube_server.proofs.HonestLemmas.{IsHonest-more, IsHonest-push}
 use Rattle.kube_server.proofs.PollLemmas.{selected_between-none}

@@ -1,16 +1,15 @@
 -- An open watch goes on where what it told left it, whatever it is polled.
-use Rattle.std.proofs.Common.{◌≡◌, ℕ, zero, suc, ◌+◌, ◌-◌, ◌≤◌, ◌<◌, ◌⊎◌, inl, inr, Bool, true, false, List, [], ◌∷◌, ◌++◌, map, take, drop, length, filter, Option, Some, None, refl, sym, ap, subst, ◌∙◌, arith, add-zero, add-one, append_assoc, append-nil, length-drop}
-use Rattle.std.specs.Prelude.{IsPermutation, decimal, codes}
+use Rattle.std.proofs.Common.{◌≡◌, ℕ, suc, ◌+◌, ◌≤◌, ◌⊎◌, inl, inr, true, List, [], ◌∷◌, ◌++◌, map, take, drop, length, filter, Option, Some, None, refl, sym, ap, ◌∙◌, arith, append_assoc, append-nil, length-drop}
+use Rattle.std.specs.Prelude.{codes}
 use Rattle.std.proofs.Math.Seq.{take-length}
 use Rattle.std.proofs.lemmas.List.{map-append}
-use Rattle.std.proofs.lemmas.List.Elements.{filter-append}
 use Rattle.std.proofs.lemmas.List.Sorted.{IsPermutation-refl}
 use Rattle.kube_meta.specs.Pairs.{text_at}
 use Rattle.kube_meta.specs.declared.metadata.ObjectMeta.{ObjectMeta}
-use Rattle.kube_model.specs.Raw.{RawAnswer, Waits, GivesAdded, GivesModified, GivesDeleted, GivesBookmark, GivesError, Ends}
+use Rattle.kube_model.specs.Raw.{RawAnswer, GivesAdded, GivesError}
 use Rattle.kube_server.specs.History.{Change, Adds, Modifies, Removes, object_of}
 use Rattle.kube_server.specs.Numbers.{NameSought, has_name, name_sought}
-use Rattle.kube_server.specs.Honest.{Selection, WatchTold, selected_at, selected_between, Tells, Follow, after_next_answer, ending_mark, IsHonestWatch, IsHonestBy}
+use Rattle.kube_server.specs.Honest.{Selection, WatchTold, selected_at, selected_between, Tells, after_next_answer, ending_mark, IsHonestWatch, IsHonestBy}
 use Rattle.kube_server.specs.Connections.{OpenWatch, Poll, event_of, first_named, poll_watch, selected_by, selects_name, expired, ending_bookmark}
 use Rattle.kube_server.specs.Standing.{IsToldUpTo, IsExpired, IsFollowing, IsTelling, IsBeyond, IsWatching, WatchStands}
 use Rattle.kube_server.proofs.HonestLemmas.{longer, selected_at-more, selected_between-more, Follow-more, Follow-push}

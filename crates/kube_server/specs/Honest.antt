@@ -1,5 +1,5 @@
 -- When a talk is honest to a history: lists are whole states, and watches are without gaps. V is the type of the objects; what their metadata are, and which objects selectors select, is handed in. (Kubernetes API concepts: "retrieving large results sets in chunks", "efficient detection of changes", "watch bookmarks", "streaming lists".)
-use Rattle.std.specs.Prelude.{◌≡◌, ℕ, ◌+◌, ◌-◌, ◌≤◌, ◌⊎◌, Bool, true, false, ◌&&◌, if◌then◌else◌, List, [], ◌∷◌, ◌++◌, map, fold, take, drop, length, filter, Option, Some, None, decimal, codes, IsPermutation}
+use Rattle.std.specs.Prelude.{◌≡◌, ℕ, ◌≤◌, ◌⊎◌, Bool, true, false, ◌&&◌, if◌then◌else◌, List, [], ◌∷◌, ◌++◌, map, fold, take, drop, length, filter, Option, Some, None, decimal, codes, IsPermutation}
 use Rattle.std.specs.Option.{option_eq}
 use Rattle.std.specs.Str.{bytes_eq}
 use Rattle.kube_meta.specs.Pairs.{text_at}
@@ -7,8 +7,8 @@ use Rattle.kube_meta.specs.Reading.{unless_empty}
 use Rattle.kube_meta.specs.declared.metadata.ObjectMeta.{ObjectMeta}
 use Rattle.kube_model.specs.declared.params.ListParams.{ListParams}
 use Rattle.kube_model.specs.declared.params.WatchParams.{WatchParams}
-use Rattle.kube_model.specs.Raw.{RawCall, ListAsked, WatchAsked, NextAsked, RawAnswer, Waits, Fails, GivesPage, Opens, GivesAdded, GivesModified, GivesDeleted, GivesBookmark, GivesError, Ends, Raw}
-use Rattle.kube_server.specs.History.{Change, Adds, Modifies, Removes, object_of, State, state_at, objects_of}
+use Rattle.kube_model.specs.Raw.{RawCall, ListAsked, WatchAsked, NextAsked, RawAnswer, GivesPage, Opens, GivesAdded, GivesModified, GivesDeleted, GivesBookmark, Raw}
+use Rattle.kube_server.specs.History.{Change, Adds, Modifies, Removes, object_of, state_at, objects_of}
 use Rattle.kube_server.specs.Numbers.{number_at}
 
 -- a label selector and a field selector, where there are

@@ -1,5 +1,5 @@
 -- Numbers, tokens and selectors as texts. (Kubernetes API concepts: resource versions, continue tokens, field selectors.)
-use Rattle.std.specs.Prelude.{ℕ, ◌==◌, ◌||◌, ◌&&◌, ◌^◌, Bool, true, false, not, List, [], ◌∷◌, ◌++◌, drop, length, slice_index, Option, Some, None, codes, decimal, if◌then◌else◌, nat_eq, nat_lt}
+use Rattle.std.specs.Prelude.{ℕ, ◌==◌, ◌||◌, ◌&&◌, ◌^◌, Bool, true, not, List, ◌∷◌, ◌++◌, drop, length, slice_index, Option, Some, None, codes, decimal, if◌then◌else◌, nat_eq, nat_lt}
 use Rattle.std.specs.List.{list_any, starts_with, before_first, after_first}
 use Rattle.std.specs.Str.Parse.{digits_value}
 use Rattle.kube_meta.specs.declared.metadata.ObjectMeta.{ObjectMeta}

@@ -1,9 +1,9 @@
 -- What a connection holds after what it told, which no clause of it shows: by this each talk is honest.
-use Rattle.std.specs.Prelude.{◌≡◌, ℕ, ◌+◌, ◌≤◌, ◌⊎◌, true, false, List, [], ◌∷◌, ◌++◌, map, take, length, Option, Some, None, decimal, codes}
+use Rattle.std.specs.Prelude.{◌≡◌, ℕ, ◌≤◌, ◌⊎◌, true, false, List, [], ◌∷◌, ◌++◌, map, take, length, Option, Some, None}
 use Rattle.kube_meta.specs.Reading.{unless_empty}
 use Rattle.kube_meta.specs.declared.dynamic.DynamicObject.{DynamicObject}
 use Rattle.kube_meta.specs.declared.metadata.ObjectMeta.{ObjectMeta}
-use Rattle.kube_model.specs.Raw.{RawAnswer, GivesAdded, GivesError, GivesBookmark}
+use Rattle.kube_model.specs.Raw.{RawAnswer, GivesAdded, GivesError}
 use Rattle.kube_server.specs.History.{Change}
 use Rattle.kube_server.specs.Numbers.{number_at, Token, token_text, name_sought}
 use Rattle.kube_server.specs.Honest.{Selection, ListTold, list_told, WatchTold, watch_told, selected_at, selected_between, Follow, IsHonest, IsHonestEnd}

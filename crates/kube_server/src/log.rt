@@ -160,7 +160,13 @@ impl Log {
             return Ok(());
         }
         let entries = self.entries.as_slice();
-        let shown = laid(alloc, entries, &mut self.newest, &mut self.applied, revision)?;
+        let shown = laid(
+            alloc,
+            entries,
+            &mut self.newest,
+            &mut self.applied,
+            revision,
+        )?;
         self.shown = shown;
         self.revision = revision;
         Ok(())

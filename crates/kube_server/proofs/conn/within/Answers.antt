@@ -1,4 +1,4 @@
-use Rattle.std.proofs.Common.{◌≡◌, map, take, ◌∙◌, arith}
+use Rattle.std.proofs.Common.{◌≡◌, map, take}
 use Rattle.std.specs.Arc.{arc_value}
 use Rattle.kube_server.specs.Tokens.{token_of}
 use Rattle.kube_server.proofs.PageLemmas.{page_within-more}

@@ -1,4 +1,4 @@
-use Rattle.std.proofs.Common.{◌≡◌, ◌-◌, map, take, subst, ◌∙◌, arith}
+use Rattle.std.proofs.Common.{◌≡◌, map, take, subst, ◌∙◌}
 use Rattle.std.specs.Arc.{arc_value}
 use Rattle.std.specs.Result.{IfOk}
 use Rattle.kube_meta.specs.declared.dynamic.DynamicObject.{DynamicObject}

@@ -1,9 +1,9 @@
-use Rattle.std.proofs.Common.{◌≡◌, true, false, map, length, sym, ap, ◌∙◌, arith}
+use Rattle.std.proofs.Common.{◌≡◌, true, false, ◌∙◌}
 use Rattle.kube_server.specs.History.{object_of}
 use Rattle.kube_server.specs.Numbers.{has_name}
 use Rattle.kube_server.specs.Servers.{meta_of}
 use Rattle.kube_server.specs.Stored.{change_of, name_of}
-use Rattle.kube_server.proofs.PlaceLemmas.{looks_past, stops_at, stops_behind}
+use Rattle.kube_server.proofs.PlaceLemmas.{looks_past, stops_at}
 use Rattle.kube_server.proofs.watching.first_named_from.Goals as goal
 
 pub loop-place-preserved : goal.loop-place-preserved

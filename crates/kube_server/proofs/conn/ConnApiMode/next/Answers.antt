@@ -1,15 +1,14 @@
-use Rattle.std.proofs.Common.{◌≡◌, List, map, Some, refl, sym, ap, subst, ◌∙◌}
+use Rattle.std.proofs.Common.{◌≡◌, List, Some, refl, sym, ap, subst, ◌∙◌}
 use Rattle.std.specs.Option.{option_map}
 use Rattle.kube_meta.specs.declared.dynamic.DynamicObject.{DynamicObject}
-use Rattle.kube_model.specs.Raw.{NextAsked, IsNeverOpened}
-use Rattle.kube_api.specs.Answers.{next_answer}
+use Rattle.kube_model.specs.Raw.{IsNeverOpened}
 use Rattle.kube_server.specs.declared.talk.Told.TheVariants.{Next as NextTold}
 use Rattle.kube_server.specs.contracts.conn.Conn.{the_view}
 use Rattle.kube_server.specs.History.{Change}
 use Rattle.kube_server.specs.Servers.{meta_of}
 use Rattle.kube_server.specs.Stored.{raw_of}
 use Rattle.kube_server.specs.Watches.{watch_of}
-use Rattle.kube_server.specs.Connections.{Connection, poll_current, left_current, polled, after_next}
+use Rattle.kube_server.specs.Connections.{Connection, poll_current, left_current, after_next}
 use Rattle.kube_server.specs.Standing.{Stands}
 use Rattle.kube_server.proofs.StandingLemmas.{Stands-polled}
 use Rattle.kube_server.proofs.ConnLemmas.{next_left, never_open}

@@ -1,8 +1,8 @@
-use Rattle.std.proofs.Common.{◌≡◌, List, ℕ, Some, None, Option, refl, sym, ap, ◌∙◌}
+use Rattle.std.proofs.Common.{◌≡◌, List, ℕ, Some, None, Option, sym, ap, ◌∙◌}
 use Rattle.std.specs.Option.{option_map}
 use Rattle.kube_meta.specs.declared.dynamic.DynamicObject.{DynamicObject}
 use Rattle.kube_model.specs.declared.params.WatchParams.{WatchParams}
-use Rattle.kube_model.specs.Raw.{RawCall, WatchAsked, Fails, Opens}
+use Rattle.kube_model.specs.Raw.{WatchAsked, Fails, Opens}
 use Rattle.kube_server.specs.declared.watching.Watching.{Watching}
 use Rattle.kube_server.specs.contracts.conn.Conn.{the_view}
 use Rattle.kube_server.specs.Servers.{meta_of}

@@ -1,4 +1,4 @@
-use Rattle.std.proofs.Common.{◌≡◌, [], map, true, Some, refl, sym, ap, ◌∙◌, arith}
+use Rattle.std.proofs.Common.{◌≡◌, [], map, true, refl, sym, ap, ◌∙◌, arith}
 use Rattle.std.specs.Prelude.{is_some, not}
 use Rattle.std.proofs.lemmas.List.{nil_from_length}
 use Rattle.kube_meta.specs.declared.dynamic.DynamicObject.{DynamicObject}
