@@ -1,0 +1,27 @@
+-- Where a watch stands in a log, which no public clause shows.
+use Rattle.std.specs.Prelude.{◌≡◌, ℕ, true, List, [], ◌∷◌, drop, Option, Some, None}
+use Rattle.kube_meta.specs.declared.dynamic.DynamicObject.{DynamicObject}
+use Rattle.kube_model.specs.Raw.{RawAnswer}
+use Rattle.kube_server.specs.History.{Change, object_of}
+use Rattle.kube_server.specs.Numbers.{NameSought, has_name}
+use Rattle.kube_server.specs.Servers.{meta_of}
+use Rattle.kube_server.specs.Connections.{OpenWatch, first_named}
+
+-- the change at the head has the name
+abbrev pub HeadIsNamed : NameSought → List (Change DynamicObject) → Type 0
+HeadIsNamed name [] = Unit {0}
+HeadIsNamed name (change ∷ changes) = has_name name (meta_of (object_of change)) ≡ true
+
+-- from here on the same is found first as from there, and the change here is it, if there is one
+pub record IsFirstNamed (name : NameSought) (changes : List (Change DynamicObject)) (from place : ℕ) : Type 0 where
+  pub same : first_named meta_of name place (drop place changes) ≡ first_named meta_of name from (drop from changes)
+  pub named : HeadIsNamed name (drop place changes)
+
+abbrev pub IsPlaceAfter : NameSought → List (Change DynamicObject) → List (RawAnswer DynamicObject) → Option ℕ → ℕ → Type 0
+IsPlaceAfter name changes [] (Some from) place = IsFirstNamed name changes from place
+IsPlaceAfter name changes [] None place = Unit {0}
+IsPlaceAfter name changes (answer ∷ rest) follows place = Unit {0}
+
+-- where a watch goes on, once nothing is pending
+abbrev pub IsNextPlace : OpenWatch DynamicObject → List (Change DynamicObject) → ℕ → Type 0
+IsNextPlace w changes place = IsPlaceAfter w.name changes w.pending w.follows place

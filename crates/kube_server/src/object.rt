@@ -1,0 +1,261 @@
+//! Objects with other metadata, and copies of objects.
+
+ghost use Rattle.std.specs.Prelude.{◌≡◌, ◌++◌, IfOk, Some, None, option_map, option_copied, decimal, codes};
+ghost use Rattle.std.specs.Arc.{arc_value};
+ghost use Rattle.kube_meta.specs.Reading.{seen_object};
+ghost use Rattle.kube_server.specs.Servers.{with_version, made_uid, uid_of, put_object, put_over, deleting as deleting_data, has_finalizers as has_some, is_deleting, is_gone as is_gone_data};
+ghost use Rattle.kube_server.specs.History.{change_seen};
+ghost use Rattle.kube_server.specs.Stored.{change_of};
+
+use crate::entry::Entry;
+use crate::token::decimal;
+use kube_meta::text::copy_option;
+use kube_meta::{
+    DynamicObject, List, Moment, NoMemory, ObjectMeta, OwnerReference, Text, TextMap, TypeMeta,
+};
+use std::alloc::Global;
+use std::sync::Arc;
+
+fn copy_types(alloc: Global, types: &Option<TypeMeta>) -> Result<Option<TypeMeta>, NoMemory>
+    ensures { IfOk result (λ t. t ≡ types.now) }
+{
+    match types {
+        Some(types) => Ok(Some(TypeMeta {
+            api_version: types.api_version.copy(alloc)?,
+            kind: types.kind.copy(alloc)?,
+        })),
+        None => Ok(None),
+    }
+}
+
+fn copy_map(map: &Option<TextMap>) -> Result<Option<TextMap>, NoMemory>
+    ensures { IfOk result (λ m. m ≡ map.now) }
+{
+    match map {
+        Some(map) => Ok(Some(map.copy()?)),
+        None => Ok(None),
+    }
+}
+
+fn copy_texts(alloc: Global, texts: &Option<List<Text>>) -> Result<Option<List<Text>>, NoMemory>
+    ensures { IfOk result (λ l. l ≡ texts.now) }
+{
+    match texts {
+        Some(texts) => Ok(Some(copy_each_text(alloc, texts.as_slice())?)),
+        None => Ok(None),
+    }
+}
+
+fn copy_each_text(alloc: Global, texts: &[Text]) -> Result<List<Text>, NoMemory>
+    ensures { IfOk result (λ l. l ≡ texts.now) }
+{
+    let mut all = List::new(alloc);
+    for text in texts {
+        all.push(text.copy(alloc)?)?;
+    }
+    Ok(all)
+}
+
+fn copy_owner(alloc: Global, owner: &OwnerReference) -> Result<OwnerReference, NoMemory>
+    ensures { IfOk result (λ o. o ≡ owner.now) }
+{
+    Ok(OwnerReference {
+        api_version: owner.api_version.copy(alloc)?,
+        kind: owner.kind.copy(alloc)?,
+        name: owner.name.copy(alloc)?,
+        uid: owner.uid.copy(alloc)?,
+    })
+}
+
+fn copy_each_owner(
+    alloc: Global,
+    owners: &[OwnerReference],
+) -> Result<List<OwnerReference>, NoMemory>
+    ensures { IfOk result (λ l. l ≡ owners.now) }
+{
+    let mut all = List::new(alloc);
+    for owner in owners {
+        all.push(copy_owner(alloc, owner)?)?;
+    }
+    Ok(all)
+}
+
+fn copy_owners(
+    alloc: Global,
+    owners: &Option<List<OwnerReference>>,
+) -> Result<Option<List<OwnerReference>>, NoMemory>
+    ensures { IfOk result (λ l. l ≡ owners.now) }
+{
+    match owners {
+        Some(owners) => Ok(Some(copy_each_owner(alloc, owners.as_slice())?)),
+        None => Ok(None),
+    }
+}
+
+fn copy_meta(alloc: Global, meta: &ObjectMeta) -> Result<ObjectMeta, NoMemory>
+    ensures { IfOk result (λ m. m ≡ meta.now) }
+{
+    Ok(ObjectMeta {
+        name: copy_option(alloc, &meta.name)?,
+        namespace: copy_option(alloc, &meta.namespace)?,
+        uid: copy_option(alloc, &meta.uid)?,
+        resource_version: copy_option(alloc, &meta.resource_version)?,
+        deletion_timestamp: copy_option(alloc, &meta.deletion_timestamp)?,
+        generation: meta.generation,
+        labels: copy_map(&meta.labels)?,
+        annotations: copy_map(&meta.annotations)?,
+        finalizers: copy_texts(alloc, &meta.finalizers)?,
+        owner_references: copy_owners(alloc, &meta.owner_references)?,
+    })
+}
+
+/// An equal object in memory of its own.
+///
+/// Errors: `NoMemory`.
+pub(crate) fn copy_object(alloc: Global, object: &DynamicObject) -> Result<DynamicObject, NoMemory>
+    ensures { IfOk result (λ o. seen_object o ≡ seen_object object.now) }
+{
+    let types = copy_types(alloc, &object.types)?;
+    let metadata = copy_meta(alloc, &object.metadata)?;
+    let content = object.content.clone()?;
+    Ok(DynamicObject {
+        types,
+        metadata,
+        content,
+    })
+}
+
+/// The object with a revision as its version.
+///
+/// Errors: `NoMemory`; the object is dropped.
+pub(crate) fn versioned(
+    alloc: Global,
+    object: DynamicObject,
+    revision: u64,
+) -> Result<DynamicObject, NoMemory>
+    ensures { IfOk result (λ o. seen_object o ≡ with_version revision (seen_object object)) }
+{
+    let version = decimal(alloc, revision)?;
+    let DynamicObject {
+        types,
+        metadata,
+        content,
+    } = object;
+    Ok(DynamicObject {
+        types,
+        metadata: ObjectMeta {
+            resource_version: Some(version),
+            ..metadata
+        },
+        content,
+    })
+}
+
+/// The object with a revision as its version, and being deleted from a moment on.
+///
+/// Errors: `NoMemory`; the object is dropped.
+pub(crate) fn deleting(
+    alloc: Global,
+    object: DynamicObject,
+    revision: u64,
+    now: Moment,
+) -> Result<DynamicObject, NoMemory>
+    ensures { IfOk result (λ o. seen_object o ≡ deleting_data revision now.0 (seen_object object)) }
+{
+    let version = decimal(alloc, revision)?;
+    let deleted = decimal(alloc, now.0)?;
+    let DynamicObject {
+        types,
+        metadata,
+        content,
+    } = object;
+    Ok(DynamicObject {
+        types,
+        metadata: ObjectMeta {
+            resource_version: Some(version),
+            deletion_timestamp: Some(deleted),
+            ..metadata
+        },
+        content,
+    })
+}
+
+/// The uid of an object that is put: its own, that of the object in whose place it comes, or a new one.
+fn uid_for(
+    alloc: Global,
+    own: &Option<Text>,
+    stored: Option<&Arc<DynamicObject>>,
+    revision: u64,
+) -> Result<Option<Text>, NoMemory>
+    ensures { IfOk result (λ u. u ≡ uid_of revision own.now (option_map (λ a. seen_object (arc_value a)) (option_copied stored.entry))) }
+{
+    match (own, stored) {
+        (Some(uid), _) => Ok(Some(uid.copy(alloc)?)),
+        (None, Some(stored)) => copy_option(alloc, &stored.metadata.uid),
+        (None, None) => Ok(Some(Text::from(format!(in alloc; "uid-{revision}")?))),
+    }
+}
+
+/// The object as a put at a revision keeps it.
+fn placed(
+    alloc: Global,
+    object: DynamicObject,
+    stored: Option<&Arc<DynamicObject>>,
+    revision: u64,
+) -> Result<DynamicObject, NoMemory>
+    ensures { IfOk result (λ o. seen_object o
+        ≡ put_object revision (option_map (λ a. seen_object (arc_value a)) (option_copied stored.entry)) (seen_object object)) }
+{
+    let version = decimal(alloc, revision)?;
+    let uid = uid_for(alloc, &object.metadata.uid, stored, revision)?;
+    let DynamicObject {
+        types,
+        metadata,
+        content,
+    } = object;
+    Ok(DynamicObject {
+        types,
+        metadata: ObjectMeta {
+            uid,
+            resource_version: Some(version),
+            ..metadata
+        },
+        content,
+    })
+}
+
+/// The entry of a put at a revision, in the place of an object or of none.
+///
+/// Errors: `NoMemory`; the object is dropped.
+pub(crate) fn put_entry(
+    alloc: Global,
+    object: DynamicObject,
+    stored: Option<&Arc<DynamicObject>>,
+    revision: u64,
+) -> Result<Entry, NoMemory>
+    ensures { IfOk result (λ e. change_seen seen_object (change_of e)
+        ≡ put_over revision (option_map (λ a. seen_object (arc_value a)) (option_copied stored.entry)) (seen_object object)) }
+{
+    let object = Arc::new(alloc, placed(alloc, object, stored, revision)?)?;
+    Ok(match stored {
+        Some(_) => Entry::Modified(object),
+        None => Entry::Added(object),
+    })
+}
+
+/// Whether something has to clean up before the object may go.
+pub(crate) fn has_finalizers(meta: &ObjectMeta) -> bool
+    ensures { result ≡ has_some meta.now }
+{
+    match &meta.finalizers {
+        Some(finalizers) => !finalizers.is_empty(),
+        None => false,
+    }
+}
+
+/// Whether an object goes: it is being deleted, and nothing has to clean up.
+pub(crate) fn is_gone(meta: &ObjectMeta) -> bool
+    ensures { result ≡ is_gone_data meta.now }
+{
+    meta.deletion_timestamp.is_some() && !has_finalizers(meta)
+}

@@ -1,0 +1,282 @@
+//! The objects of a server in one namespace, each under its name.
+
+ghost use Rattle.std.specs.Prelude.{◌≡◌, ◌<◌, ◌≤◌, ◌^◌, [], length, map, IfOk, OnOk, OnErr, Some, option_copied, option_map};
+ghost use Rattle.std.specs.Arc.{arc_value};
+ghost use Rattle.kube_meta.specs.Keys.{reference_of};
+ghost use Rattle.kube_meta.specs.Resources.{resource_type};
+ghost use Rattle.kube_meta.specs.Reading.{seen_object};
+ghost use Rattle.kube_model.specs.Raw.{grown, FaultRose};
+ghost use Rattle.kube_api.specs.Patches.{operation_of};
+ghost use Rattle.kube_api.specs.ObjectTalk.{PatchAsked, DeleteAsked, patch_answer, delete_answer, is_object_fault, RefusedAs, MissingAs, IsKept, IsNotMemory};
+ghost use Rattle.kube_server.specs.Servers.{held, next_revision, deletion, IsAtMostStep};
+ghost use Rattle.kube_server.specs.Stored.{change_of};
+ghost use Rattle.kube_server.specs.Servers.{meta_of};
+ghost use Rattle.kube_server.specs.ObjectCalls.{reference_in, held_document, answer_seen, answer_of_patch, IsLeftByPatch, IsKeptServer, gone_status, change_answer, deleted_answer, answer_of_delete, IsLeftByDelete, object_raw};
+
+use crate::entry::Entry;
+use crate::object_told::{ObjectTold, copy_patch};
+use crate::server::Server;
+use kube_api::{DeleteAnswer, ObjectApi, Patch, PatchAnswer, PatchRefusal, Status};
+use kube_meta::text::copy_option;
+use kube_meta::{DynamicObject, Extra, Moment, NoMemory, ObjectRef, Polled, Text};
+use std::alloc::Global;
+use std::sync::Arc;
+
+/// A server's objects of one namespace, or of none, as an API of single objects. It is always ready and never fails, and
+/// keeps each call with its answer.
+///
+/// A patch is answered the patched object, also where it is removed thereby. A deletion is a request to delete: it is
+/// answered the object where that stays, and else a status of code 200 with empty texts and the uid of the removed object.
+#[derive(Drop)]
+pub struct ServerObjects<'a> {
+    pub server: &'a mut Server,
+    pub namespace: Option<Text>,
+    told: Vec<ObjectTold>,
+}
+
+/// The text of its own, where there is one.
+fn owned(alloc: Global, text: Option<&str>) -> Result<Option<Text>, NoMemory>
+    ensures { IfOk result (λ t. t ≡ option_copied text.entry) }
+{
+    match text {
+        Some(text) => Ok(Some(Text::new(alloc, text)?)),
+        None => Ok(None),
+    }
+}
+
+/// The status of a removal.
+fn gone(alloc: Global, uid: &Option<Text>) -> Result<Status, NoMemory>
+    ensures { IfOk result (λ s. s ≡ gone_status uid.now) }
+{
+    Ok(Status {
+        code: 200,
+        reason: Text::new(alloc, "")?,
+        message: Text::new(alloc, "")?,
+        uid: copy_option(alloc, uid)?,
+    })
+}
+
+/// The answer to a deletion that makes this entry.
+fn deleted_by(alloc: Global, entry: &Entry) -> Result<DeleteAnswer<DynamicObject>, NoMemory>
+    ensures { IfOk result (λ a. delete_answer (Polled.Ready a) ≡ change_answer meta_of (change_of entry.now)) }
+{
+    Ok(match entry {
+        Entry::Added(object) => DeleteAnswer::Object(object.clone()?),
+        Entry::Modified(object) => DeleteAnswer::Object(object.clone()?),
+        Entry::Deleted(object) => DeleteAnswer::Status(gone(alloc, &object.metadata.uid)?),
+    })
+}
+
+impl<'a> ServerObjects<'a> {
+    /// The objects of a namespace, or those without one.
+    ///
+    /// Errors: `NoMemory`.
+    pub fn new(
+        alloc: Global,
+        server: &'a mut Server,
+        namespace: Option<&str>,
+    ) -> Result<ServerObjects<'a>, NoMemory>
+        ensures same_reference { IfOk result (λ o. o.server.ghost_name ≡ server.entry.ghost_name) }
+        ensures server { IfOk result (λ o. o.server.now ≡ server.old) }
+        ensures namespace { IfOk result (λ o. o.namespace ≡ option_copied namespace.entry) }
+        ensures told { IfOk result (λ o. map object_raw o.told.items ≡ []) }
+    {
+        let namespace = owned(alloc, namespace)?;
+        Ok(ServerObjects {
+            server,
+            namespace,
+            told: Vec::new(alloc),
+        })
+    }
+}
+
+/// The reference of a name.
+fn reference(
+    alloc: Global,
+    server: &Server,
+    namespace: &Option<Text>,
+    name: &str,
+) -> Result<ObjectRef<DynamicObject>, NoMemory>
+    ensures { IfOk result (λ r. reference_of (λ t. resource_type t.value) r ≡ reference_in server.now namespace.now name.now) }
+{
+    Ok(ObjectRef {
+        dyntype: server.resource().clone()?,
+        name: Text::new(alloc, name)?,
+        namespace: copy_option(alloc, namespace)?,
+        extra: Extra::empty(),
+    })
+}
+
+/// A refusal that isn't want of memory.
+fn told_refusal(refusal: PatchRefusal) -> Result<PatchRefusal, NoMemory>
+    ensures same { IfOk result (λ e. e ≡ refusal) }
+    ensures not_memory { IfOk result (λ e. ¬ (e ≡ PatchRefusal.NoMemory)) }
+{
+    match refusal {
+        PatchRefusal::NoMemory => Err(NoMemory),
+        PatchRefusal::NotFound => Ok(PatchRefusal::NotFound),
+        PatchRefusal::TestFailed(number) => Ok(PatchRefusal::TestFailed(number)),
+        PatchRefusal::PathMissing(number) => Ok(PatchRefusal::PathMissing(number)),
+        PatchRefusal::NotAnObject => Ok(PatchRefusal::NotAnObject),
+    }
+}
+
+/// A patch of the object of a reference, with its answer twice.
+fn patch_server(
+    alloc: Global,
+    server: &mut Server,
+    key: &ObjectRef<DynamicObject>,
+    patch: &[Patch],
+) -> Result<(PatchAnswer<DynamicObject>, PatchAnswer<DynamicObject>), NoMemory>
+    requires { length patch.now < 2 ^ 32 }
+    ensures answer { IfOk result (λ p. answer_seen seen_object (patch_answer (Polled.Ready p.0))
+        ≡ answer_of_patch (next_revision server.old) (map operation_of patch.now) (held server.old (reference_of (λ t. resource_type t.value) key.now))) }
+    ensures twice { IfOk result (λ p. patch_answer (Polled.Ready p.1) ≡ patch_answer (Polled.Ready p.0)) }
+    ensures left { OnOk result (IsLeftByPatch server.old server.new (map operation_of patch.now) (held server.old (reference_of (λ t. resource_type t.value) key.now))) }
+    ensures not_memory { IfOk result (λ p. IsNotMemory (patch_answer (Polled.Ready p.0))) }
+    ensures stays { IfOk result (λ p. IsKeptServer (patch_answer (Polled.Ready p.0)) server.old server.new) }
+    ensures err { OnErr result (server.new ≡ server.old) }
+{
+    match server.patch_of(alloc, key, patch) {
+        Ok(entry) => {
+            let given = entry.object().clone()?;
+            let kept = entry.object().clone()?;
+            server.make(alloc, entry)?;
+            Ok((PatchAnswer::Done(given), PatchAnswer::Done(kept)))
+        }
+        Err(refusal) => {
+            let refusal = told_refusal(refusal)?;
+            Ok((PatchAnswer::Refused(refusal), PatchAnswer::Refused(refusal)))
+        }
+    }
+}
+
+/// A request to delete the object of a reference, which is this one, with its answer twice.
+fn delete_stored(
+    alloc: Global,
+    server: &mut Server,
+    key: &ObjectRef<DynamicObject>,
+    stored: Arc<DynamicObject>,
+    now: Moment,
+) -> Result<(DeleteAnswer<DynamicObject>, DeleteAnswer<DynamicObject>), NoMemory>
+    requires { held server.old (reference_of (λ t. resource_type t.value) key.now) ≡ Some (seen_object (arc_value stored)) }
+    ensures answer { IfOk result (λ p. answer_seen seen_object (delete_answer (Polled.Ready p.0))
+        ≡ deleted_answer (seen_object (arc_value stored)) (deletion (next_revision server.old) now.0 (seen_object (arc_value stored)))) }
+    ensures twice { IfOk result (λ p. delete_answer (Polled.Ready p.1) ≡ delete_answer (Polled.Ready p.0)) }
+    ensures left { OnOk result (IsAtMostStep server.old server.new (deletion (next_revision server.old) now.0 (seen_object (arc_value stored)))) }
+    ensures err { OnErr result (server.new ≡ server.old) }
+{
+    let Ok(entry) = server.deletion_of(alloc, key, now) else {
+        return Err(NoMemory);
+    };
+    match entry {
+        Some(entry) => {
+            let given = deleted_by(alloc, &entry)?;
+            let kept = deleted_by(alloc, &entry)?;
+            server.make(alloc, entry)?;
+            Ok((given, kept))
+        }
+        None => {
+            let kept = DeleteAnswer::Object(stored.clone()?);
+            Ok((DeleteAnswer::Object(stored), kept))
+        }
+    }
+}
+
+/// A request to delete the object of a reference, with its answer twice.
+fn delete_in_server(
+    alloc: Global,
+    server: &mut Server,
+    key: &ObjectRef<DynamicObject>,
+    now: Moment,
+) -> Result<(DeleteAnswer<DynamicObject>, DeleteAnswer<DynamicObject>), NoMemory>
+    ensures answer { IfOk result (λ p. answer_seen seen_object (delete_answer (Polled.Ready p.0))
+        ≡ answer_of_delete (next_revision server.old) now.0 (held server.old (reference_of (λ t. resource_type t.value) key.now))) }
+    ensures twice { IfOk result (λ p. delete_answer (Polled.Ready p.1) ≡ delete_answer (Polled.Ready p.0)) }
+    ensures left { OnOk result (IsLeftByDelete server.old server.new now.0 (held server.old (reference_of (λ t. resource_type t.value) key.now))) }
+    ensures err { OnErr result (server.new ≡ server.old) }
+{
+    match server.object(alloc, key)? {
+        Some(stored) => delete_stored(alloc, server, key, stored, now),
+        None => Ok((DeleteAnswer::NotFound, DeleteAnswer::NotFound)),
+    }
+}
+
+impl<'a> ObjectApi for ServerObjects<'a> {
+    type Value = DynamicObject;
+
+    ghost held = { λ s. Some (held_document s.server.now s.namespace) };
+
+    ghost talk = { λ s. Some (map object_raw s.told.items) };
+
+    ghost faults = { λ _. 0 };
+
+    fn patch(
+        &mut self,
+        alloc: Global,
+        name: &str,
+        patch: &[Patch],
+        _now: Moment,
+    ) -> Result<Polled<PatchAnswer<DynamicObject>>, NoMemory>
+        requires { length patch.now < 2 ^ 32 }
+        ensures answer { IfOk result (λ a. answer_seen seen_object (patch_answer a)
+            ≡ answer_of_patch (next_revision self.old.server.now) (map operation_of patch.now) (held self.old.server.now (reference_in self.old.server.now self.old.namespace name.now))) }
+        ensures left { OnOk result (IsLeftByPatch self.old.server.now self.new.server.now (map operation_of patch.now)
+            (held self.old.server.now (reference_in self.old.server.now self.old.namespace name.now))) }
+        ensures err { OnErr result (self.new.server.now ≡ self.old.server.now) }
+        ensures namespace { self.new.namespace ≡ self.old.namespace }
+        ensures same_reference { self.new.server.ghost_name ≡ self.old.server.ghost_name }
+
+        // those of the trait
+        ensures grows { IfOk result (λ a. Some (map object_raw self.new.told.items)
+            ≡ grown (Some (map object_raw self.old.told.items)) (record { call = PatchAsked name.now (map operation_of patch.now); answer = patch_answer a })) }
+        ensures unchanged { OnErr result (Some (map object_raw self.new.told.items) ≡ Some (map object_raw self.old.told.items)) }
+        ensures kept { OnErr result (Some (held_document self.new.server.now self.new.namespace) ≡ Some (held_document self.old.server.now self.old.namespace)) }
+        ensures refused { IfOk result (λ a. RefusedAs (Some (held_document self.old.server.now self.old.namespace)) name.now (map operation_of patch.now) (patch_answer a)) }
+        ensures no_memory { IfOk result (λ a. IsNotMemory (patch_answer a)) }
+        ensures stays { IfOk result (λ a. IsKept (patch_answer a) (Some (held_document self.old.server.now self.old.namespace)) (Some (held_document self.new.server.now self.new.namespace))) }
+        ensures faults { IfOk result (λ a. FaultRose (is_object_fault (patch_answer a)) 0 0) }
+        ensures rises { 0 ≤ 0 }
+    {
+        let key = reference(alloc, self.server, &self.namespace, name)?;
+        let called = Text::new(alloc, name)?;
+        let operations = copy_patch(alloc, patch)?;
+        self.told.reserve(1)?;
+        let (given, kept) = patch_server(alloc, self.server, &key, patch)?;
+        self.told
+            .push_reserved(ObjectTold::Patch(called, operations, kept));
+        Ok(Polled::Ready(given))
+    }
+
+    fn delete(
+        &mut self,
+        alloc: Global,
+        name: &str,
+        now: Moment,
+    ) -> Result<Polled<DeleteAnswer<DynamicObject>>, NoMemory>
+        ensures answer { IfOk result (λ a. answer_seen seen_object (delete_answer a)
+            ≡ answer_of_delete (next_revision self.old.server.now) now.0 (held self.old.server.now (reference_in self.old.server.now self.old.namespace name.now))) }
+        ensures left { OnOk result (IsLeftByDelete self.old.server.now self.new.server.now now.0
+            (held self.old.server.now (reference_in self.old.server.now self.old.namespace name.now))) }
+        ensures err { OnErr result (self.new.server.now ≡ self.old.server.now) }
+        ensures namespace { self.new.namespace ≡ self.old.namespace }
+        ensures same_reference { self.new.server.ghost_name ≡ self.old.server.ghost_name }
+
+        // those of the trait
+        ensures grows { IfOk result (λ a. Some (map object_raw self.new.told.items)
+            ≡ grown (Some (map object_raw self.old.told.items)) (record { call = DeleteAsked name.now; answer = delete_answer a })) }
+        ensures unchanged { OnErr result (Some (map object_raw self.new.told.items) ≡ Some (map object_raw self.old.told.items)) }
+        ensures kept { OnErr result (Some (held_document self.new.server.now self.new.namespace) ≡ Some (held_document self.old.server.now self.old.namespace)) }
+        ensures missing { IfOk result (λ a. MissingAs (Some (held_document self.old.server.now self.old.namespace)) name.now (delete_answer a)) }
+        ensures stays { IfOk result (λ a. IsKept (delete_answer a) (Some (held_document self.old.server.now self.old.namespace)) (Some (held_document self.new.server.now self.new.namespace))) }
+        ensures faults { IfOk result (λ a. FaultRose (is_object_fault (delete_answer a)) 0 0) }
+        ensures rises { 0 ≤ 0 }
+    {
+        let key = reference(alloc, self.server, &self.namespace, name)?;
+        let called = Text::new(alloc, name)?;
+        self.told.reserve(1)?;
+        let (given, kept) = delete_in_server(alloc, self.server, &key, now)?;
+        self.told.push_reserved(ObjectTold::Delete(called, kept));
+        Ok(Polled::Ready(given))
+    }
+}
