@@ -1,7 +1,7 @@
 -- What an object asks of a finalizer, and the patch that is then sent. (Kubernetes API concept "finalizers"; crate: `finalizer`.)
 use Rattle.std.specs.Prelude.{ℕ, Bool, true, false, List, [], ◌∷◌, ◌++◌, map, Option, Some, None, is_some, unwrap_or, codes, decimal}
 use Rattle.std.specs.Str.{bytes_eq}
-use Rattle.std.specs.List.{position}
+use Rattle.std.specs.List.{position_from}
 use Rattle.std.specs.Arc.{arc_value}
 use Rattle.serde_json.specs.Data.{Data, null, string, array, item, no_items}
 use Rattle.serde_json.specs.View.{items_of}
@@ -29,7 +29,7 @@ decided named true None names = Nothing
 
 -- the first place of a name
 abbrev pub place_of : List ℕ → List (List ℕ) → Option ℕ
-place_of name names = position (λ other. bytes_eq other name) names
+place_of name names = position_from (λ other. bytes_eq other name) 0 names
 
 abbrev pub decision_on : List ℕ → ObjectMeta → Decision
 decision_on name meta = decided (is_some meta.name) (is_some meta.deletion_timestamp) (place_of name (finalizers_in meta)) (finalizers_in meta)

@@ -1,5 +1,5 @@
 -- A life of one object under the finalizer of one name: what happens to its finalizers, step by step. (Kubernetes API concept "finalizers"; an object of one uid.)
-use Rattle.std.specs.Prelude.{ℕ, ◌+◌, nat_lt, ◌==◌, Bool, true, false, not, ◌&&◌, List, [], ◌∷◌, ◌++◌, length, map, filter, remove, slice_get, Option, Some, None, option_map_or, if◌then◌else◌}
+use Rattle.std.specs.Prelude.{ℕ, ◌+◌, nat_lt, ◌==◌, Bool, true, false, not, ◌&&◌, List, [], ◌∷◌, ◌++◌, length, map, filter, remove, slice_get, Option, Some, None, if◌then◌else◌}
 use Rattle.std.specs.List.{count_by, list_any, fold}
 use Rattle.std.specs.Str.{bytes_eq}
 use Rattle.kube_final.specs.declared.finalizer.Decision.{Decision}
@@ -52,7 +52,8 @@ abbrev pub decided_on : List ℕ → LifeState → Decided
 decided_on name state = record { decision = decided true state.deleting (place_of name state.finalizers) state.finalizers; seen = state.finalizers }
 
 abbrev pub is_at : List ℕ → Option (List ℕ) → Bool
-is_at name found = option_map_or (is_name name) false found
+is_at name None = false
+is_at name (Some other) = is_name name other
 
 -- what the patch of a decision makes of finalizers: they stay where its test fails
 abbrev pub patched_by : List ℕ → Decision → List (List ℕ) → List (List ℕ) → List (List ℕ)
@@ -73,18 +74,18 @@ arrived name state (Some d) = if state.gone then state else state_of (patched_by
 -- the states of the object before each of the steps so far, and now; the decisions; of which decisions a Cleanup has started, of which one succeeded, and of which the patch was sent, each in order
 pub record Past : Type 0 where
   pub before : List LifeState
-  pub now : LifeState
+  pub current : LifeState
   pub decisions : List Decided
   pub started : List ℕ
   pub cleaned : List ℕ
   pub sent : List ℕ
 
 abbrev pub beginning : Past
-beginning = record { before = []; now = first_state; decisions = []; started = []; cleaned = []; sent = [] }
+beginning = record { before = []; current = first_state; decisions = []; started = []; cleaned = []; sent = [] }
 
 -- the state after so many steps
 abbrev pub state_at : Past → ℕ → Option LifeState
-state_at p n = slice_get (p.before ++ p.now ∷ []) n
+state_at p n = slice_get (p.before ++ p.current ∷ []) n
 
 abbrev pub decision_at : Past → ℕ → Option Decided
 decision_at p n = slice_get p.decisions n
@@ -95,14 +96,14 @@ decision_of p None = None
 decision_of p (Some d) = decision_at p d
 
 abbrev pub state_after : List ℕ → Past → LifeStep → LifeState
-state_after name p (Other finalizers) = state_of finalizers p.now.deleting
-state_after name p RequestDelete = state_of p.now.finalizers true
-state_after name p (Arrive n) = arrived name p.now (decision_of p (slice_get p.sent n))
-state_after name p (Decide sight) = p.now
-state_after name p (ApplyStarts d) = p.now
-state_after name p (CleanupStarts d) = p.now
-state_after name p (CleanupEnds d ok) = p.now
-state_after name p (Send d) = p.now
+state_after name p (Other finalizers) = state_of finalizers p.current.deleting
+state_after name p RequestDelete = state_of p.current.finalizers true
+state_after name p (Arrive n) = arrived name p.current (decision_of p (slice_get p.sent n))
+state_after name p (Decide sight) = p.current
+state_after name p (ApplyStarts d) = p.current
+state_after name p (CleanupStarts d) = p.current
+state_after name p (CleanupEnds d ok) = p.current
+state_after name p (Send d) = p.current
 
 abbrev pub with_decision : List ℕ → Option LifeState → List Decided → List Decided
 with_decision name None ds = ds
@@ -151,8 +152,8 @@ sent_by (Arrive n) = []
 
 abbrev pub after : List ℕ → Past → LifeStep → Past
 after name p step = record {
-  before = p.before ++ p.now ∷ [];
-  now = state_after name p step;
+  before = p.before ++ p.current ∷ [];
+  current = state_after name p step;
   decisions = decisions_after name p step;
   started = p.started ++ started_by step;
   cleaned = p.cleaned ++ cleaned_by step;
@@ -202,8 +203,8 @@ is_made p (Some d) = p d.decision
 
 -- another party leaves the name's entries as they are; a decision is on a state in which the object was there; a Cleanup ends that has started; a patch arrives that was sent, later, often or never
 abbrev pub may_follow : List ℕ → Past → LifeStep → Bool
-may_follow name p (Other finalizers) = not p.now.gone && count_of name finalizers == count_of name p.now.finalizers
-may_follow name p RequestDelete = not p.now.gone
+may_follow name p (Other finalizers) = not p.current.gone && count_of name finalizers == count_of name p.current.finalizers
+may_follow name p RequestDelete = not p.current.gone
 may_follow name p (Decide sight) = is_there (state_at p sight)
 may_follow name p (ApplyStarts d) = is_made applies (decision_at p d)
 may_follow name p (CleanupStarts d) = is_made cleans (decision_at p d)

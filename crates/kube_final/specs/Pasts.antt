@@ -12,7 +12,7 @@ decided_in d = record { decision = d.decision; seen = d.seen }
 abbrev pub past_in : KeptPast → Past
 past_in p = record {
   before = p.before.items;
-  now = p.now;
+  current = p.current;
   decisions = map decided_in p.decisions.items;
   started = p.started.items;
   cleaned = p.cleaned.items;

@@ -35,20 +35,20 @@ EndsAs says found false = IsPassed says found
 abbrev pub FirstEnd : {V : Type 0} → Says V → List (Found V) → Option (Found V) → List (Found V) → Type 0
 FirstEnd says [] (Some found) left = ⊥
 FirstEnd says [] None left = left ≡ []
-FirstEnd says (a ∷ as) (Some found) left = ((a ≡ found) × IsEnd says a × (as ≡ left)) ⊎ (IsPassed says a × FirstEnd says as (Some found) left)
-FirstEnd says (a ∷ as) None left = IsPassed says a × FirstEnd says as None left
+FirstEnd says (a ∷ ws) (Some found) left = ((a ≡ found) × IsEnd says a × (ws ≡ left)) ⊎ (IsPassed says a × FirstEnd says ws (Some found) left)
+FirstEnd says (a ∷ ws) None left = IsPassed says a × FirstEnd says ws None left
 
 -- what a wait answers after at most so many exchanges, where these answers wait already: what ends it, by the first exchange that tells of it; else that an exchange was not ready, or that so many were made
 abbrev pub Waited : {V : Type 0} → Says V → List (Found V) → ℕ → List (Look (Found V)) → Next (Found V) → List (Found V) → Type 0
-Waited says as fuel [] (Item found) left = FirstEnd says as (Some found) left
-Waited says as zero [] Spent left = FirstEnd says as None left
-Waited says as (suc n) [] Spent left = ⊥
-Waited says as fuel [] NotReady left = ⊥
-Waited says as fuel [] End left = ⊥
-Waited says as zero (l ∷ ls) answer left = ⊥
-Waited says as (suc n) (Tells b bs ∷ ls) answer left = FirstEnd says as None [] × Waited says (b ∷ bs) n ls answer left
-Waited says as (suc n) (Quiet ∷ ls) answer left = FirstEnd says as None [] × Waited says [] n ls answer left
-Waited says as (suc n) (Waits ∷ ls) answer left = FirstEnd says as None [] × (ls ≡ []) × (answer ≡ NotReady) × (left ≡ [])
+Waited says ws fuel [] (Item found) left = FirstEnd says ws (Some found) left
+Waited says ws zero [] Spent left = FirstEnd says ws None left
+Waited says ws (suc n) [] Spent left = ⊥
+Waited says ws fuel [] NotReady left = ⊥
+Waited says ws fuel [] End left = ⊥
+Waited says ws zero (l ∷ ls) answer left = ⊥
+Waited says ws (suc n) (Tells b bs ∷ ls) answer left = FirstEnd says ws None [] × Waited says (b ∷ bs) n ls answer left
+Waited says ws (suc n) (Quiet ∷ ls) answer left = FirstEnd says ws None [] × Waited says [] n ls answer left
+Waited says ws (suc n) (Waits ∷ ls) answer left = FirstEnd says ws None [] × (ls ≡ []) × (answer ≡ NotReady) × (left ≡ [])
 
 -- a poll of a wait: the exchanges that it made of the watch, and its answer by them
 pub record Awaited {A V : Type 0} (api : Api A V) (says : Says V) (now fuel : ℕ) (old : Observing A V) (answer : Next (Found V)) (new : Observing A V) : Type 0 where

@@ -1,6 +1,7 @@
 //! Conditions on an object (kube-runtime's `wait::conditions`).
 
-ghost use Rattle.std.specs.Prelude.{◌≡◌, true, false, not, find};
+ghost use Rattle.std.specs.Prelude.{◌≡◌, true, false, not, find, option_copied};
+ghost use Rattle.std.specs.List.{list_all};
 ghost use Rattle.std.specs.Str.{bytes_eq};
 ghost use Rattle.kube_final.specs.Conditions.{BothHold, OneHolds, has_address, has_true, has_uid, is_balanced, is_completed, is_deleted as deleted, is_deployed, is_established, is_ingress_provisioned as ingress_provisioned, is_provisioned, is_rolled_out, is_running, is_service_provisioned as service_provisioned, is_there, is_true, says_true};
 
@@ -25,11 +26,19 @@ fn says_true(condition: &StatusCondition) -> bool
     condition.status.as_str() == "True"
 }
 
+fn first_of<'a>(conditions: &'a [StatusCondition], kind: &str) -> Option<&'a StatusCondition>
+    ensures { option_copied result ≡ find (λ c. bytes_eq c.type_ kind.now) conditions.now }
+{
+    conditions
+        .iter()
+        .find(|condition| condition.type_.as_str() == kind)
+}
+
 /// Whether the first condition of a type has the status `True`.
 fn is_true(conditions: &[StatusCondition], kind: &str) -> bool
     ensures { result ≡ is_true kind.now conditions.now }
 {
-    match conditions.iter().find(|condition| condition.type_.as_str() == kind) {
+    match first_of(conditions, kind) {
         Some(condition) => says_true(condition),
         None => false,
     }
@@ -54,11 +63,19 @@ fn is_rolled_out(condition: &StatusCondition) -> bool
         && is_text(&condition.reason, "NewReplicaSetAvailable")
 }
 
+fn first_rolled_out(conditions: &[StatusCondition]) -> Option<&StatusCondition>
+    ensures { option_copied result ≡ find is_rolled_out conditions.now }
+{
+    conditions
+        .iter()
+        .find(|condition| is_rolled_out(condition))
+}
+
 /// Whether the first condition of a new replica set has the status `True`.
 fn is_deployed(conditions: &[StatusCondition]) -> bool
     ensures { result ≡ is_there says_true (find is_rolled_out conditions.now) }
 {
-    match conditions.iter().find(|condition| is_rolled_out(condition)) {
+    match first_rolled_out(conditions) {
         Some(condition) => says_true(condition),
         None => false,
     }
@@ -68,6 +85,12 @@ fn has_address(ingress: &LoadBalancerIngress) -> bool
     ensures { result ≡ has_address ingress.now }
 {
     ingress.ip.is_some() || ingress.hostname.is_some()
+}
+
+fn have_addresses(entries: &[LoadBalancerIngress]) -> bool
+    ensures { result ≡ list_all has_address entries.now }
+{
+    entries.iter().all(|entry| has_address(entry))
 }
 
 fn is_provisioned(status: &Option<ExposedStatus>) -> bool
@@ -80,7 +103,7 @@ fn is_provisioned(status: &Option<ExposedStatus>) -> bool
         return false;
     };
     match &balancer.ingress {
-        Some(ingress) => ingress.as_slice().iter().all(|entry| has_address(entry)),
+        Some(ingress) => have_addresses(ingress.as_slice()),
         None => false,
     }
 }

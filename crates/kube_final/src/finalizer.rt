@@ -87,11 +87,17 @@ pub(crate) fn decided(named: bool, deleting: bool, index: Option<u64>, names: &[
     }
 }
 
+fn place_of(names: &[Text], name: &str) -> Option<usize>
+    ensures { result ≡ place_of name.now names.now }
+{
+    names.iter().position(|other| other.as_str() == name)
+}
+
 /// The first place of a name.
 pub(crate) fn index_of(names: &[Text], name: &str) -> Option<u64>
     ensures { result ≡ place_of name.now names.now }
 {
-    match names.iter().position(|other| other.as_str() == name) {
+    match place_of(names, name) {
         Some(index) => Some(index as u64),
         None => None,
     }
@@ -132,7 +138,7 @@ enum Step<E> {
 }
 
 /// By the decision, the action of an earlier branch, and the branch that is given now.
-fn step<E: Drop>(
+fn next_step<E: Drop>(
     decision: Decision,
     outcome: Option<Action>,
     branch: Option<Result<Action, E>>,
@@ -306,7 +312,7 @@ impl<K: Resource> Finalizer<K> {
         }
         let decision = self.decide();
         let outcome = self.outcome;
-        match step(decision, outcome, branch) {
+        match next_step(decision, outcome, branch) {
             Step::Ends(answer) => {
                 self.over = true;
                 Ok(Polled::Ready(answer))

@@ -34,8 +34,8 @@ pub fn valid(alloc: Global, life: &[LifeStep], name: &str) -> Result<bool, NoMem
 pub fn guarded(life: &[LifeStep], name: &str)
     requires count { length life.now < 2 ^ 32 }
     requires valid { is_life name.now life.now ≡ true }
-    ensures cleaned { (n : ℕ) → n ≤ length life.now → list_any starts_apply life.now ≡ true → (past_of name.now (take n life.now)).now.gone ≡ true
+    ensures cleaned { (n : ℕ) → n ≤ length life.now → list_any starts_apply life.now ≡ true → (past_of name.now (take n life.now)).current.gone ≡ true
         → list_any ends_cleanup (take n life.now) ≡ true }
     ensures others { (front back : List Step) (send : ℕ) → life.now ≡ front ++ Arrive send ∷ back
-        → others_in name.now (past_of name.now (front ++ Arrive send ∷ [])).now.finalizers ≡ others_in name.now (past_of name.now front).now.finalizers }
+        → others_in name.now (past_of name.now (front ++ Arrive send ∷ [])).current.finalizers ≡ others_in name.now (past_of name.now front).current.finalizers }
 {}

@@ -47,7 +47,7 @@ pub(crate) struct Decided {
 #[derive(Debug, Drop)]
 pub(crate) struct Past {
     before: Vec<LifeState>,
-    now: LifeState,
+    current: LifeState,
     decisions: Vec<Decided>,
     started: Vec<u32>,
     cleaned: Vec<u32>,
@@ -99,6 +99,16 @@ fn same_names(seen: &[Text], names: &[Text]) -> bool
     seen == names
 }
 
+/// Whether the name is there.
+fn is_at(name: &str, at: usize, names: &[Text]) -> bool
+    ensures { result ≡ is_at name.now (slice_get names.now at) }
+{
+    match names.get(at) {
+        Some(other) => other.as_str() == name,
+        None => false,
+    }
+}
+
 /// Without the one at a place, if the name is there.
 fn without(
     alloc: Global,
@@ -108,13 +118,12 @@ fn without(
 ) -> Result<List<Text>, NoMemory>
     ensures { IfOk result (λ l. l ≡ patched_by name.now (Decision.Cleanup index) [] names.now) }
 {
-    let mut left = List::new(alloc);
-    for at in 0..names.len() {
-        if at as u64 != index || names[at].as_str() != name {
-            left.push(names[at].copy(alloc)?)?;
-        }
+    let mut left = Vec::from(copy_texts(alloc, names)?);
+    let at = index as usize;
+    if is_at(name, at, names) {
+        left.remove(at);
     }
-    Ok(left)
+    Ok(List::from(left))
 }
 
 /// What the patch of a decision makes of finalizers.
@@ -151,7 +160,7 @@ fn arrived(
     state: &LifeState,
     made: Option<&Decided>,
 ) -> Result<LifeState, NoMemory>
-    ensures { IfOk result (λ s. s ≡ arrived_in name.now state.now (option_map decided_in (option_copied made))) }
+    ensures { IfOk result (λ s. s ≡ arrived_in name.now state.now (option_map decided_in (option_copied made.entry))) }
 {
     match made {
         Some(made) if !state.gone => {
@@ -197,7 +206,7 @@ impl Past {
     {
         Past {
             before: Vec::new(alloc),
-            now: state_of(List::new(alloc), false),
+            current: state_of(List::new(alloc), false),
             decisions: Vec::new(alloc),
             started: Vec::new(alloc),
             cleaned: Vec::new(alloc),
@@ -209,7 +218,7 @@ impl Past {
         ensures { option_copied result ≡ state_at (past_in self.now) number }
     {
         if number as usize == self.before.len() {
-            return Some(&self.now);
+            return Some(&self.current);
         }
         self.before.get(number as usize)
     }
@@ -226,11 +235,11 @@ impl Past {
     {
         match step {
             LifeStep::Other { finalizers } => {
-                !self.now.gone
+                !self.current.gone
                     && count_of(name, finalizers.as_slice())
-                        == count_of(name, self.now.finalizers.as_slice())
+                        == count_of(name, self.current.finalizers.as_slice())
             }
-            LifeStep::RequestDelete => !self.now.gone,
+            LifeStep::RequestDelete => !self.current.gone,
             LifeStep::Decide { sight } => match self.state_at(*sight) {
                 Some(state) => !state.gone,
                 None => false,
@@ -269,10 +278,10 @@ impl Past {
         match step {
             LifeStep::Other { finalizers } => {
                 let names = copy_texts(alloc, finalizers.as_slice())?;
-                Ok(state_of(names, self.now.deleting))
+                Ok(state_of(names, self.current.deleting))
             }
             LifeStep::RequestDelete => {
-                let names = copy_texts(alloc, self.now.finalizers.as_slice())?;
+                let names = copy_texts(alloc, self.current.finalizers.as_slice())?;
                 Ok(state_of(names, true))
             }
             LifeStep::Arrive { send } => {
@@ -280,9 +289,9 @@ impl Past {
                     Some(decision) => self.decision_at(*decision),
                     None => None,
                 };
-                arrived(alloc, name, &self.now, made)
+                arrived(alloc, name, &self.current, made)
             }
-            _ => copy_state(alloc, &self.now),
+            _ => copy_state(alloc, &self.current),
         }
     }
 
@@ -314,7 +323,7 @@ impl Past {
     {
         let next = self.state_after(alloc, name, step)?;
         self.note(alloc, name, step)?;
-        let before = std::mem::replace(&mut self.now, next);
+        let before = std::mem::replace(&mut self.current, next);
         self.before.push(before)?;
         Ok(())
     }

@@ -101,14 +101,12 @@ fn ends<K: Drop, C: Condition<K>>(
     requires may { (object : Option K) → C.may condition.now object }
     ensures { EndsAs (C.says condition.now) (found_of answer.now) result }
 {
-    match answer {
-        Ok(Some(object)) => {
-            let object: &K = object;
-            condition.matches_object(Some(object))
-        }
-        Ok(None) => condition.matches_object(None),
-        Err(_) => true,
-    }
+    let seen: Option<&K> = match answer {
+        Ok(Some(object)) => Some(&**object),
+        Ok(None) => None,
+        Err(_) => return true,
+    };
+    condition.matches_object(seen)
 }
 
 /// An answer of the watch as one of the wait.

@@ -1,0 +1,3 @@
+pub mod Finalizers
+pub mod Lives
+pub mod Pasts

@@ -1,0 +1,7 @@
+//! Lives.
+#![tactic(auto)]
+
+mod copies;
+pub mod finalizer;
+pub mod laws;
+mod life;
