@@ -55,7 +55,7 @@ pub record IsAwaited {A W : Type 0} (api : Api A W) (meta_of : W → ObjectMeta)
   pub found : Next (Found W)
   pub awaited : Awaited api (λ object says. says ≡ is_deleted meta_of uid object) now fuel old.watch found new.watch
   pub ends : ended found ≡ answer
-  pub uid : new.uid ≡ Some uid
+  pub keeps : new.uid ≡ Some uid
 
 -- what a poll does once the deletion has come to this: only a uid is waited for, and else the watch stays as it is
 abbrev pub IsFollowed : {A W : Type 0} → Api A W → (W → ObjectMeta) → ℕ → ℕ → Deletion → Deleting A W → Next (Result (Unit {0}) Error) → Deleting A W → Type 0

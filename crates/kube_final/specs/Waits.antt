@@ -9,7 +9,7 @@ use Rattle.kube_model.specs.declared.error.Error.{Error as WatcherError}
 use Rattle.kube_model.specs.History.{Dated, Exchange}
 use Rattle.kube_watch.specs.Stands.{StandsFor, exchanges_in, settings_in}
 use Rattle.kube_watch.specs.Polls.{Api, Exchanged, Look, Tells, Waits, Quiet}
-use Rattle.kube_watch.specs.Objects.{Found, Observing, answers_in, held_through, is_held, object_looks}
+use Rattle.kube_watch.specs.Objects.{Found, Observing, answers_in, found_of, held_through, is_held, object_looks}
 use Rattle.kube_final.specs.declared.wait.Error.{Error}
 use Rattle.kube_final.specs.declared.wait.Error.TheVariants.{ProbeFailed}
 
@@ -58,11 +58,48 @@ pub record Awaited {A V : Type 0} (api : Api A V) (says : Says V) (now fuel : �
       → Waited says (answers_in old) fuel (object_looks (settings_in old.watcher) (is_held old) (exchanges_in ds) exchanges) answer (answers_in new)
   pub held : (ds : List (Dated V)) → StandsFor ds old.watcher → is_held new ≡ held_through (settings_in old.watcher) (is_held old) (exchanges_in ds) exchanges
 
+-- the first of the answers that waited, or nothing waited
+abbrev pub FirstOf : {V : Type 0} → List (Found V) → Option (Found V) → List (Found V) → Type 0
+FirstOf ws (Some found) left = ws ≡ found ∷ left
+FirstOf ws None left = (ws ≡ []) × (left ≡ [])
+
+-- no exchange was made: the first of the answers that waited was taken, or nothing waits
+pub record IsFirstTaken {A V : Type 0} (old : Observing A V) (found : Option (Found V)) (new : Observing A V) : Type 0 where
+  pub api : new.watcher.api ≡ old.watcher.api
+  pub config : new.watcher.config ≡ old.watcher.config
+  pub stands : (ds : List (Dated V)) → StandsFor ds old.watcher → StandsFor ds new.watcher
+  pub held : (ds : List (Dated V)) → StandsFor ds old.watcher → is_held new ≡ is_held old
+  pub first : (ds : List (Dated V)) → StandsFor ds old.watcher → FirstOf (answers_in old) found (answers_in new)
+
+-- no exchange was made: of the answers that waited, in order, the first that ends the wait was taken, with those before it, or all were taken and none ends it
+pub record IsTaken {A V : Type 0} (says : Says V) (old : Observing A V) (found : Option (Found V)) (new : Observing A V) : Type 0 where
+  pub api : new.watcher.api ≡ old.watcher.api
+  pub config : new.watcher.config ≡ old.watcher.config
+  pub stands : (ds : List (Dated V)) → StandsFor ds old.watcher → StandsFor ds new.watcher
+  pub held : (ds : List (Dated V)) → StandsFor ds old.watcher → is_held new ≡ is_held old
+  pub first : (ds : List (Dated V)) → StandsFor ds old.watcher → FirstEnd says (answers_in old) found (answers_in new)
+
+-- one exchange was made, where nothing waited
+pub record IsAskedOnce {A V : Type 0} (api : Api A V) (says : Says V) (now : ℕ) (old : Observing A V) (answer : Next (Found V)) (new : Observing A V) : Type 0 where
+  pub exchanges : List (Exchange V)
+  pub exchanged : Exchanged api now old.watcher exchanges new.watcher
+  pub answered : (ds : List (Dated V)) → StandsFor ds old.watcher → answers_in old ≡ []
+      → Waited says [] 1 (object_looks (settings_in old.watcher) (is_held old) (exchanges_in ds) exchanges) answer (answers_in new)
+  pub held : (ds : List (Dated V)) → StandsFor ds old.watcher → is_held new ≡ held_through (settings_in old.watcher) (is_held old) (exchanges_in ds) exchanges
+
 -- the answer of the wait by that of the watch: an error is one of the wait
 abbrev pub probed : {V : Type 0} → Result (Option (Arc V Global)) Error → Found V
 probed (Ok (Some object)) = Ok (Some (arc_value object))
 probed (Ok None) = Ok None
 probed (Err (ProbeFailed error)) = Err error
+
+abbrev pub maybe_probed : {V : Type 0} → Option (Result (Option (Arc V Global)) Error) → Option (Found V)
+maybe_probed None = None
+maybe_probed (Some answer) = Some (probed answer)
+
+abbrev pub maybe_found : {V : Type 0} → Option (Result (Option (Arc V Global)) WatcherError) → Option (Found V)
+maybe_found None = None
+maybe_found (Some answer) = Some (found_of answer)
 
 abbrev pub next_probed : {V : Type 0} → Next (Result (Option (Arc V Global)) Error) → Next (Found V)
 next_probed (Item answer) = Item (probed answer)

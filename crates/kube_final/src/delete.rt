@@ -137,6 +137,10 @@ impl<A: ApiMode> Model for DeleteAndFinalize<A> {
     ghost Value = { Deleting A A.Value };
 
     ghost view = { λ d. record { name = d.name; watch = d.watch; uid = d.uid; is_over = d.over; is_spent = d.spent } };
+
+    ghost use Rattle.kube_final.specs.Waiting.{IsLive};
+
+    ghost invariant = { λ d. ∥ IsLive d.watch ∥₁ };
 }
 
 impl<A: ApiMode> DeleteAndFinalize<A> {

@@ -1,12 +1,11 @@
 //! Waiting for an object until a condition holds (kube-runtime's `wait`).
 
-ghost use Rattle.std.specs.Prelude.{◌≡◌, ◌≤◌, true, false, Option, Bool, IfOk, OnErr, IsErr, if◌then◌else◌};
+ghost use Rattle.std.specs.Prelude.{◌≡◌, ◌≤◌, true, false, Option, Bool, IfOk, OnOk, OnErr, IsErr};
 ghost use Rattle.kube_watch.specs.Calls.{version_of};
-ghost use Rattle.kube_watch.specs.Polls.{Lost};
-ghost use Rattle.kube_watch.specs.Objects.{IsOpened, Observing, found_of, next_found};
+ghost use Rattle.kube_watch.specs.Objects.{IsOpened, found_of};
 ghost use Rattle.kube_watch.specs.Stands.{is_spent};
-ghost use Rattle.kube_final.specs.Waits.{Awaited, EndsAs, FirstEnd, is_item, next_probed, probed};
-ghost use Rattle.kube_final.specs.Waiting.{Awaiting, Stands};
+ghost use Rattle.kube_final.specs.Waits.{Awaited, EndsAs, IsAskedOnce, IsFirstTaken, IsTaken, is_item, maybe_found, maybe_probed, next_probed, probed};
+ghost use Rattle.kube_final.specs.Waiting.{IsLive};
 
 use crate::conditions::{And, Not, Or};
 use kube_api::ApiMode;
@@ -38,7 +37,7 @@ pub trait Condition<K>: Drop {
 
     /// Whether it holds of an object, or where there is none.
     fn matches_object(&self, obj: Option<&K>) -> bool
-        requires may { may self.now (option_copied obj.entry) }
+        requires may { may self.now (option_copied obj) }
         ensures says { says self.now (option_copied obj.entry) result };
 
     /// Holds exactly where this one doesn't.
@@ -121,7 +120,28 @@ fn probed<K: Drop>(
     }
 }
 
-/// Takes the first of the answers that wait that ends the wait.
+/// Takes the first of the answers that wait.
+///
+/// Errors: `NoMemory`, and the watch is spent.
+fn take_next<A: ApiMode>(
+    watch: &mut WatchObject<A>,
+    alloc: Global,
+    now: Moment,
+) -> Result<Option<Result<Option<Arc<A::Value>>, WatcherError>>, NoMemory>
+    requires live { ∥ IsLive watch.old ∥₁ }
+    ensures taken { IfOk result (λ a. IsFirstTaken watch.old (maybe_found a) watch.new) }
+    ensures live { ∥ IsLive watch.new ∥₁ }
+    ensures err { OnErr result (is_spent watch.new.watcher ≡ true) }
+    ensures unspent { OnOk result (is_spent watch.old.watcher ≡ false) }
+    ensures spent { is_spent watch.old.watcher ≡ true → watch.new ≡ watch.old }
+{
+    match watch.poll_next(alloc, now, 0)? {
+        Next::Item(answer) => Ok(Some(answer)),
+        Next::NotReady | Next::Spent | Next::End => Ok(None),
+    }
+}
+
+/// Takes the first of the answers that wait that ends the wait, with those before it.
 ///
 /// Errors: `NoMemory`, and the watch is spent.
 fn take_end<A: ApiMode, C: Condition<A::Value>>(
@@ -131,8 +151,14 @@ fn take_end<A: ApiMode, C: Condition<A::Value>>(
     now: Moment,
 ) -> Result<Option<Result<Option<Arc<A::Value>>, Error>>, NoMemory>
     requires may { (object : Option A.Value) → C.may condition.now object }
+    requires live { ∥ IsLive watch.old ∥₁ }
+    ensures taken { IfOk result (λ a. IsTaken (C.says condition.now) watch.old (maybe_probed a) watch.new) }
+    ensures live { ∥ IsLive watch.new ∥₁ }
+    ensures err { OnErr result (is_spent watch.new.watcher ≡ true) }
+    ensures unspent { OnOk result (is_spent watch.old.watcher ≡ false) }
+    ensures spent { is_spent watch.old.watcher ≡ true → watch.new ≡ watch.old }
 {
-    while let Next::Item(answer) = watch.poll_next(alloc, now, 0)? {
+    while let Some(answer) = take_next(watch, alloc, now)? {
         if ends(condition, &answer) {
             return Ok(Some(probed(answer)));
         }
@@ -140,7 +166,7 @@ fn take_end<A: ApiMode, C: Condition<A::Value>>(
     Ok(None)
 }
 
-/// Makes one exchange, and takes the first of its answers that ends the wait; `Spent` where none does.
+/// Makes one exchange, and takes the first of its answers that ends the wait, with those before it; `Spent` where none does.
 ///
 /// Errors: `NoMemory`, and the watch is spent.
 fn ask_end<A: ApiMode, C: Condition<A::Value>>(
@@ -150,6 +176,10 @@ fn ask_end<A: ApiMode, C: Condition<A::Value>>(
     now: Moment,
 ) -> Result<Next<Result<Option<Arc<A::Value>>, Error>>, NoMemory>
     requires may { (object : Option A.Value) → C.may condition.now object }
+    requires live { ∥ IsLive watch.old ∥₁ }
+    ensures asked { IfOk result (λ a. IsAskedOnce (record { moves = A.moves; talk = A.talk; faults = A.faults; version = version_of A.Value.meta_of }) (C.says condition.now) now.0 watch.old (next_probed a) watch.new) }
+    ensures live { ∥ IsLive watch.new ∥₁ }
+    ensures err { OnErr result (is_spent watch.new.watcher ≡ true) }
 {
     match watch.poll_next(alloc, now, 1)? {
         Next::Item(answer) => {
@@ -158,7 +188,8 @@ fn ask_end<A: ApiMode, C: Condition<A::Value>>(
             }
         }
         Next::NotReady => return Ok(Next::NotReady),
-        Next::Spent | Next::End => return Ok(Next::Spent),
+        Next::Spent => return Ok(Next::Spent),
+        Next::End => return Ok(Next::End),
     }
     match take_end(watch, condition, alloc, now)? {
         Some(answer) => Ok(Next::Item(answer)),
@@ -177,9 +208,12 @@ pub(crate) fn poll_end<A: ApiMode, C: Condition<A::Value>>(
     fuel: u32,
 ) -> Result<Next<Result<Option<Arc<A::Value>>, Error>>, NoMemory>
     requires may { (object : Option A.Value) → C.may condition.now object }
+    requires live { ∥ IsLive watch.old ∥₁ }
     ensures awaited { IfOk result (λ a. Awaited (record { moves = A.moves; talk = A.talk; faults = A.faults; version = version_of A.Value.meta_of }) (C.says condition.now) now.0 fuel watch.old (next_probed a) watch.new) }
+    ensures live { ∥ IsLive watch.new ∥₁ }
     ensures err { OnErr result (is_spent watch.new.watcher ≡ true) }
-    ensures spent { is_spent watch.old.watcher ≡ true → IsErr result × (watch.new ≡ watch.old) }
+    ensures unspent { OnOk result (is_spent watch.old.watcher ≡ false) }
+    ensures spent { is_spent watch.old.watcher ≡ true → watch.new ≡ watch.old }
 {
     if let Some(answer) = take_end(watch, condition, alloc, now)? {
         return Ok(Next::Item(answer));
@@ -207,6 +241,10 @@ impl<A: ApiMode, C> Model for AwaitCondition<A, C> {
     ghost Value = { Awaiting A A.Value C };
 
     ghost view = { λ w. record { watch = w.watch; condition = w.condition; is_over = w.over } };
+
+    ghost use Rattle.kube_final.specs.Waiting.{IsLive};
+
+    ghost invariant = { λ w. ∥ IsLive w.watch ∥₁ };
 }
 
 impl<A: ApiMode, C: Condition<A::Value>> AwaitCondition<A, C> {
