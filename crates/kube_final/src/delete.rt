@@ -1,6 +1,6 @@
 //! Deleting an object, and waiting until it is gone (kube-runtime's `wait::delete`).
 
-ghost use Rattle.std.specs.Prelude.{◌≡◌, ◌≤◌, true, false, Some, None, [], IfOk, OnOk, OnErr, IsErr, unwrap_or};
+ghost use Rattle.std.specs.Prelude.{◌≡◌, ◌≤◌, true, false, Some, None, IfOk, OnOk, OnErr, IsErr};
 ghost use Rattle.std.specs.Arc.{arc_value};
 ghost use Rattle.kube_api.specs.ObjectTalk.{delete_answer};
 ghost use Rattle.kube_watch.specs.Calls.{version_of};
@@ -192,37 +192,43 @@ impl<A: ApiMode> DeleteAndFinalize<A> {
             return Err(NoMemory);
         }
         self.spent = true;
-        if self.uid.is_none() {
-            match ask(objects, alloc, &self.name, now)? {
-                Deletion::Told(uid) => self.uid = Some(uid),
-                Deletion::Later => {
-                    self.spent = false;
-                    return Ok(Next::NotReady);
-                }
-                Deletion::Failed(error) => {
-                    self.spent = false;
-                    self.over = true;
-                    return Ok(Next::Item(Err(error)));
-                }
+        if let Some(uid) = self.uid.take() {
+            return self.wait(alloc, uid, now, fuel);
+        }
+        match ask(objects, alloc, &self.name, now)? {
+            Deletion::Told(uid) => self.wait(alloc, uid, now, fuel),
+            Deletion::Later => {
+                self.spent = false;
+                Ok(Next::NotReady)
+            }
+            Deletion::Failed(error) => {
+                self.spent = false;
+                self.over = true;
+                Ok(Next::Item(Err(error)))
             }
         }
-        let answer = self.wait(alloc, now, fuel)?;
+    }
+
+    // Waits until the object of a uid is gone.
+    fn wait(
+        &mut self,
+        alloc: Global,
+        uid: Text,
+        now: Moment,
+        fuel: u32,
+    ) -> Result<Next<Result<(), Error>>, NoMemory>
+        ensures awaited { IfOk result (λ a. IsAwaited (record { moves = A.moves; talk = A.talk; faults = A.faults; version = version_of A.Value.meta_of }) A.Value.meta_of
+            uid now.0 fuel self.old a self.new) }
+        ensures over { IfOk result (λ a. self.new.is_over ≡ is_item a) }
+        ensures name { self.new.name ≡ self.old.name }
+        ensures unspent { OnOk result (self.new.is_spent ≡ false) }
+        ensures err { OnErr result (self.new ≡ record self.old { watch = self.new.watch }) }
+    {
+        let answer = poll_end(&mut self.watch, &is_deleted(uid.as_str()), alloc, now, fuel)?;
+        let answer = ended(answer);
+        self.uid = Some(uid);
         self.spent = false;
         self.over = is_item(&answer);
         Ok(answer)
-    }
-
-    // Waits until the object of the uid is gone.
-    fn wait(&mut self, alloc: Global, now: Moment, fuel: u32) -> Result<Next<Result<(), Error>>, NoMemory>
-        ensures awaited { IfOk result (λ a. IsAwaited (record { moves = A.moves; talk = A.talk; faults = A.faults; version = version_of A.Value.meta_of }) A.Value.meta_of
-            (unwrap_or self.old.uid []) now.0 fuel self.old a self.new) }
-        ensures stays { self.new ≡ record self.old { watch = self.new.watch } }
-    {
-        let uid = match &self.uid {
-            Some(uid) => uid.as_str(),
-            None => "",
-        };
-        let answer = poll_end(&mut self.watch, &is_deleted(uid), alloc, now, fuel)?;
-        Ok(ended(answer))
     }
 }
