@@ -1,7 +1,7 @@
 -- What holds after each step of a life, and what follows for a life.
-use Rattle.std.proofs.Common.{◌≡◌, ◌⊎◌, inl, inr, ℕ, zero, suc, ◌+◌, ◌<◌, ◌≤◌, ◌==◌, Bool, true, false, not, cond, ◌&&◌, ◌||◌, List, [], ◌∷◌, ◌++◌, length, take, drop, Option, Some, None, slice_get, refl, sym, ap, subst, ◌∙◌, arith, append-nil}
-use Rattle.std.specs.Prelude.{filter, fold, remove}
-use Rattle.std.specs.List.{count_by, list_any, position_from}
+use Rattle.std.proofs.Common.{◌≡◌, ◌⊎◌, inl, inr, ℕ, zero, suc, ◌+◌, ◌<◌, ◌==◌, Bool, true, false, not, cond, ◌&&◌, ◌||◌, List, [], ◌∷◌, ◌++◌, take, drop, Option, Some, None, slice_get, refl, sym, ap, subst, ◌∙◌, arith, append-nil}
+use Rattle.std.specs.Prelude.{fold, remove}
+use Rattle.std.specs.List.{list_any, position_from}
 use Rattle.std.specs.Str.{bytes_eq}
 use Rattle.std.proofs.lemmas.Bool.{eqb-true}
 use Rattle.std.proofs.Math.Bool.{or-false, or_assoc}
@@ -16,7 +16,7 @@ use Rattle.kube_final.specs.declared.life.LifeStep.{LifeStep}
 use Rattle.kube_final.specs.declared.life.LifeStep.TheVariants.{Other, RequestDelete, Decide, ApplyStarts, CleanupStarts, CleanupEnds, Send, Arrive}
 use Rattle.kube_final.specs.declared.life.LifeState.{LifeState}
 use Rattle.kube_final.specs.Finalizers.{decided, place_of}
-use Rattle.kube_final.specs.Lives.{Decided, Past, after, applies, arrived, beginning, cleaned_by, cleans, count_of, decided_on, decision_at, decision_of, decisions_after, ends_cleanup, is_among, is_at, is_empty, is_life, is_life_from, is_made, is_name, is_there, may_follow, may_send, others_in, past_of, patched_by, same_names, sent_by, starts_apply, state_after, state_at, state_of, with_decision}
+use Rattle.kube_final.specs.Lives.{Decided, Past, after, applies, arrived, beginning, cleaned_by, cleans, count_of, decided_on, decision_at, decision_of, decisions_after, ends_cleanup, is_among, is_at, is_empty, is_life, is_life_from, is_made, is_name, may_follow, may_send, others_in, past_of, patched_by, same_names, sent_by, starts_apply, state_after, state_at, state_of, with_decision}
 
 -- ---- truth values, lists
 
@@ -261,8 +261,10 @@ sent_before p k m e = let P : List ℕ → Type 0 = λ ns. slice_get ns k ≡ So
 
 sent_after : (name : List ℕ) (a : Bool) (p : Past) (step : LifeStep) → IsSound name a p → may_follow name p step ≡ true → (k m : ℕ) → slice_get (p.sent ++ sent_by step) k ≡ Some m → IsSentWell p m
 sent_after name a p (Send d) s h k m e =
-    elim (slice_get-last p.sent d k m e) [ inl old ↦ s.sent k m old
-      | inr new ↦ let P : ℕ → Type 0 = λ n. IsSentWell p n in subst P (sym new) (sent_well_new p d (decision_at p d) refl h) ]
+    elim (slice_get-last p.sent d k m e) [
+      | inl old ↦ s.sent k m old
+      | inr new ↦ let P : ℕ → Type 0 = λ n. IsSentWell p n in subst P (sym new) (sent_well_new p d (decision_at p d) refl h)
+    ]
 sent_after name a p (Other finalizers) s h k m e = s.sent k m (sent_before p k m e)
 sent_after name a p RequestDelete s h k m e = s.sent k m (sent_before p k m e)
 sent_after name a p (Decide sight) s h k m e = s.sent k m (sent_before p k m e)
@@ -290,16 +292,19 @@ sound_after : (name : List ℕ) (a : Bool) (p : Past) (step : LifeStep) → IsSo
 sound_after name a p step s h = record {
   shape = shape_after name p step s.shape;
   seen = λ k t e c. elim (slice_get-last (p.before ++ p.current ∷ []) (state_after name p step) k t e) [
-      inl old ↦ kept_after name a p step s h (s.seen k t old c)
-    | inr new ↦ (λ _. let P : LifeState → Type 0 = λ u. 0 < count_of name u.finalizers in subst P new c) ];
+    | inl old ↦ kept_after name a p step s h (s.seen k t old c)
+    | inr new ↦ (λ _. let P : LifeState → Type 0 = λ u. 0 < count_of name u.finalizers in subst P new c)
+  ];
   made = λ k d e c. elim (decisions_cases name p step k d e) [
-      inl old ↦ kept_after name a p step s h (s.made k d old c)
+    | inl old ↦ kept_after name a p step s h (s.made k d old c)
     | inr new ↦ let P : Decided → Type 0 = λ x. applies x.decision ≡ true in
-        kept_after name a p step s h (s.seen new.0 new.1 new.2 (decided_counts name new.1 (subst P new.3 c))) ];
+        kept_after name a p step s h (s.seen new.0 new.1 new.2 (decided_counts name new.1 (subst P new.3 c)))
+  ];
   sent = λ k m e. sent_well_after name p step m (sent_after name a p step s h k m e);
   applied_kept = λ e. elim (or_cases a (starts_apply step) e) [
-      inl old ↦ kept_after name a p step s h (s.applied_kept old)
-    | inr new ↦ kept_after name a p step s h (starts_kept name a p step s h new) ];
+    | inl old ↦ kept_after name a p step s h (s.applied_kept old)
+    | inr new ↦ kept_after name a p step s h (starts_kept name a p step s h new)
+  ];
 }
 
 first_seen : (name : List ℕ) (k : ℕ) (s : LifeState) → state_at beginning k ≡ Some s → 0 < count_of name s.finalizers → Kept name beginning
@@ -357,11 +362,13 @@ barren_after name p step b m =
       gone = let P : LifeState → Type 0 = λ s. s.gone ≡ true in subst P (sym same) b.gone;
       bare = bare;
       states = λ k s e c. elim (slice_get-last (p.before ++ p.current ∷ []) (state_after name p step) k s e) [
-          inl old ↦ b.states k s old c
-        | inr new ↦ bare (let P : LifeState → Type 0 = λ u. 0 < count_of name u.finalizers in subst P new c) ];
+        | inl old ↦ b.states k s old c
+        | inr new ↦ bare (let P : LifeState → Type 0 = λ u. 0 < count_of name u.finalizers in subst P new c)
+      ];
       made = λ k d e c. elim (decisions_cases name p step k d e) [
-          inl old ↦ b.made k d old c
-        | inr new ↦ let P : Decided → Type 0 = λ x. applies x.decision ≡ true in b.states new.0 new.1 new.2 (decided_counts name new.1 (subst P new.3 c)) ];
+        | inl old ↦ b.made k d old c
+        | inr new ↦ let P : Decided → Type 0 = λ x. applies x.decision ≡ true in b.states new.0 new.1 new.2 (decided_counts name new.1 (subst P new.3 c))
+      ];
     }
 
 barren_starts : (name : List ℕ) (p : Past) (step : LifeStep) → IsBarren name p → may_follow name p step ≡ true → starts_apply step ≡ false
@@ -418,8 +425,9 @@ none_gone name front back v a g c =
       made = λ k d e h. bare (s.made k d e h nil);
     } in
     elim (or_cases (list_any starts_apply front) (list_any starts_apply back) (sym (list_any-append starts_apply front back) ∙ a)) [
-        inl early ↦ bare (s.applied_kept early nil)
-      | inr late ↦ let never : list_any starts_apply back ≡ false = barren_run name p back barren (life_rest name beginning front back v) in cc ]
+      | inl early ↦ bare (s.applied_kept early nil)
+      | inr late ↦ let never : list_any starts_apply back ≡ false = barren_run name p back barren (life_rest name beginning front back v) in cc
+    ]
 
 cleaned_or_not : (b : Bool) → (b ≡ false → ⊥) → b ≡ true
 cleaned_or_not true h = refl

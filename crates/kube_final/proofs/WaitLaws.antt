@@ -1,5 +1,5 @@
 -- Waits, by the exchanges of their watch.
-use Rattle.std.proofs.Common.{◌≡◌, ◌⊎◌, inl, inr, ℕ, zero, suc, ◌+◌, ◌<◌, ◌≤◌, Bool, true, false, List, [], ◌∷◌, ◌++◌, map, length, Option, Some, None, Result, Ok, Err, Global, refl, sym, ap, subst, ◌∙◌, arith, append-nil, append_assoc}
+use Rattle.std.proofs.Common.{◌≡◌, ◌⊎◌, inl, inr, ℕ, zero, suc, ◌+◌, ◌≤◌, Bool, true, false, List, [], ◌∷◌, ◌++◌, map, length, Option, Some, None, Result, Global, refl, sym, ap, subst, ◌∙◌, arith, append-nil, append_assoc}
 use Rattle.std.proofs.Math.Logic.{∥∥₁_elim, ∥∥₁_map}
 use Rattle.std.specs.declared.sync.Arc.{Arc}
 use Rattle.kube_model.specs.declared.error.Error.{Error as WatcherError}
@@ -14,7 +14,7 @@ use Rattle.kube_watch.specs.Objects.{Found, Observing, PolledObject, answers_in,
 use Rattle.std.proofs.Math.Bridge.{le_prop}
 use Rattle.std.specs.Coded.{Coded-set, coded_ℕ}
 use Rattle.kube_final.specs.Waiting.{IsLive, Stands}
-use Rattle.kube_final.specs.Waits.{Awaited, FirstEnd, FirstOf, IsAskedOnce, IsEnd, IsFirstTaken, IsPassed, IsTaken, Says, Waited, next_probed}
+use Rattle.kube_final.specs.Waits.{Awaited, FirstEnd, IsAskedOnce, IsEnd, IsFirstTaken, IsPassed, IsTaken, Says, Waited, next_probed}
 use Rattle.kube_final.specs.declared.wait.Error.{Error}
 
 -- ---- a poll without fuel makes no exchange
@@ -36,7 +36,7 @@ nil_of (x ∷ xs) e = absurd (omega arith)
 no_exchange : {A V : Type 0} (api : Api A V) (now : ℕ) (old : Observing A V) (answer : Next (Found V)) (new : Observing A V) → ∥ Stands old ∥₁ → (p : PolledObject api now 0 old answer new) → p.exchanges ≡ []
 no_exchange api now old answer new live p =
     nil_of p.exchanges (∥∥₁_elim live (Coded-set coded_ℕ _ _) (λ s. ap length (exchanges_none (settings_in old.watcher) (is_held old) (exchanges_in s.exchanges) p.exchanges
-        (looks_none (answers_in old) (object_looks (settings_in old.watcher) (is_held old) (exchanges_in s.exchanges) p.exchanges) answer (answers_in new) (p.answered s.exchanges s.stands)))))
+    (looks_none (answers_in old) (object_looks (settings_in old.watcher) (is_held old) (exchanges_in s.exchanges) p.exchanges) answer (answers_in new) (p.answered s.exchanges s.stands)))))
 
 left_of : {X Y : Type 0} → X → Option (X × Y) → X
 left_of d None = d
@@ -237,7 +237,7 @@ looks_append settings held before [] ys = ap (λ b. object_looks settings held b
 looks_append settings held before (x ∷ xs) ys =
     let k = held_by held (told_by (row_of settings before x)) in
     ap (λ ls. look_of (answers_to held (told_by (row_of settings before x))) x.answer ∷ ls) (looks_append settings k (before ++ x ∷ []) xs ys
-      ∙ ap (λ b. object_looks settings k (before ++ x ∷ []) xs ++ object_looks settings (held_through settings k (before ++ x ∷ []) xs) b ys) (append_assoc before (x ∷ []) xs))
+    ∙ ap (λ b. object_looks settings k (before ++ x ∷ []) xs ++ object_looks settings (held_through settings k (before ++ x ∷ []) xs) b ys) (append_assoc before (x ∷ []) xs))
 
 held_append : {V : Type 0} (settings : Settings) (held : Bool) (before xs ys : List (Exchange V)) → held_through settings held before (xs ++ ys) ≡ held_through settings (held_through settings held before xs) (before ++ xs) ys
 held_append settings held before [] ys = ap (λ b. held_through settings held b ys) (sym (append-nil before))
@@ -361,21 +361,21 @@ asks_on api says now n old middle answer new w a =
       exchanges = w.exchanges ++ a.exchanges;
       exchanged = exchanged_append api now old middle new w.exchanges a.exchanges w.exchanged a.exchanged;
       answered = λ ds s.
-        let es = ds ++ map (dated_now now) w.exchanges in
-        let t = w.exchanged.stands ds s in
-        let looks : object_looks (settings_in middle.watcher) (is_held middle) (exchanges_in es) a.exchanges
-            ≡ object_looks (settings_in old.watcher) (held_through (settings_in old.watcher) (is_held old) (exchanges_in ds) w.exchanges) (exchanges_in ds ++ w.exchanges) a.exchanges
+          let es = ds ++ map (dated_now now) w.exchanges in
+          let t = w.exchanged.stands ds s in
+          let looks : object_looks (settings_in middle.watcher) (is_held middle) (exchanges_in es) a.exchanges
+          ≡ object_looks (settings_in old.watcher) (held_through (settings_in old.watcher) (is_held old) (exchanges_in ds) w.exchanges) (exchanges_in ds ++ w.exchanges) a.exchanges
           = rw (same, w.held ds s, exchanges_after now ds w.exchanges) refl in
-        let first = w.answered ds s in
-        let nothing : answers_in middle ≡ [] = spent_leaves says (answers_in old) n _ (answers_in middle) first in
-        let P : List (Look (Found _)) → Type 0 = λ ls. Waited says [] 1 ls answer (answers_in new) in
-        let Q : List (Look (Found _)) → Type 0 = λ ls. Waited says (answers_in old) (n + 1) ls answer (answers_in new) in
-        subst Q (sym (looks_append (settings_in old.watcher) (is_held old) (exchanges_in ds) w.exchanges a.exchanges))
+          let first = w.answered ds s in
+          let nothing : answers_in middle ≡ [] = spent_leaves says (answers_in old) n _ (answers_in middle) first in
+          let P : List (Look (Found _)) → Type 0 = λ ls. Waited says [] 1 ls answer (answers_in new) in
+          let Q : List (Look (Found _)) → Type 0 = λ ls. Waited says (answers_in old) (n + 1) ls answer (answers_in new) in
+          subst Q (sym (looks_append (settings_in old.watcher) (is_held old) (exchanges_in ds) w.exchanges a.exchanges))
           (waited_on says (answers_in old) n (object_looks (settings_in old.watcher) (is_held old) (exchanges_in ds) w.exchanges) (answers_in middle) _ answer (answers_in new) first (subst P looks (a.answered es t nothing)));
       held = λ ds s.
-        let es = ds ++ map (dated_now now) w.exchanges in
-        a.held es (w.exchanged.stands ds s)
-        ∙ rw (same, w.held ds s, exchanges_after now ds w.exchanges) (sym (held_append (settings_in old.watcher) (is_held old) (exchanges_in ds) w.exchanges a.exchanges));
+          let es = ds ++ map (dated_now now) w.exchanges in
+          a.held es (w.exchanged.stands ds s)
+          ∙ rw (same, w.held ds s, exchanges_after now ds w.exchanges) (sym (held_append (settings_in old.watcher) (is_held old) (exchanges_in ds) w.exchanges a.exchanges));
     }
 
 pub unspent_next : {V : Type 0} (answer : Next (Result (Option (Arc V Global)) Error)) → (answer ≡ Spent → ⊥) → IsNotSpent (next_probed answer)

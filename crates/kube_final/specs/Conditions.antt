@@ -1,5 +1,5 @@
 -- When a condition on an object holds. K is the type of the object. (Crate: `wait::conditions`.)
-use Rattle.std.specs.Prelude.{◌≡◌, ◌⊎◌, ℕ, Bool, true, false, not, ◌&&◌, ◌||◌, List, Option, Some, None, is_some, find, codes}
+use Rattle.std.specs.Prelude.{◌⊎◌, ℕ, Bool, true, false, not, ◌&&◌, ◌||◌, List, Option, Some, None, is_some, find, codes}
 use Rattle.std.specs.List.{list_all}
 use Rattle.std.specs.Str.{bytes_eq}
 use Rattle.kube_meta.specs.declared.metadata.ObjectMeta.{ObjectMeta}

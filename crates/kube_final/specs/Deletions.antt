@@ -1,5 +1,5 @@
 -- Deleting an object and waiting until it is gone. V is the type of the object that the deletion answers, W that of the one that is watched. (Crate: `delete_and_finalize`.)
-use Rattle.std.specs.Prelude.{◌≡◌, ℕ, Bool, List, [], ◌∷◌, Option, Some, None, Result, Ok, Err}
+use Rattle.std.specs.Prelude.{◌≡◌, ◌⊎◌, ℕ, List, [], ◌∷◌, Option, Some, None, Result, Ok, Err}
 use Rattle.kube_meta.specs.declared.metadata.ObjectMeta.{ObjectMeta}
 use Rattle.kube_meta.specs.declared.poll.Next.{Next}
 use Rattle.kube_meta.specs.declared.poll.Next.TheVariants.{Item, NotReady, Spent, End}
@@ -41,6 +41,11 @@ pub record IsAsked {O V : Type 0} (objects : Objects O V) (meta_of : V → Objec
   pub missing : MissingAs (objects.held old) name answer
   pub kept : IsKept answer (objects.held old) (objects.held new)
   pub rose : FaultRose (is_object_fault answer) (objects.faults old) (objects.faults new)
+
+-- memory could not be had: nothing was asked, or the deletion of the object of this name once
+abbrev pub IsAskedAtMostOnce : {O V : Type 0} → Objects O V → List ℕ → O → O → Type 0
+IsAskedAtMostOnce {V = V} objects name old new =
+    (objects.talk new ≡ objects.talk old) ⊎ ((answer : ObjectAnswer V) × (objects.talk new ≡ grown (objects.talk old) (record { call = DeleteAsked name; answer = answer })))
 
 -- the answer of a poll by that of the wait
 abbrev pub ended : {W : Type 0} → Next (Found W) → Next (Result (Unit {0}) Error)

@@ -16,7 +16,6 @@ use Rattle.kube_final.specs.declared.finalizer.PatchFailed.TheVariants.{Refused,
 use Rattle.kube_final.specs.declared.finalizer.Step.{Step}
 use Rattle.kube_final.specs.declared.finalizer.Step.TheVariants.{Ends as EndsStep, Waits as WaitsStep, Sends as SendsStep}
 use Rattle.kube_final.specs.Finalizers.{decision_on, finalizers_in, patch_on}
-use Rattle.kube_final.specs.Guarding.{Guarding}
 
 -- an action (the nanoseconds of its requeue, or none), or why there is none
 abbrev pub Answer : Type 0 → Type 0

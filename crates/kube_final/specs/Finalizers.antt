@@ -3,7 +3,7 @@ use Rattle.std.specs.Prelude.{ℕ, Bool, true, false, List, [], ◌∷◌, ◌++
 use Rattle.std.specs.Str.{bytes_eq}
 use Rattle.std.specs.List.{position_from}
 use Rattle.std.specs.Arc.{arc_value}
-use Rattle.serde_json.specs.Data.{Data, null, string, array, item, no_items}
+use Rattle.serde_json.specs.Data.{Data, null, string, array}
 use Rattle.serde_json.specs.View.{items_of}
 use Rattle.kube_meta.specs.declared.metadata.ObjectMeta.{ObjectMeta}
 use Rattle.kube_api.specs.Patches.{Operation, Tests, Changes, Puts, Takes}

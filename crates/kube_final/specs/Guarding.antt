@@ -1,5 +1,5 @@
 -- What contracts see of a finalizer. K is the type of the object.
-use Rattle.std.specs.Prelude.{ℕ, Bool, true, false, List, Option, None}
+use Rattle.std.specs.Prelude.{ℕ, Bool, false, List, Option, None}
 
 -- the finalizer's name, the object as it was seen, the action of its cleanup once that has succeeded, whether a poll was ready, and whether one once had no memory
 pub record Guarding (K : Type 0) : Type 0 where

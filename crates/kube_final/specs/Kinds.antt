@@ -1,7 +1,6 @@
 -- The parts of an object of a known type that conditions ask, and how they are read of its JSON. (Kubernetes API reference: Pod, Job, Deployment, Service, Ingress, CustomResourceDefinition.)
-use Rattle.std.specs.Prelude.{List, Option, Result, Ok, codes}
+use Rattle.std.specs.Prelude.{Result, Ok, codes}
 use Rattle.serde_json.specs.Data.{Data}
-use Rattle.serde_json.specs.View.{view}
 use Rattle.kube_meta.specs.Reading.{text_at, list_at, field, maybe_field, object_at}
 use Rattle.kube_meta.specs.Places.{◌>>=◌}
 use Rattle.kube_meta.specs.declared.metadata.ObjectMeta.{ObjectMeta}

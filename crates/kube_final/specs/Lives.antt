@@ -1,5 +1,5 @@
 -- A life of one object under the finalizer of one name: what happens to its finalizers, step by step. (Kubernetes API concept "finalizers"; an object of one uid.)
-use Rattle.std.specs.Prelude.{ℕ, ◌+◌, nat_lt, ◌==◌, Bool, true, false, not, ◌&&◌, List, [], ◌∷◌, ◌++◌, length, map, filter, remove, slice_get, Option, Some, None, if◌then◌else◌}
+use Rattle.std.specs.Prelude.{ℕ, nat_lt, ◌==◌, Bool, true, false, not, ◌&&◌, List, [], ◌∷◌, ◌++◌, length, filter, remove, slice_get, Option, Some, None, if◌then◌else◌}
 use Rattle.std.specs.List.{count_by, list_any, fold}
 use Rattle.std.specs.Str.{bytes_eq}
 use Rattle.kube_final.specs.declared.finalizer.Decision.{Decision}

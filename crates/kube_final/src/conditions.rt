@@ -6,7 +6,9 @@ ghost use Rattle.std.specs.Str.{bytes_eq};
 ghost use Rattle.kube_final.specs.Conditions.{BothHold, OneHolds, has_address, has_true, has_uid, is_balanced, is_completed, is_deleted as deleted, is_deployed, is_established, is_ingress_provisioned as ingress_provisioned, is_provisioned, is_rolled_out, is_running, is_service_provisioned as service_provisioned, is_there, is_true, says_true};
 
 use crate::kinds::{CustomResourceDefinition, Deployment, Ingress, Job, Pod, Service};
-use crate::parts::{ConditionsStatus, ExposedStatus, LoadBalancerIngress, ServiceSpec, StatusCondition};
+use crate::parts::{
+    ConditionsStatus, ExposedStatus, LoadBalancerIngress, ServiceSpec, StatusCondition,
+};
 use crate::wait::Condition;
 use kube_meta::{ObjectMeta, Resource, Text};
 
@@ -66,9 +68,7 @@ fn is_rolled_out(condition: &StatusCondition) -> bool
 fn first_rolled_out(conditions: &[StatusCondition]) -> Option<&StatusCondition>
     ensures { option_copied result ≡ find is_rolled_out conditions.now }
 {
-    conditions
-        .iter()
-        .find(|condition| is_rolled_out(condition))
+    conditions.iter().find(|condition| is_rolled_out(condition))
 }
 
 /// Whether the first condition of a new replica set has the status `True`.

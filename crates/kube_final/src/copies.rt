@@ -30,10 +30,7 @@ fn copy_owner(alloc: Global, owner: &OwnerReference) -> Result<OwnerReference, N
     })
 }
 
-fn copy_owners(
-    alloc: Global,
-    owners: &[OwnerReference],
-) -> Result<List<OwnerReference>, NoMemory>
+fn copy_owners(alloc: Global, owners: &[OwnerReference]) -> Result<List<OwnerReference>, NoMemory>
     ensures { IfOk result (λ l. l ≡ owners.now) }
 {
     let mut copies = List::new(alloc);

@@ -5,7 +5,7 @@ ghost use Rattle.std.specs.Arc.{arc_value};
 ghost use Rattle.kube_api.specs.ObjectTalk.{delete_answer};
 ghost use Rattle.kube_watch.specs.Calls.{version_of};
 ghost use Rattle.kube_watch.specs.Objects.{IsOpened};
-ghost use Rattle.kube_final.specs.Deletions.{IsAsked, IsAwaited, IsDeletedBy, deletion_by, ended, known};
+ghost use Rattle.kube_final.specs.Deletions.{IsAsked, IsAskedAtMostOnce, IsAwaited, IsDeletedBy, deletion_by, ended, known};
 ghost use Rattle.kube_final.specs.Waits.{is_item, next_probed};
 
 use crate::conditions::is_deleted;
@@ -99,6 +99,7 @@ fn ask<O: ObjectApi>(
     now: Moment,
 ) -> Result<Deletion, NoMemory>
     ensures asked { IfOk result (λ d. IsAsked (record { held = O.held; talk = O.talk; faults = O.faults }) O.Value.meta_of name.now objects.old d objects.new) }
+    ensures lost { OnErr result (IsAskedAtMostOnce (record { held = O.held; talk = O.talk; faults = O.faults }) name.now objects.old objects.new) }
     ensures rises { O.faults objects.old ≤ O.faults objects.new }
 {
     let answer = objects.delete(alloc, name.as_str(), now)?;
@@ -106,9 +107,7 @@ fn ask<O: ObjectApi>(
 }
 
 /// The answer of a poll by that of the wait.
-fn ended<K: Drop>(
-    answer: Next<Result<Option<Arc<K>>, WaitError>>,
-) -> Next<Result<(), Error>>
+fn ended<K: Drop>(answer: Next<Result<Option<Arc<K>>, WaitError>>) -> Next<Result<(), Error>>
     ensures { result ≡ ended (next_probed answer) }
 {
     match answer {
@@ -184,6 +183,7 @@ impl<A: ApiMode> DeleteAndFinalize<A> {
         ensures over { IfOk result (λ a. self.new.is_over ≡ is_item a) }
         ensures rises { O.faults objects.old ≤ O.faults objects.new }
         ensures err { OnErr result (self.new.is_spent ≡ true) }
+        ensures lost { OnErr result (IsAskedAtMostOnce (record { held = O.held; talk = O.talk; faults = O.faults }) self.old.name objects.old objects.new) }
         ensures again { OnErr result (self.new.is_over ≡ false) }
         ensures unspent { OnOk result (self.new.is_spent ≡ false) }
         ensures spent { self.old.is_spent ≡ true → IsErr result × (self.new ≡ self.old) × (objects.new ≡ objects.old) }

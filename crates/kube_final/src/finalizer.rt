@@ -299,7 +299,9 @@ impl<K: Resource> Finalizer<K> {
         ensures polled { IfOk result (λ a. IsPolled (record { held = A.held; talk = A.talk; faults = A.faults })
             self.old.name (K.meta_of self.old.object) self.old.outcome branch api.old a api.new) }
         ensures after { IfOk result (λ a. self.new ≡ record self.old {
-            outcome = outcome_after (decision_on self.old.name (K.meta_of self.old.object)) self.old.outcome branch; is_over = is_ready a }) }
+          outcome = outcome_after (decision_on self.old.name (K.meta_of self.old.object)) self.old.outcome branch;
+          is_over = is_ready a;
+        }) }
         ensures rises { A.faults api.old ≤ A.faults api.new }
         ensures err { OnErr result (self.new ≡ record self.old { is_spent = true }) }
         ensures silent { OnErr result (A.talk api.new ≡ A.talk api.old) }

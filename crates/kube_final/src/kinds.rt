@@ -211,7 +211,11 @@ impl Service {
         let spec = maybe_member(alloc, &object.content, "spec")?;
         let status = maybe_member(alloc, &object.content, "status")?;
         let metadata = copy_metadata(alloc, &object.metadata)?;
-        Ok(Service { metadata, spec, status })
+        Ok(Service {
+            metadata,
+            spec,
+            status,
+        })
     }
 }
 
@@ -326,7 +330,10 @@ impl CustomResourceDefinition {
     ///
     /// Errors: `Shape` with the place, a JSON pointer (RFC 6901), of the first part of another form; `NoMemory`.
     #[tactic(auto, unfolding(crate::specs::Kinds::definition_at))]
-    pub fn from_dynamic(alloc: Global, object: &DynamicObject) -> Result<CustomResourceDefinition, ObjectFault>
+    pub fn from_dynamic(
+        alloc: Global,
+        object: &DynamicObject,
+    ) -> Result<CustomResourceDefinition, ObjectFault>
         ensures { Gives (λ x. x) result (definition_at object.now.metadata (view object.now.content)) }
     {
         let status = maybe_member(alloc, &object.content, "status")?;

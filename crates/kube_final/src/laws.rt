@@ -7,10 +7,9 @@ ghost use Rattle.kube_final.specs.declared.life.LifeStep.{LifeStep as Step};
 ghost use Rattle.kube_final.specs.declared.life.LifeStep.TheVariants.{Arrive};
 
 use crate::life::Past;
+pub use crate::life::{LifeState, LifeStep};
 use kube_meta::NoMemory;
 use std::alloc::Global;
-
-pub use crate::life::{LifeState, LifeStep};
 
 /// Whether steps are the life of one object of one uid, under the finalizer of a name that no other party adds or removes.
 ///

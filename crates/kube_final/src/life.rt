@@ -110,12 +110,7 @@ fn is_at(name: &str, at: usize, names: &[Text]) -> bool
 }
 
 /// Without the one at a place, if the name is there.
-fn without(
-    alloc: Global,
-    name: &str,
-    index: u64,
-    names: &[Text],
-) -> Result<List<Text>, NoMemory>
+fn without(alloc: Global, name: &str, index: u64, names: &[Text]) -> Result<List<Text>, NoMemory>
     ensures { IfOk result (λ l. l ≡ patched_by name.now (Decision.Cleanup index) [] names.now) }
 {
     let mut left = Vec::from(copy_texts(alloc, names)?);
@@ -256,10 +251,7 @@ impl Past {
                 is_among(*decision, self.started.as_slice())
             }
             LifeStep::Send { decision } => match self.decision_at(*decision) {
-                Some(made) => may_send(
-                    is_among(*decision, self.cleaned.as_slice()),
-                    made.decision,
-                ),
+                Some(made) => may_send(is_among(*decision, self.cleaned.as_slice()), made.decision),
                 None => false,
             },
             LifeStep::Arrive { send } => (*send as usize) < self.sent.len(),
@@ -267,12 +259,7 @@ impl Past {
     }
 
     // The state after a step.
-    fn state_after(
-        &self,
-        alloc: Global,
-        name: &str,
-        step: &LifeStep,
-    ) -> Result<LifeState, NoMemory>
+    fn state_after(&self, alloc: Global, name: &str, step: &LifeStep) -> Result<LifeState, NoMemory>
         ensures { IfOk result (λ s. s ≡ state_after name.now (past_in self.now) step.now) }
     {
         match step {

@@ -109,9 +109,7 @@ fn ends<K: Drop, C: Condition<K>>(
 }
 
 /// An answer of the watch as one of the wait.
-fn probed<K: Drop>(
-    answer: Result<Option<Arc<K>>, WatcherError>,
-) -> Result<Option<Arc<K>>, Error>
+fn probed<K: Drop>(answer: Result<Option<Arc<K>>, WatcherError>) -> Result<Option<Arc<K>>, Error>
     ensures { probed result ≡ found_of answer }
 {
     match answer {
@@ -251,12 +249,7 @@ impl<A: ApiMode, C: Condition<A::Value>> AwaitCondition<A, C> {
     /// Waits for the object of a name, which the API watches alone.
     ///
     /// Errors: `NoMemory`.
-    pub fn new(
-        alloc: Global,
-        api: A,
-        name: &str,
-        cond: C,
-    ) -> Result<AwaitCondition<A, C>, NoMemory>
+    pub fn new(alloc: Global, api: A, name: &str, cond: C) -> Result<AwaitCondition<A, C>, NoMemory>
         ensures opened { IfOk result (λ w. IsOpened api name.now w.watch) }
         ensures condition { IfOk result (λ w. w.condition ≡ cond) }
         ensures over { IfOk result (λ w. w.is_over ≡ false) }

@@ -2,7 +2,7 @@
 
 use super::object;
 use crate::conditions::{
-    is_created, is_crd_established, is_deleted, is_deployment_completed, is_ingress_provisioned,
+    is_crd_established, is_created, is_deleted, is_deployment_completed, is_ingress_provisioned,
     is_job_completed, is_pod_running, is_service_loadbalancer_provisioned,
 };
 use crate::kinds::{CustomResourceDefinition, Deployment, Ingress, Job, Pod, Service};
@@ -26,40 +26,136 @@ const ROWS: [Row; 44] = [
     ("job", r#"{}"#, "false"),
     ("job", r#"{"status":{}}"#, "false"),
     ("job", r#"{"status":{"conditions":[]}}"#, "false"),
-    ("job", r#"{"status":{"conditions":[{"type":"Failed","status":"True"}]}}"#, "false"),
-    ("job", r#"{"status":{"conditions":[{"type":"Complete","status":"False"}]}}"#, "false"),
-    ("job", r#"{"status":{"conditions":[{"type":"Complete","status":"True"}]}}"#, "true"),
-    ("job", r#"{"status":{"conditions":[{"type":"Failed","status":"False"},{"type":"Complete","status":"True"}]}}"#, "true"),
-    ("job", r#"{"status":{"conditions":[{"type":"Complete","status":"False"},{"type":"Complete","status":"True"}]}}"#, "false"),
-    ("job", r#"{"status":{"conditions":[{"type":"Complete","status":"True"},{"status":"True"}]}}"#, "/status/conditions/1/type"),
+    (
+        "job",
+        r#"{"status":{"conditions":[{"type":"Failed","status":"True"}]}}"#,
+        "false",
+    ),
+    (
+        "job",
+        r#"{"status":{"conditions":[{"type":"Complete","status":"False"}]}}"#,
+        "false",
+    ),
+    (
+        "job",
+        r#"{"status":{"conditions":[{"type":"Complete","status":"True"}]}}"#,
+        "true",
+    ),
+    (
+        "job",
+        r#"{"status":{"conditions":[{"type":"Failed","status":"False"},{"type":"Complete","status":"True"}]}}"#,
+        "true",
+    ),
+    (
+        "job",
+        r#"{"status":{"conditions":[{"type":"Complete","status":"False"},{"type":"Complete","status":"True"}]}}"#,
+        "false",
+    ),
+    (
+        "job",
+        r#"{"status":{"conditions":[{"type":"Complete","status":"True"},{"status":"True"}]}}"#,
+        "/status/conditions/1/type",
+    ),
     ("crd", r#"{}"#, "false"),
-    ("crd", r#"{"status":{"conditions":[{"type":"Established","status":"True"}]}}"#, "true"),
-    ("crd", r#"{"status":{"conditions":[{"type":"NamesAccepted","status":"True"}]}}"#, "false"),
-    ("crd", r#"{"status":{"conditions":[{"type":"Established","status":"Unknown"}]}}"#, "false"),
+    (
+        "crd",
+        r#"{"status":{"conditions":[{"type":"Established","status":"True"}]}}"#,
+        "true",
+    ),
+    (
+        "crd",
+        r#"{"status":{"conditions":[{"type":"NamesAccepted","status":"True"}]}}"#,
+        "false",
+    ),
+    (
+        "crd",
+        r#"{"status":{"conditions":[{"type":"Established","status":"Unknown"}]}}"#,
+        "false",
+    ),
     ("deployment", r#"{}"#, "false"),
-    ("deployment", r#"{"status":{"conditions":[{"type":"Progressing","status":"True"}]}}"#, "false"),
-    ("deployment", r#"{"status":{"conditions":[{"type":"Progressing","status":"True","reason":"ReplicaSetUpdated"}]}}"#, "false"),
-    ("deployment", r#"{"status":{"conditions":[{"type":"Progressing","status":"True","reason":"NewReplicaSetAvailable"}]}}"#, "true"),
-    ("deployment", r#"{"status":{"conditions":[{"type":"Progressing","status":"False","reason":"NewReplicaSetAvailable"}]}}"#, "false"),
-    ("deployment", r#"{"status":{"conditions":[{"type":"Available","status":"True","reason":"NewReplicaSetAvailable"}]}}"#, "false"),
+    (
+        "deployment",
+        r#"{"status":{"conditions":[{"type":"Progressing","status":"True"}]}}"#,
+        "false",
+    ),
+    (
+        "deployment",
+        r#"{"status":{"conditions":[{"type":"Progressing","status":"True","reason":"ReplicaSetUpdated"}]}}"#,
+        "false",
+    ),
+    (
+        "deployment",
+        r#"{"status":{"conditions":[{"type":"Progressing","status":"True","reason":"NewReplicaSetAvailable"}]}}"#,
+        "true",
+    ),
+    (
+        "deployment",
+        r#"{"status":{"conditions":[{"type":"Progressing","status":"False","reason":"NewReplicaSetAvailable"}]}}"#,
+        "false",
+    ),
+    (
+        "deployment",
+        r#"{"status":{"conditions":[{"type":"Available","status":"True","reason":"NewReplicaSetAvailable"}]}}"#,
+        "false",
+    ),
     ("service", r#"{}"#, "false"),
-    ("service", r#"{"status":{"loadBalancer":{"ingress":[]}}}"#, "false"),
+    (
+        "service",
+        r#"{"status":{"loadBalancer":{"ingress":[]}}}"#,
+        "false",
+    ),
     ("service", r#"{"spec":{}}"#, "true"),
     ("service", r#"{"spec":{"type":"ClusterIP"}}"#, "true"),
     ("service", r#"{"spec":{"type":"LoadBalancer"}}"#, "false"),
-    ("service", r#"{"spec":{"type":"LoadBalancer"},"status":{"loadBalancer":{}}}"#, "false"),
-    ("service", r#"{"spec":{"type":"LoadBalancer"},"status":{"loadBalancer":{"ingress":[]}}}"#, "true"),
-    ("service", r#"{"spec":{"type":"LoadBalancer"},"status":{"loadBalancer":{"ingress":[{"ip":"10.0.0.1"}]}}}"#, "true"),
-    ("service", r#"{"spec":{"type":"LoadBalancer"},"status":{"loadBalancer":{"ingress":[{"ip":"10.0.0.1"},{}]}}}"#, "false"),
+    (
+        "service",
+        r#"{"spec":{"type":"LoadBalancer"},"status":{"loadBalancer":{}}}"#,
+        "false",
+    ),
+    (
+        "service",
+        r#"{"spec":{"type":"LoadBalancer"},"status":{"loadBalancer":{"ingress":[]}}}"#,
+        "true",
+    ),
+    (
+        "service",
+        r#"{"spec":{"type":"LoadBalancer"},"status":{"loadBalancer":{"ingress":[{"ip":"10.0.0.1"}]}}}"#,
+        "true",
+    ),
+    (
+        "service",
+        r#"{"spec":{"type":"LoadBalancer"},"status":{"loadBalancer":{"ingress":[{"ip":"10.0.0.1"},{}]}}}"#,
+        "false",
+    ),
     ("service", r#"{"spec":{"type":1}}"#, "/spec/type"),
     ("ingress", r#"{}"#, "false"),
     ("ingress", r#"{"status":{}}"#, "false"),
     ("ingress", r#"{"status":{"loadBalancer":{}}}"#, "false"),
-    ("ingress", r#"{"status":{"loadBalancer":{"ingress":null}}}"#, "false"),
-    ("ingress", r#"{"status":{"loadBalancer":{"ingress":[]}}}"#, "true"),
-    ("ingress", r#"{"status":{"loadBalancer":{"ingress":[{"hostname":"a.example"}]}}}"#, "true"),
-    ("ingress", r#"{"status":{"loadBalancer":{"ingress":[{"hostname":"a.example"},{"ports":[]}]}}}"#, "false"),
-    ("ingress", r#"{"status":{"loadBalancer":{"ingress":[[]]}}}"#, "/status/loadBalancer/ingress/0"),
+    (
+        "ingress",
+        r#"{"status":{"loadBalancer":{"ingress":null}}}"#,
+        "false",
+    ),
+    (
+        "ingress",
+        r#"{"status":{"loadBalancer":{"ingress":[]}}}"#,
+        "true",
+    ),
+    (
+        "ingress",
+        r#"{"status":{"loadBalancer":{"ingress":[{"hostname":"a.example"}]}}}"#,
+        "true",
+    ),
+    (
+        "ingress",
+        r#"{"status":{"loadBalancer":{"ingress":[{"hostname":"a.example"},{"ports":[]}]}}}"#,
+        "false",
+    ),
+    (
+        "ingress",
+        r#"{"status":{"loadBalancer":{"ingress":[[]]}}}"#,
+        "/status/loadBalancer/ingress/0",
+    ),
 ];
 
 /// What a condition answers of an object.
@@ -67,14 +163,16 @@ fn answer(alloc: Global, row: &str, object: &DynamicObject) -> Result<bool, Obje
     Ok(match row {
         "pod" => is_pod_running().matches_object(Some(&Pod::from_dynamic(alloc, object)?)),
         "job" => is_job_completed().matches_object(Some(&Job::from_dynamic(alloc, object)?)),
-        "crd" => is_crd_established()
-            .matches_object(Some(&CustomResourceDefinition::from_dynamic(alloc, object)?)),
-        "deployment" => is_deployment_completed()
-            .matches_object(Some(&Deployment::from_dynamic(alloc, object)?)),
-        "service" => is_service_loadbalancer_provisioned()
-            .matches_object(Some(&Service::from_dynamic(alloc, object)?)),
-        _ => is_ingress_provisioned()
-            .matches_object(Some(&Ingress::from_dynamic(alloc, object)?)),
+        "crd" => is_crd_established().matches_object(Some(&CustomResourceDefinition::from_dynamic(
+            alloc, object,
+        )?)),
+        "deployment" => is_deployment_completed().matches_object(Some(&Deployment::from_dynamic(
+            alloc, object,
+        )?)),
+        "service" => is_service_loadbalancer_provisioned().matches_object(Some(
+            &Service::from_dynamic(alloc, object)?,
+        )),
+        _ => is_ingress_provisioned().matches_object(Some(&Ingress::from_dynamic(alloc, object)?)),
     })
 }
 
@@ -122,7 +220,13 @@ fn never_or_created(object: Option<&DynamicObject>) -> bool {
 fn conditions_of_any_object(rt: HostRuntime) -> Result<(), Fail> {
     let alloc = rt.alloc();
     let object = object(alloc, r#"{"metadata":{"name":"a","uid":"uid-1"}}"#)?;
-    assert_eq!(&rt; answers(Some(&object)) == [true, false, true, false, false, true, false, true], true);
-    assert_eq!(&rt; answers(None) == [false, true, true, true, false, true, false, false], true);
+    assert_eq!(&rt;
+        answers(Some(&object)) == [true, false, true, false, false, true, false, true],
+        true
+    );
+    assert_eq!(&rt;
+        answers(None) == [false, true, true, true, false, true, false, false],
+        true
+    );
     Ok(())
 }

@@ -16,24 +16,109 @@ use std::test::Fail;
 type Row = (&'static str, &'static str, &'static str, &'static str);
 
 const ROWS: [Row; 18] = [
-    (r#"{"name":"x","finalizers":["a","f"]}"#, "none", "done", "apply; not ready"),
-    (r#"{"name":"x","finalizers":["a","f"]}"#, "ok", "done", "apply; after 7"),
-    (r#"{"name":"x","finalizers":["a","f"]}"#, "err", "done", "apply; failed to apply object: torn"),
+    (
+        r#"{"name":"x","finalizers":["a","f"]}"#,
+        "none",
+        "done",
+        "apply; not ready",
+    ),
+    (
+        r#"{"name":"x","finalizers":["a","f"]}"#,
+        "ok",
+        "done",
+        "apply; after 7",
+    ),
+    (
+        r#"{"name":"x","finalizers":["a","f"]}"#,
+        "err",
+        "done",
+        "apply; failed to apply object: torn",
+    ),
     (r#"{"finalizers":["f"]}"#, "ok", "done", "apply; after 7"),
-    (r#"{"name":"x","finalizers":["a","f"],"deletionTimestamp":"1"}"#, "none", "done", "cleanup 1; not ready"),
-    (r#"{"name":"x","finalizers":["a","f"],"deletionTimestamp":"1"}"#, "err", "done", "cleanup 1; failed to clean up object: torn"),
-    (r#"{"name":"x","finalizers":["a","f"],"deletionTimestamp":"1"}"#, "ok", "done", r#"cleanup 1; x: test /metadata/finalizers/1 "f", remove /metadata/finalizers/1; after 7"#),
-    (r#"{"name":"x","finalizers":["f","f"],"deletionTimestamp":"1"}"#, "ok", "refused", r#"cleanup 0; x: test /metadata/finalizers/0 "f", remove /metadata/finalizers/0; failed to remove finalizer: TestFailed"#),
-    (r#"{"name":"x","finalizers":["f"],"deletionTimestamp":"1"}"#, "ok", "fault", r#"cleanup 0; x: test /metadata/finalizers/0 "f", remove /metadata/finalizers/0; failed to remove finalizer: torn"#),
-    (r#"{"name":"x","finalizers":["f"],"deletionTimestamp":"1"}"#, "ok", "later", r#"cleanup 0; x: test /metadata/finalizers/0 "f", remove /metadata/finalizers/0; not ready"#),
-    (r#"{"finalizers":["f"],"deletionTimestamp":"1"}"#, "ok", "done", "unnamed; object has no name"),
-    (r#"{"name":"x"}"#, "none", "done", r#"add first; x: test /metadata/finalizers null, add /metadata/finalizers ["f"]; after change"#),
-    (r#"{"name":"x"}"#, "none", "refused", r#"add first; x: test /metadata/finalizers null, add /metadata/finalizers ["f"]; failed to add finalizer: TestFailed"#),
-    (r#"{"name":"x","finalizers":["a","b"]}"#, "none", "done", r#"add more; x: test /metadata/finalizers ["a","b"], add /metadata/finalizers/- "f"; after change"#),
-    (r#"{"name":"x","finalizers":["a"]}"#, "ok", "fault", r#"add more; x: test /metadata/finalizers ["a"], add /metadata/finalizers/- "f"; failed to add finalizer: torn"#),
-    (r#"{"finalizers":["a"]}"#, "none", "done", "unnamed; object has no name"),
-    (r#"{"name":"x","finalizers":["a"],"deletionTimestamp":"1"}"#, "none", "done", "nothing; after change"),
-    (r#"{"deletionTimestamp":"1"}"#, "ok", "done", "nothing; after change"),
+    (
+        r#"{"name":"x","finalizers":["a","f"],"deletionTimestamp":"1"}"#,
+        "none",
+        "done",
+        "cleanup 1; not ready",
+    ),
+    (
+        r#"{"name":"x","finalizers":["a","f"],"deletionTimestamp":"1"}"#,
+        "err",
+        "done",
+        "cleanup 1; failed to clean up object: torn",
+    ),
+    (
+        r#"{"name":"x","finalizers":["a","f"],"deletionTimestamp":"1"}"#,
+        "ok",
+        "done",
+        r#"cleanup 1; x: test /metadata/finalizers/1 "f", remove /metadata/finalizers/1; after 7"#,
+    ),
+    (
+        r#"{"name":"x","finalizers":["f","f"],"deletionTimestamp":"1"}"#,
+        "ok",
+        "refused",
+        r#"cleanup 0; x: test /metadata/finalizers/0 "f", remove /metadata/finalizers/0; failed to remove finalizer: TestFailed"#,
+    ),
+    (
+        r#"{"name":"x","finalizers":["f"],"deletionTimestamp":"1"}"#,
+        "ok",
+        "fault",
+        r#"cleanup 0; x: test /metadata/finalizers/0 "f", remove /metadata/finalizers/0; failed to remove finalizer: torn"#,
+    ),
+    (
+        r#"{"name":"x","finalizers":["f"],"deletionTimestamp":"1"}"#,
+        "ok",
+        "later",
+        r#"cleanup 0; x: test /metadata/finalizers/0 "f", remove /metadata/finalizers/0; not ready"#,
+    ),
+    (
+        r#"{"finalizers":["f"],"deletionTimestamp":"1"}"#,
+        "ok",
+        "done",
+        "unnamed; object has no name",
+    ),
+    (
+        r#"{"name":"x"}"#,
+        "none",
+        "done",
+        r#"add first; x: test /metadata/finalizers null, add /metadata/finalizers ["f"]; after change"#,
+    ),
+    (
+        r#"{"name":"x"}"#,
+        "none",
+        "refused",
+        r#"add first; x: test /metadata/finalizers null, add /metadata/finalizers ["f"]; failed to add finalizer: TestFailed"#,
+    ),
+    (
+        r#"{"name":"x","finalizers":["a","b"]}"#,
+        "none",
+        "done",
+        r#"add more; x: test /metadata/finalizers ["a","b"], add /metadata/finalizers/- "f"; after change"#,
+    ),
+    (
+        r#"{"name":"x","finalizers":["a"]}"#,
+        "ok",
+        "fault",
+        r#"add more; x: test /metadata/finalizers ["a"], add /metadata/finalizers/- "f"; failed to add finalizer: torn"#,
+    ),
+    (
+        r#"{"finalizers":["a"]}"#,
+        "none",
+        "done",
+        "unnamed; object has no name",
+    ),
+    (
+        r#"{"name":"x","finalizers":["a"],"deletionTimestamp":"1"}"#,
+        "none",
+        "done",
+        "nothing; after change",
+    ),
+    (
+        r#"{"deletionTimestamp":"1"}"#,
+        "ok",
+        "done",
+        "nothing; after change",
+    ),
 ];
 
 /// The fault of a branch.
@@ -146,10 +231,7 @@ fn decision_text(alloc: Global, decision: Decision) -> Result<String, Fail> {
     })
 }
 
-fn answer_text(
-    alloc: Global,
-    answer: Polled<Result<Action, Error<Torn>>>,
-) -> Result<String, Fail> {
+fn answer_text(alloc: Global, answer: Polled<Result<Action, Error<Torn>>>) -> Result<String, Fail> {
     Ok(match answer {
         Polled::NotReady => String::from_str(alloc, "not ready")?,
         Polled::Ready(Ok(action)) => match action.requeue_after() {
@@ -194,7 +276,10 @@ fn finalizers_by_the_table(rt: HostRuntime) -> Result<(), Fail> {
 
 /// Polls a cleanup that has succeeded at an API that is not ready, and then again without a branch.
 fn polled_twice(alloc: Global) -> Result<String, Fail> {
-    let mut finalizer = guarded(alloc, r#"{"name":"x","finalizers":["f"],"deletionTimestamp":"1"}"#)?;
+    let mut finalizer = guarded(
+        alloc,
+        r#"{"name":"x","finalizers":["f"],"deletionTimestamp":"1"}"#,
+    )?;
     let mut api = Alike {
         answer: "later",
         calls: String::new(alloc),
@@ -211,7 +296,10 @@ fn polled_twice(alloc: Global) -> Result<String, Fail> {
 fn a_patch_is_sent_again_without_a_branch(rt: HostRuntime) -> Result<(), Fail> {
     let alloc = rt.alloc();
     let came = polled_twice(alloc)?;
-    assert_eq!(&rt; came.as_str(), r#"x: test /metadata/finalizers/0 "f", remove /metadata/finalizers/0; after 7"#);
+    assert_eq!(&rt;
+        came.as_str(),
+        r#"x: test /metadata/finalizers/0 "f", remove /metadata/finalizers/0; after 7"#
+    );
     Ok(())
 }
 
@@ -227,8 +315,17 @@ fn event_of(alloc: Global, metadata: &str) -> Result<&'static str, Fail> {
 #[test]
 fn events_of_decisions(rt: HostRuntime) -> Result<(), Fail> {
     let alloc = rt.alloc();
-    assert_eq!(&rt; event_of(alloc, r#"{"name":"x","finalizers":["f"]}"#)?, "apply");
-    assert_eq!(&rt; event_of(alloc, r#"{"name":"x","finalizers":["f"],"deletionTimestamp":"1"}"#)?, "cleanup");
+    assert_eq!(&rt;
+        event_of(alloc, r#"{"name":"x","finalizers":["f"]}"#)?,
+        "apply"
+    );
+    assert_eq!(&rt;
+        event_of(
+            alloc,
+            r#"{"name":"x","finalizers":["f"],"deletionTimestamp":"1"}"#
+        )?,
+        "cleanup"
+    );
     assert_eq!(&rt; event_of(alloc, r#"{"name":"x"}"#)?, "none");
     Ok(())
 }

@@ -15,16 +15,67 @@ type Row = (&'static [Short], bool);
 const ROWS: [Row; 15] = [
     (&[], true),
     // gone after the first arrival, and the second changes nothing
-    (&[("decide", 0, &[]), ("send", 0, &[]), ("arrive", 0, &[]), ("delete", 0, &[]), ("decide", 4, &[]), ("cleanup", 1, &[]), ("cleaned", 1, &[]), ("send", 1, &[]), ("arrive", 1, &[]), ("arrive", 1, &[])], true),
+    (
+        &[
+            ("decide", 0, &[]),
+            ("send", 0, &[]),
+            ("arrive", 0, &[]),
+            ("delete", 0, &[]),
+            ("decide", 4, &[]),
+            ("cleanup", 1, &[]),
+            ("cleaned", 1, &[]),
+            ("send", 1, &[]),
+            ("arrive", 1, &[]),
+            ("arrive", 1, &[]),
+        ],
+        true,
+    ),
     // once it has gone it is not changed, nor asked to be deleted, nor seen
     (&[("delete", 0, &[]), ("other", 0, &[])], false),
     (&[("delete", 0, &[]), ("delete", 0, &[])], false),
     (&[("delete", 0, &[]), ("decide", 1, &[])], false),
-    (&[("delete", 0, &[]), ("decide", 0, &[]), ("send", 0, &[]), ("arrive", 0, &[])], true),
+    (
+        &[
+            ("delete", 0, &[]),
+            ("decide", 0, &[]),
+            ("send", 0, &[]),
+            ("arrive", 0, &[]),
+        ],
+        true,
+    ),
     // a late patch of a cleanup is refused, and the finalizer of another party's list stays
-    (&[("other", 0, &["a"]), ("decide", 1, &[]), ("send", 0, &[]), ("arrive", 0, &[]), ("delete", 0, &[]), ("decide", 5, &[]), ("cleanup", 1, &[]), ("cleaned", 1, &[]), ("send", 1, &[]), ("other", 0, &["f"]), ("arrive", 1, &[]), ("decide", 11, &[])], true),
+    (
+        &[
+            ("other", 0, &["a"]),
+            ("decide", 1, &[]),
+            ("send", 0, &[]),
+            ("arrive", 0, &[]),
+            ("delete", 0, &[]),
+            ("decide", 5, &[]),
+            ("cleanup", 1, &[]),
+            ("cleaned", 1, &[]),
+            ("send", 1, &[]),
+            ("other", 0, &["f"]),
+            ("arrive", 1, &[]),
+            ("decide", 11, &[]),
+        ],
+        true,
+    ),
     // an Apply starts on a sight before the deletion, after a Cleanup succeeded
-    (&[("decide", 0, &[]), ("send", 0, &[]), ("arrive", 0, &[]), ("delete", 0, &[]), ("decide", 4, &[]), ("cleanup", 1, &[]), ("cleaned", 1, &[]), ("decide", 3, &[]), ("apply", 2, &[])], true),
+    (
+        &[
+            ("decide", 0, &[]),
+            ("send", 0, &[]),
+            ("arrive", 0, &[]),
+            ("delete", 0, &[]),
+            ("decide", 4, &[]),
+            ("cleanup", 1, &[]),
+            ("cleaned", 1, &[]),
+            ("decide", 3, &[]),
+            ("apply", 2, &[]),
+        ],
+        true,
+    ),
     // no other party adds or removes the name
     (&[("other", 0, &["f"])], false),
     (&[("other", 0, &["a", "b"]), ("other", 0, &["b"])], true),
@@ -33,8 +84,30 @@ const ROWS: [Row; 15] = [
     (&[("decide", 0, &[]), ("apply", 0, &[])], false),
     (&[("decide", 0, &[]), ("arrive", 0, &[])], false),
     // the patch of a cleanup is sent only after one succeeded
-    (&[("decide", 0, &[]), ("send", 0, &[]), ("arrive", 0, &[]), ("delete", 0, &[]), ("decide", 4, &[]), ("cleanup", 1, &[]), ("failed", 1, &[]), ("send", 1, &[])], false),
-    (&[("decide", 0, &[]), ("send", 0, &[]), ("arrive", 0, &[]), ("delete", 0, &[]), ("decide", 4, &[]), ("cleaned", 1, &[])], false),
+    (
+        &[
+            ("decide", 0, &[]),
+            ("send", 0, &[]),
+            ("arrive", 0, &[]),
+            ("delete", 0, &[]),
+            ("decide", 4, &[]),
+            ("cleanup", 1, &[]),
+            ("failed", 1, &[]),
+            ("send", 1, &[]),
+        ],
+        false,
+    ),
+    (
+        &[
+            ("decide", 0, &[]),
+            ("send", 0, &[]),
+            ("arrive", 0, &[]),
+            ("delete", 0, &[]),
+            ("decide", 4, &[]),
+            ("cleaned", 1, &[]),
+        ],
+        false,
+    ),
 ];
 
 fn names(alloc: Global, given: &[&str]) -> Result<List<Text>, Fail> {

@@ -23,7 +23,9 @@ fn texts(alloc: Global) -> Result<String, Fail> {
     let gone = delete::Error::Delete(DeleteFailed::NotFound);
     let torn = delete::Error::Delete(DeleteFailed::Fault(fault(alloc)?));
     let no_uid = delete::Error::NoUid;
-    Ok(format!(in alloc; "{invalid}\n{unnamed}\n{missing}\n{path}\n{probe}\n{gone}\n{torn}\n{no_uid}\n")?)
+    Ok(format!(in alloc;
+        "{invalid}\n{unnamed}\n{missing}\n{path}\n{probe}\n{gone}\n{torn}\n{no_uid}\n"
+    )?)
 }
 
 /// The text of a wait that failed, with that of its probe.
@@ -37,8 +39,14 @@ fn awaited(alloc: Global) -> Result<String, Fail> {
 fn texts_of_errors(rt: HostRuntime) -> Result<(), Fail> {
     let alloc = rt.alloc();
     let came = texts(alloc)?;
-    assert_eq!(&rt; came.as_str(), "invalid finalizer\nobject has no name\nNotFound\nPathMissing\nfailed to probe for whether the condition is fulfilled yet: no metadata.resourceVersion in watch result (does resource support watch?)\nfailed to delete object: NotFound\nfailed to delete object: torn\ndeleted object has no UID to wait for\n");
+    assert_eq!(&rt;
+        came.as_str(),
+        "invalid finalizer\nobject has no name\nNotFound\nPathMissing\nfailed to probe for whether the condition is fulfilled yet: no metadata.resourceVersion in watch result (does resource support watch?)\nfailed to delete object: NotFound\nfailed to delete object: torn\ndeleted object has no UID to wait for\n"
+    );
     let deleted = awaited(alloc)?;
-    assert_eq!(&rt; deleted.as_str(), "failed to wait for object to be deleted: failed to probe for whether the condition is fulfilled yet: failed to perform initial object list: torn");
+    assert_eq!(&rt;
+        deleted.as_str(),
+        "failed to wait for object to be deleted: failed to probe for whether the condition is fulfilled yet: failed to perform initial object list: torn"
+    );
     Ok(())
 }

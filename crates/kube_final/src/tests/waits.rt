@@ -33,7 +33,9 @@ fn page(alloc: Global, uids: &[&str]) -> Result<Listed, Fail> {
 }
 
 fn shared(alloc: Global, uid: &str) -> Result<Arc<DynamicObject>, Fail> {
-    let text = format!(in alloc; "{{\"metadata\":{{\"name\":\"a\",\"uid\":\"{uid}\",\"resourceVersion\":\"2\"}}}}")?;
+    let text = format!(in alloc;
+        "{{\"metadata\":{{\"name\":\"a\",\"uid\":\"{uid}\",\"resourceVersion\":\"2\"}}}}"
+    )?;
     Ok(Arc::new(alloc, object(alloc, text.as_str())?)?)
 }
 

@@ -1,4 +1,3 @@
-use Rattle.std.proofs.Common.{◌∙◌}
 use Rattle.kube_final.proofs.LifeLaws.{arrival_keeps_others, goes_after_cleanup}
 use Rattle.kube_final.proofs.laws.guarded.Goals as goal
 

@@ -1,4 +1,4 @@
-use Rattle.std.proofs.Common.{◌≡◌, Some, None}
+use Rattle.std.proofs.Common.{Some, None}
 use Rattle.kube_watch.specs.Objects.{found_of}
 use Rattle.kube_final.specs.Waits.{probed}
 use Rattle.kube_final.proofs.WaitLaws.{asked_item, asked_not_ready, asked_over, asked_spent, asked_then, not_spent, stands_on, standing}
@@ -53,9 +53,9 @@ take_end-requires-clause-live g c =
 pub returns-in-Some-clause-asked : goal.returns-in-Some-clause-asked
 returns-in-Some-clause-asked g c =
     asked_then _ (g.C.Condition.says c.args.condition.now) c.args.now.0 c.args.watch.now c.poll_next.new.self (found_of c.in-Item.answer) (Some (probed c.in-Some.answer)) c.take_end.new.watch
-        c.if-ends.ensures (rw c.in-Item.is at c.in_ok-answer.ensures.polled) (rw c.in-Some.is at c.in_ok-answer-2.ensures.taken)
+    c.if-ends.ensures (rw c.in-Item.is at c.in_ok-answer.ensures.polled) (rw c.in-Some.is at c.in_ok-answer-2.ensures.taken)
 
 pub returns-in-None-clause-asked : goal.returns-in-None-clause-asked
 returns-in-None-clause-asked g c =
     asked_then _ (g.C.Condition.says c.args.condition.now) c.args.now.0 c.args.watch.now c.poll_next.new.self (found_of c.in-Item.answer) None c.take_end.new.watch
-        c.if-ends.ensures (rw c.in-Item.is at c.in_ok-answer.ensures.polled) (rw c.in-None.is at c.in_ok-answer-2.ensures.taken)
+    c.if-ends.ensures (rw c.in-Item.is at c.in_ok-answer.ensures.polled) (rw c.in-None.is at c.in_ok-answer-2.ensures.taken)

@@ -1,4 +1,4 @@
-use Rattle.std.proofs.Common.{◌≡◌, ◌+◌, Some, None, sym, ◌∙◌, arith}
+use Rattle.std.proofs.Common.{◌+◌, Some, None, sym, ◌∙◌, arith}
 use Rattle.kube_meta.specs.declared.poll.Next.TheVariants.{Item, Spent}
 use Rattle.kube_final.specs.Waits.{next_probed, probed}
 use Rattle.kube_final.proofs.WaitLaws.{asks_on, enough, from_taken, never, unspent_next}
@@ -8,7 +8,7 @@ pub returns-in-Some-clause-awaited : goal.returns-in-Some-clause-awaited
 returns-in-Some-clause-awaited g c =
     let says = g.C.Condition.says c.args.condition.now in
     enough _ says c.args.now.0 0 c.args.fuel c.args.watch.now (Item (probed c.in-Some.answer)) c.take_end.new.watch tt (omega arith)
-        (from_taken _ says c.args.now.0 c.args.watch.now (Some (probed c.in-Some.answer)) c.take_end.new.watch (rw c.in-Some.is at c.in_ok-answer.ensures.taken))
+    (from_taken _ says c.args.now.0 c.args.watch.now (Some (probed c.in-Some.answer)) c.take_end.new.watch (rw c.in-Some.is at c.in_ok-answer.ensures.taken))
 
 pub loop-asked-init : goal.loop-asked-init
 loop-asked-init g c = record {

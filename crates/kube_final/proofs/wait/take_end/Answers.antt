@@ -1,4 +1,3 @@
-use Rattle.std.proofs.Common.{◌≡◌}
 use Rattle.kube_watch.specs.Objects.{found_of}
 use Rattle.kube_final.proofs.WaitLaws.{fewer, standing}
 use Rattle.kube_final.proofs.wait.take_end.Goals as goal

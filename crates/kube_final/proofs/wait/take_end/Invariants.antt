@@ -1,4 +1,4 @@
-use Rattle.std.proofs.Common.{ℕ, length}
+use Rattle.std.proofs.Common.{length}
 use Rattle.kube_watch.specs.Objects.{answers_in}
 use Rattle.kube_final.proofs.wait.take_end.Given as goal
 use Rattle.kube_final.proofs.WaitLoops.{IsTaking}

@@ -1,4 +1,3 @@
-use Rattle.std.proofs.Common.{◌≡◌}
 use Rattle.kube_watch.specs.Objects.{found_of, next_found}
 use Rattle.kube_final.proofs.WaitLaws.{never, not_spent, quiet_next, stands_on, standing, taken_item, taken_none}
 use Rattle.kube_final.proofs.wait.take_next.Goals as goal
@@ -7,7 +6,7 @@ pub returns-in-Item-clause-taken : goal.returns-in-Item-clause-taken
 returns-in-Item-clause-taken g c =
     let unspent = not_spent c.args.watch.now.watcher.is_spent (λ s. (c.in_ok-answer.ensures.spent s).0) in
     taken_item _ c.args.now.0 c.args.watch.now (found_of c.in-Item.answer) c.poll_next.new.self (standing c.args.watch.now unspent c.requires.live)
-        (rw c.in-Item.is at c.in_ok-answer.ensures.polled)
+    (rw c.in-Item.is at c.in_ok-answer.ensures.polled)
 
 pub returns-in-Item-clause-live : goal.returns-in-Item-clause-live
 returns-in-Item-clause-live g c =

@@ -1,4 +1,4 @@
-use Rattle.std.proofs.Common.{◌≡◌, sym, refl, ◌∙◌}
+use Rattle.std.proofs.Common.{sym, refl, ◌∙◌}
 use Rattle.kube_final.specs.Waits.{next_probed}
 use Rattle.kube_final.proofs.delete.DeleteAndFinalize.wait.Goals as goal
 
