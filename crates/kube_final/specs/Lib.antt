@@ -1,0 +1,10 @@
+pub mod Conditions
+pub mod Deletions
+pub mod FinalizerPolls
+pub mod Finalizers
+pub mod Guarding
+pub mod Kinds
+pub mod Lives
+pub mod Waiting
+pub mod Waits
+pub mod Pasts

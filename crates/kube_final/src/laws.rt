@@ -1,0 +1,40 @@
+//! Laws over every life of an object: nothing that a controller guards by a finalizer goes before its cleanup.
+
+ghost use Rattle.std.specs.Prelude.{◌≡◌, ◌≤◌, ◌<◌, ◌^◌, ◌++◌, ◌∷◌, [], ℕ, List, length, take, true, IfOk};
+ghost use Rattle.std.specs.List.{list_any};
+ghost use Rattle.kube_final.specs.Lives.{ends_cleanup, is_life, others_in, past_of, starts_apply};
+ghost use Rattle.kube_final.specs.declared.life.LifeStep.{LifeStep as Step};
+ghost use Rattle.kube_final.specs.declared.life.LifeStep.TheVariants.{Arrive};
+
+use crate::life::Past;
+pub use crate::life::{LifeState, LifeStep};
+use kube_meta::NoMemory;
+use std::alloc::Global;
+
+/// Whether steps are the life of one object of one uid, under the finalizer of a name that no other party adds or removes.
+///
+/// Errors: `NoMemory`.
+pub fn valid(alloc: Global, life: &[LifeStep], name: &str) -> Result<bool, NoMemory>
+    requires { length life.now < 2 ^ 32 }
+    ensures { IfOk result (λ v. v ≡ is_life name.now life.now) }
+{
+    let mut past = Past::beginning(alloc);
+    for step in life {
+        if !past.may_follow(name, step) {
+            return Ok(false);
+        }
+        past.take(alloc, name, step)?;
+    }
+    Ok(true)
+}
+
+/// In a life, where an Apply is ever started, the object goes only after some Cleanup succeeded; and each patch that
+/// arrives, as late and as often as it may, leaves the finalizers other than the name as they were.
+pub fn guarded(life: &[LifeStep], name: &str)
+    requires count { length life.now < 2 ^ 32 }
+    requires valid { is_life name.now life.now ≡ true }
+    ensures cleaned { (n : ℕ) → n ≤ length life.now → list_any starts_apply life.now ≡ true → (past_of name.now (take n life.now)).current.gone ≡ true
+        → list_any ends_cleanup (take n life.now) ≡ true }
+    ensures others { (front back : List Step) (send : ℕ) → life.now ≡ front ++ Arrive send ∷ back
+        → others_in name.now (past_of name.now (front ++ Arrive send ∷ [])).current.finalizers ≡ others_in name.now (past_of name.now front).current.finalizers }
+{}

@@ -1,0 +1,22 @@
+//! Finalizers, conditions on an object, and waiting for one (kube-runtime's `finalizer` and `wait`).
+#![tactic(auto)]
+
+pub mod conditions;
+mod copies;
+pub mod delete;
+pub mod finalizer;
+pub mod kinds;
+pub mod laws;
+mod life;
+pub mod parts;
+mod patches;
+mod reading;
+pub mod wait;
+
+pub use delete::{DeleteAndFinalize, DeleteFailed};
+pub use finalizer::{Decision, Event, Finalizer, PatchFailed};
+pub use kube_api::{Patch, PatchRefusal, apply_patch};
+pub use wait::{AwaitCondition, Condition, FnCondition};
+
+#[cfg(test)]
+mod tests;
