@@ -123,24 +123,36 @@ fn print_events(rt: &impl Print, alloc: Global, events: &mut Events, at: u64) ->
     Ok(())
 }
 
+/// Prints what both streams give at each moment, and then what is stored.
+fn print_all<S: EventStream<Item = Arc<DynamicObject>>>(
+    rt: &impl Print,
+    alloc: Global,
+    changes: &mut S,
+    events: &mut Events,
+) -> Result<()>
+    requires may { S.can_poll changes.old }
+{
+    for at in WAKES {
+        print_changes(rt, alloc, changes, at)?;
+        print_events(rt, alloc, events, at)?;
+    }
+    for object in events.writer().cache().state(alloc)? {
+        let name = object.name().unwrap_or("");
+        println!(rt; "stored: {name} of version {:?}", object.resource_version())?;
+    }
+    Ok(())
+}
+
 fn main(rt: HostRuntime) -> Result<()> {
     let alloc = rt.alloc();
+    let writer = Writer::new(alloc, deployments(alloc)?, 1)?;
+    let mut events = watcher(alloc, api(alloc)?, Config::default())
+        .default_backoff()
+        .reflect(writer);
     let by_generation = FnPredicate(generation::<DynamicObject>);
     let mut changes = watcher(alloc, api(alloc)?, Config::default())
         .default_backoff()
         .applied_objects(alloc)
         .predicate_filter(alloc, by_generation, PredicateConfig::default());
-    let writer = Writer::new(alloc, deployments(alloc)?, 1)?;
-    let mut events = watcher(alloc, api(alloc)?, Config::default())
-        .default_backoff()
-        .reflect(writer);
-    for at in WAKES {
-        print_changes(&rt, alloc, &mut changes, at)?;
-        print_events(&rt, alloc, &mut events, at)?;
-    }
-    for object in events.writer().cache().state(alloc)? {
-        let name = object.name().unwrap_or("");
-        println!(&rt; "stored: {name} of version {:?}", object.resource_version())?;
-    }
-    Ok(())
+    print_all(&rt, alloc, &mut changes, &mut events)
 }
