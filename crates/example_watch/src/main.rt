@@ -6,9 +6,12 @@ use kube_api::{ApiError, ResultPage, Sequence, SequenceStep, TestMode, WatchEven
 use kube_meta::{ApiResource, DynamicObject, Lookup, Moment, Next, Text, read_object};
 use kube_reflect::Writer;
 use kube_streams::predicates::generation;
-use kube_streams::{EventStream, FnPredicate, PredicateConfig, WatchStreamExt};
-use kube_watch::Config;
+use kube_streams::{
+    DefaultBackoff, EventStream, FnPredicate, PredicateConfig, Reflect, StreamBackoff,
+    WatchStreamExt,
+};
 use kube_watch::watcher::watcher;
+use kube_watch::{Config, Watcher};
 use serde_json::Value;
 use std::alloc::Global;
 use std::collections::VecDeque;
@@ -34,6 +37,8 @@ const CHANGED: [&str; 2] = [
 ];
 
 type Api = TestMode<DynamicObject>;
+
+type Events = Reflect<StreamBackoff<Watcher<Api>, DefaultBackoff>, DynamicObject>;
 
 fn object(alloc: Global, text: &str) -> Result<Arc<DynamicObject>> {
     let object = read_object(alloc, Value::from_str(alloc, text)?)?;
@@ -78,15 +83,18 @@ fn deployments(alloc: Global) -> Result<Arc<ApiResource>> {
     Ok(Arc::new(alloc, resource)?)
 }
 
-/// Prints what a stream of objects gives at a moment, up to so many.
+/// Prints what a stream of objects gives at a moment.
 fn print_changes<S: EventStream<Item = Arc<DynamicObject>>>(
     rt: &impl Print,
     alloc: Global,
     changes: &mut S,
     at: u64,
-) -> Result<()> {
+) -> Result<()>
+    requires may { S.can_poll changes.old }
+    ensures may { S.can_poll changes.new }
+{
     for _poll in 0..FUEL {
-        match changes.poll_next(alloc, Moment(at * SECOND), FUEL) {
+        match changes.poll_next(alloc, Moment(at.saturating_mul(SECOND)), FUEL) {
             Ok(Next::Item(Ok(object))) => {
                 let name = object.name().unwrap_or("");
                 println!(rt;
@@ -95,43 +103,56 @@ fn print_changes<S: EventStream<Item = Arc<DynamicObject>>>(
                 )?;
             }
             Ok(Next::Item(Err(error))) => println!(rt; "{at} s: {error}")?,
-            Ok(Next::NotReady | Next::End | Next::Spent) => break,
+            Ok(_) => break,
             Err(fault) => anyhow::bail!("the stream ended: {fault:?}"),
         }
     }
     Ok(())
 }
 
+/// Prints what a reflector gives at a moment.
+fn print_events(rt: &impl Print, alloc: Global, events: &mut Events, at: u64) -> Result<()> {
+    for _poll in 0..FUEL {
+        match events.poll_next(alloc, Moment(at.saturating_mul(SECOND)), FUEL) {
+            Ok(Next::Item(Ok(event))) => println!(rt; "{at} s: {event}")?,
+            Ok(Next::Item(Err(error))) => println!(rt; "{at} s: {error}")?,
+            Ok(_) => break,
+            Err(fault) => anyhow::bail!("the reflector ended: {fault:?}"),
+        }
+    }
+    Ok(())
+}
+
+/// Prints what both streams give at each moment, and then what is stored.
+fn print_all<S: EventStream<Item = Arc<DynamicObject>>>(
+    rt: &impl Print,
+    alloc: Global,
+    changes: &mut S,
+    events: &mut Events,
+) -> Result<()>
+    requires may { S.can_poll changes.old }
+{
+    for at in WAKES {
+        print_changes(rt, alloc, changes, at)?;
+        print_events(rt, alloc, events, at)?;
+    }
+    for object in events.writer().cache().state(alloc)? {
+        let name = object.name().unwrap_or("");
+        println!(rt; "stored: {name} of version {:?}", object.resource_version())?;
+    }
+    Ok(())
+}
+
 fn main(rt: HostRuntime) -> Result<()> {
     let alloc = rt.alloc();
-    let mut changes = watcher(alloc, api(alloc)?, Config::default())
-        .default_backoff()
-        .applied_objects(alloc)
-        .predicate_filter(
-            alloc,
-            FnPredicate(generation::<DynamicObject>),
-            PredicateConfig::default(),
-        );
     let writer = Writer::new(alloc, deployments(alloc)?, 1)?;
     let mut events = watcher(alloc, api(alloc)?, Config::default())
         .default_backoff()
         .reflect(writer);
-    for at in WAKES {
-        print_changes(&rt, alloc, &mut changes, at)?;
-        for _poll in 0..FUEL {
-            match events.poll_next(alloc, Moment(at * SECOND), FUEL) {
-                Ok(Next::Item(Ok(event))) => println!(&rt; "{at} s: {event}")?,
-                Ok(Next::Item(Err(_))) => {}
-                _ => break,
-            }
-        }
-    }
-    for object in events.writer().cache().state(alloc)? {
-        println!(&rt;
-            "stored: {} of version {:?}",
-            object.name().unwrap_or(""),
-            object.resource_version()
-        )?;
-    }
-    Ok(())
+    let by_generation = FnPredicate(generation::<DynamicObject>);
+    let mut changes = watcher(alloc, api(alloc)?, Config::default())
+        .default_backoff()
+        .applied_objects(alloc)
+        .predicate_filter(alloc, by_generation, PredicateConfig::default());
+    print_all(&rt, alloc, &mut changes, &mut events)
 }
