@@ -14,3 +14,6 @@ later_later a b c m n p h k =
       goes_on = k.goes_on ∙ (ap (λ x. x ++ k.more) h.goes_on ∙ append_assoc a h.more k.more);
       rises = omega (arith, first, second);
     }
+
+pub later_equal : {V : Type 0} (a b : List (Change V)) (m n : ℕ) → a ≡ b → m ≡ n → IsLater a b m n
+later_equal a b m n e f = record { more = []; goes_on = sym e ∙ sym (append-nil a); rises = omega (arith, f) }
