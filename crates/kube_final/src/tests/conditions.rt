@@ -176,21 +176,21 @@ fn answer(alloc: Global, row: &str, object: &DynamicObject) -> Result<bool, Obje
     })
 }
 
-/// Whether a row has the answer that it wants.
-fn holds(alloc: Global, row: &Row) -> Result<bool, Fail> {
-    Ok(match answer(alloc, row.0, &object(alloc, row.1)?) {
-        Ok(true) => row.2 == "true",
-        Ok(false) => row.2 == "false",
-        Err(ObjectFault::Shape(place)) => place.as_str() == row.2,
-        Err(_) => false,
+/// Whether a condition answers of an object what is wanted.
+fn holds(alloc: Global, condition: &str, text: &str, wanted: &str) -> Result<bool, Fail> {
+    Ok(match answer(alloc, condition, &object(alloc, text)?) {
+        Ok(true) => wanted == "true",
+        Ok(false) => wanted == "false",
+        Err(ObjectFault::Shape(place)) => place.as_str() == wanted,
+        Err(_fault) => false,
     })
 }
 
 #[test]
 fn conditions_of_known_types(rt: HostRuntime) -> Result<(), Fail> {
     let alloc = rt.alloc();
-    for row in &ROWS {
-        assert_eq!(&rt; holds(alloc, row)?, true);
+    for (condition, text, wanted) in ROWS {
+        assert_eq!(&rt; holds(alloc, condition, text, wanted)?, true);
     }
     Ok(())
 }

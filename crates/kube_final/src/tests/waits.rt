@@ -59,7 +59,7 @@ fn found_text(
     found: Next<Result<Option<Arc<DynamicObject>>, Error>>,
 ) -> Result<String, Fail> {
     Ok(match found {
-        Next::Item(Ok(Some(_))) => String::from_str(alloc, "object")?,
+        Next::Item(Ok(Some(_object))) => String::from_str(alloc, "object")?,
         Next::Item(Ok(None)) => String::from_str(alloc, "none")?,
         Next::Item(Err(error)) => format!(in alloc; "{error}")?,
         Next::NotReady => String::from_str(alloc, "not ready")?,
