@@ -1,5 +1,3 @@
-pub mod Escapes
 pub mod LifeLaws
-pub mod Loops
 pub mod WaitLaws
 pub mod WaitLoops

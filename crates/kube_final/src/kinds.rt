@@ -5,9 +5,8 @@ ghost use Rattle.serde_json.specs.View.{view};
 ghost use Rattle.kube_meta.specs.Places.{Gives};
 ghost use Rattle.kube_final.specs.Kinds.{definition_at, deployment_at, ingress_object_at, job_at, pod_at, service_at};
 
-use crate::copies::copy_metadata;
 use crate::parts::{ConditionsStatus, ExposedStatus, PodStatus, ServiceSpec};
-use crate::reading::maybe_member;
+use kube_meta::reading::maybe_member;
 use kube_meta::{DynamicObject, ObjectFault, ObjectMeta, Resource};
 use std::alloc::Global;
 
@@ -28,7 +27,7 @@ impl Pod {
         ensures { Gives (λ x. x) result (pod_at object.now.metadata (view object.now.content)) }
     {
         let status = maybe_member(alloc, &object.content, "status")?;
-        let metadata = copy_metadata(alloc, &object.metadata)?;
+        let metadata = object.metadata.copy(alloc)?;
         Ok(Pod { metadata, status })
     }
 }
@@ -88,7 +87,7 @@ impl Job {
         ensures { Gives (λ x. x) result (job_at object.now.metadata (view object.now.content)) }
     {
         let status = maybe_member(alloc, &object.content, "status")?;
-        let metadata = copy_metadata(alloc, &object.metadata)?;
+        let metadata = object.metadata.copy(alloc)?;
         Ok(Job { metadata, status })
     }
 }
@@ -148,7 +147,7 @@ impl Deployment {
         ensures { Gives (λ x. x) result (deployment_at object.now.metadata (view object.now.content)) }
     {
         let status = maybe_member(alloc, &object.content, "status")?;
-        let metadata = copy_metadata(alloc, &object.metadata)?;
+        let metadata = object.metadata.copy(alloc)?;
         Ok(Deployment { metadata, status })
     }
 }
@@ -210,7 +209,7 @@ impl Service {
     {
         let spec = maybe_member(alloc, &object.content, "spec")?;
         let status = maybe_member(alloc, &object.content, "status")?;
-        let metadata = copy_metadata(alloc, &object.metadata)?;
+        let metadata = object.metadata.copy(alloc)?;
         Ok(Service {
             metadata,
             spec,
@@ -274,7 +273,7 @@ impl Ingress {
         ensures { Gives (λ x. x) result (ingress_object_at object.now.metadata (view object.now.content)) }
     {
         let status = maybe_member(alloc, &object.content, "status")?;
-        let metadata = copy_metadata(alloc, &object.metadata)?;
+        let metadata = object.metadata.copy(alloc)?;
         Ok(Ingress { metadata, status })
     }
 }
@@ -337,7 +336,7 @@ impl CustomResourceDefinition {
         ensures { Gives (λ x. x) result (definition_at object.now.metadata (view object.now.content)) }
     {
         let status = maybe_member(alloc, &object.content, "status")?;
-        let metadata = copy_metadata(alloc, &object.metadata)?;
+        let metadata = object.metadata.copy(alloc)?;
         Ok(CustomResourceDefinition { metadata, status })
     }
 }

@@ -2,7 +2,6 @@
 #![tactic(auto)]
 
 pub mod conditions;
-mod copies;
 pub mod delete;
 pub mod finalizer;
 pub mod kinds;
@@ -10,7 +9,6 @@ pub mod laws;
 mod life;
 pub mod parts;
 mod patches;
-mod reading;
 pub mod wait;
 
 pub use delete::{DeleteAndFinalize, DeleteFailed};

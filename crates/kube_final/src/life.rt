@@ -4,8 +4,8 @@ ghost use Rattle.std.specs.Prelude.{◌≡◌, ◌++◌, ◌∷◌, [], map, tru
 ghost use Rattle.kube_final.specs.Lives.{after, applies as applies_in, arrived as arrived_in, beginning, cleans as cleans_in, count_of, decided_on, decision_at, is_among, is_at, is_empty, is_made, is_there, may_follow as may_follow_in, may_send as may_send_in, patched_by, same_names, state_after, state_at, state_of};
 ghost use Rattle.kube_final.specs.Pasts.{decided_in, noted, past_in};
 
-use crate::copies::copy_texts;
 use crate::finalizer::{Decision, decided, index_of};
+use kube_meta::text::copy_texts;
 use kube_meta::{List, NoMemory, Text};
 use std::alloc::Global;
 

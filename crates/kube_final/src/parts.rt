@@ -2,7 +2,7 @@
 
 ghost use Rattle.kube_final.specs.Kinds.{balancer_at, condition_at, conditions_at, exposed_at, ingress_at, pod_status_at, service_spec_at};
 
-use crate::reading::{Readable, is_object, maybe_member, member};
+use kube_meta::reading::{Readable, is_object, maybe_member, member};
 use kube_meta::{List, ObjectFault, Text};
 use serde_json::Value;
 use std::alloc::Global;

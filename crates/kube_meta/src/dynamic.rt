@@ -1,6 +1,6 @@
 //! Objects whose type is known only as the program runs (`kube::core::dynamic`).
 
-ghost use Rattle.std.specs.Prelude.{◌≡◌, refl};
+ghost use Rattle.std.specs.Prelude.{◌≡◌, IfOk, refl};
 
 use crate::memory::NoMemory;
 use crate::metadata::{ObjectMeta, TypeMeta};
@@ -38,6 +38,7 @@ pub struct DynamicObject {
 }
 
 impl DynamicObject {
+    ghost use Rattle.kube_meta.specs.Reading.{seen_object};
     ghost use Rattle.kube_meta.specs.Resources.{bare_object};
 
     /// An object of which the metadata alone is there.
@@ -49,6 +50,31 @@ impl DynamicObject {
             metadata,
             content: Value::Null,
         }
+    }
+
+    /// An equal object in memory of its own.
+    ///
+    /// Errors: `NoMemory`.
+    pub fn copy(&self, alloc: Global) -> Result<DynamicObject, NoMemory>
+        ensures { IfOk result (λ o. seen_object o ≡ seen_object self.now) }
+    {
+        let types = copy_types(alloc, &self.types)?;
+        let metadata = self.metadata.copy(alloc)?;
+        let content = self.content.clone()?;
+        Ok(DynamicObject {
+            types,
+            metadata,
+            content,
+        })
+    }
+}
+
+fn copy_types(alloc: Global, types: &Option<TypeMeta>) -> Result<Option<TypeMeta>, NoMemory>
+    ensures { IfOk result (λ t. t ≡ types.now) }
+{
+    match types {
+        Some(types) => Ok(Some(types.copy(alloc)?)),
+        None => Ok(None),
     }
 }
 

@@ -1,11 +1,13 @@
 //! Metadata of objects (`kube::core::metadata`, and `ObjectMeta` and `OwnerReference` of the Kubernetes API).
 
-ghost use Rattle.std.specs.Prelude.{◌≡◌, None, refl};
+ghost use Rattle.std.specs.Prelude.{◌≡◌, None, IfOk, refl};
 
 use crate::list::List;
+use crate::memory::NoMemory;
 use crate::resource::{Resource, TypeInfo};
-use crate::text::Text;
+use crate::text::{Text, copy_option, copy_texts};
 use crate::text_map::TextMap;
+use std::alloc::Global;
 use std::marker::PhantomData;
 
 /// The object that an object belongs to (Kubernetes API concept "owners and dependents").
@@ -16,6 +18,62 @@ pub struct OwnerReference {
     pub kind: Text,
     pub name: Text,
     pub uid: Text,
+}
+
+impl OwnerReference {
+    /// An equal reference in memory of its own.
+    ///
+    /// Errors: `NoMemory`.
+    pub fn copy(&self, alloc: Global) -> Result<OwnerReference, NoMemory>
+        ensures { IfOk result (λ o. o ≡ self.now) }
+    {
+        Ok(OwnerReference {
+            api_version: self.api_version.copy(alloc)?,
+            kind: self.kind.copy(alloc)?,
+            name: self.name.copy(alloc)?,
+            uid: self.uid.copy(alloc)?,
+        })
+    }
+}
+
+fn copy_owners(alloc: Global, owners: &[OwnerReference]) -> Result<List<OwnerReference>, NoMemory>
+    ensures { IfOk result (λ l. l ≡ owners.now) }
+{
+    let mut copies = List::new(alloc);
+    for owner in owners {
+        copies.push(owner.copy(alloc)?)?;
+    }
+    Ok(copies)
+}
+
+fn copy_owner_list(
+    alloc: Global,
+    list: &Option<List<OwnerReference>>,
+) -> Result<Option<List<OwnerReference>>, NoMemory>
+    ensures { IfOk result (λ l. l ≡ list.now) }
+{
+    match list {
+        Some(list) => Ok(Some(copy_owners(alloc, list.as_slice())?)),
+        None => Ok(None),
+    }
+}
+
+fn copy_text_list(alloc: Global, list: &Option<List<Text>>) -> Result<Option<List<Text>>, NoMemory>
+    ensures { IfOk result (λ l. l ≡ list.now) }
+{
+    match list {
+        Some(list) => Ok(Some(copy_texts(alloc, list.as_slice())?)),
+        None => Ok(None),
+    }
+}
+
+fn copy_map(map: &Option<TextMap>) -> Result<Option<TextMap>, NoMemory>
+    ensures { IfOk result (λ m. m ≡ map.now) }
+{
+    match map {
+        Some(map) => Ok(Some(map.copy()?)),
+        None => Ok(None),
+    }
 }
 
 /// The metadata of an object (Kubernetes API concept "object metadata"). Other members of it are not kept.
@@ -64,6 +122,26 @@ impl ObjectMeta {
             owner_references: None,
         }
     }
+
+    /// Equal metadata in memory of its own.
+    ///
+    /// Errors: `NoMemory`.
+    pub fn copy(&self, alloc: Global) -> Result<ObjectMeta, NoMemory>
+        ensures { IfOk result (λ m. m ≡ self.now) }
+    {
+        Ok(ObjectMeta {
+            name: copy_option(alloc, &self.name)?,
+            namespace: copy_option(alloc, &self.namespace)?,
+            uid: copy_option(alloc, &self.uid)?,
+            resource_version: copy_option(alloc, &self.resource_version)?,
+            deletion_timestamp: copy_option(alloc, &self.deletion_timestamp)?,
+            generation: self.generation,
+            labels: copy_map(&self.labels)?,
+            annotations: copy_map(&self.annotations)?,
+            finalizers: copy_text_list(alloc, &self.finalizers)?,
+            owner_references: copy_owner_list(alloc, &self.owner_references)?,
+        })
+    }
 }
 
 /// An object's own word on its type (`kube::core::TypeMeta`).
@@ -72,6 +150,20 @@ pub struct TypeMeta {
     /// The group and the version, as `group/version`, or the version alone where the group is empty.
     pub api_version: Text,
     pub kind: Text,
+}
+
+impl TypeMeta {
+    /// Equal types in memory of their own.
+    ///
+    /// Errors: `NoMemory`.
+    pub fn copy(&self, alloc: Global) -> Result<TypeMeta, NoMemory>
+        ensures { IfOk result (λ t. t ≡ self.now) }
+    {
+        Ok(TypeMeta {
+            api_version: self.api_version.copy(alloc)?,
+            kind: self.kind.copy(alloc)?,
+        })
+    }
 }
 
 /// An object of which the metadata alone is held (`kube::core::PartialObjectMeta`).

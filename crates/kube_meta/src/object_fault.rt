@@ -24,14 +24,16 @@ pub enum ObjectFault {
 
 impl ObjectFault {
     /// A fault of form of the value itself.
-    pub(crate) fn shape(alloc: Global) -> ObjectFault
+    pub fn shape(alloc: Global) -> ObjectFault
         ensures { result ≡ shape [] }
     {
         ObjectFault::Shape(Text::from(String::new(alloc)))
     }
 
-    /// The same, seen from the object whose member the value is.
-    pub(crate) fn under(self, alloc: Global, name: &str) -> ObjectFault
+    /// The same, seen from the object whose member of that name the value is: the place with the name in front.
+    ///
+    /// `NoMemory` where the place couldn't be made.
+    pub fn under(self, alloc: Global, name: &str) -> ObjectFault
         ensures { IsUnlessMemory result (under_part (escaped name.now) self) }
     {
         match escape(alloc, name) {
@@ -40,8 +42,10 @@ impl ObjectFault {
         }
     }
 
-    /// The same, seen from the list whose item the value is.
-    pub(crate) fn in_item(self, alloc: Global, index: usize) -> ObjectFault
+    /// The same, seen from the list whose item of that index the value is, the first 0.
+    ///
+    /// `NoMemory` where the place couldn't be made.
+    pub fn in_item(self, alloc: Global, index: usize) -> ObjectFault
         ensures { IsUnlessMemory result (under_part (decimal index) self) }
     {
         match format!(in alloc; "{index}") {

@@ -47,10 +47,13 @@ pub fn read_object(alloc: Global, value: Value) -> Result<DynamicObject, ObjectF
 }
 
 /// What a value can be read as.
-pub(crate) trait Readable: Drop {
+pub trait Readable: Drop {
     /// The reading, with the first fault.
     ghost reads: { Data → Result Self fault_data };
 
+    /// Reads a value.
+    ///
+    /// Errors: `Shape` and `Fraction` with the place of the first fault (a JSON Pointer, RFC 6901), and `NoMemory`.
     fn read(alloc: Global, value: &Value) -> Result<Self, ObjectFault>
         ensures { Gives (λ x. x) result (reads (view value.now)) };
 }
@@ -130,8 +133,10 @@ fn items<T: Readable>(alloc: Global, values: &[Value]) -> Result<List<T>, Object
 }
 
 /// A member that must be there.
+///
+/// Errors: `Shape` with the member's place where it is absent, those of its reading under its place, and `NoMemory`.
 #[tactic(auto, unfolding(crate::specs::Reading::field))]
-fn member<T: Readable>(alloc: Global, value: &Value, name: &str) -> Result<T, ObjectFault>
+pub fn member<T: Readable>(alloc: Global, value: &Value, name: &str) -> Result<T, ObjectFault>
     ensures { Gives (λ x. x) result (field name.now T.reads (view value.now)) }
 {
     match value.get(name) {
@@ -144,8 +149,10 @@ fn member<T: Readable>(alloc: Global, value: &Value, name: &str) -> Result<T, Ob
 }
 
 /// A member that may be absent or null.
+///
+/// Errors: those of its reading under its place, and `NoMemory`.
 #[tactic(auto, unfolding(crate::specs::Reading::maybe_field))]
-fn maybe_member<T: Readable>(
+pub fn maybe_member<T: Readable>(
     alloc: Global,
     value: &Value,
     name: &str,
@@ -209,8 +216,10 @@ fn unless_no_item<T: Drop>(items: List<T>) -> Option<List<T>>
 }
 
 /// The value is an object, whatever its members.
+///
+/// Errors: `Shape` with the empty place where it is none, and `NoMemory`.
 #[tactic(auto, unfolding(crate::specs::Reading::object_at))]
-fn is_object(alloc: Global, value: &Value) -> Result<(), ObjectFault>
+pub fn is_object(alloc: Global, value: &Value) -> Result<(), ObjectFault>
     ensures { Gives (λ x. x) result (object_at (view value.now)) }
 {
     match value.as_object() {

@@ -40,21 +40,27 @@ pub trait Resource: Drop {
     /// The object with other metadata.
     ghost with_meta: { Self → ObjectMeta → Self };
 
+    /// The kind's name in the singular, as `Pod` (`kind` in an object's JSON).
     fn kind(t: &Self::DynamicType) -> &str
         ensures { result.now ≡ (type_of t.now).kind };
 
+    /// The API group, as `apps`; empty for the core group.
     fn group(t: &Self::DynamicType) -> &str
         ensures { result.now ≡ (type_of t.now).group };
 
+    /// The version within the API group, as `v1`.
     fn version(t: &Self::DynamicType) -> &str
         ensures { result.now ≡ (type_of t.now).version };
 
+    /// The resource's name in the plural, as in the path of its URL (`pods`).
     fn plural(t: &Self::DynamicType) -> &str
         ensures { result.now ≡ (type_of t.now).plural };
 
+    /// The object's metadata (`metadata` in its JSON).
     fn meta(&self) -> &ObjectMeta
         ensures { result.now ≡ meta_of self.now };
 
+    /// The object's metadata, to be written: what is written there is what `meta` then gives.
     fn meta_mut(&mut self) -> &mut ObjectMeta
         ensures* lends { sem 𝓛 (Lends Self.row meta_row self.entry result (with_meta self.old)) }
         ensures value { result.now ≡ meta_of self.old };

@@ -8,6 +8,7 @@ ghost use Rattle.std.specs.Cmp.Lexicographic.{nat_list_eq_equiv};
 ghost use Rattle.std.specs.Cmp.Rules.{hashing};
 ghost use Rattle.std.proofs.Common.{rules};
 
+use crate::list::List;
 use crate::memory::NoMemory;
 use std::alloc::{AllocError, Global};
 use std::fmt;
@@ -128,6 +129,19 @@ impl fmt::Display for Text {
     fn fmt<W: fmt::Write>(&self, f: &mut fmt::Formatter<W>) -> fmt::Result {
         f.write_str(self.inner.as_str())
     }
+}
+
+/// Equal texts in memory of their own.
+///
+/// Errors: `NoMemory`.
+pub fn copy_texts(alloc: Global, texts: &[Text]) -> Result<List<Text>, NoMemory>
+    ensures { IfOk result (λ l. l ≡ texts.now) }
+{
+    let mut copies = List::new(alloc);
+    for text in texts {
+        copies.push(text.copy(alloc)?)?;
+    }
+    Ok(copies)
 }
 
 /// A copy of a text that may be absent.

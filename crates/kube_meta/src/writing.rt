@@ -79,6 +79,9 @@ fn put_types(
 trait Writable: Drop {
     ghost data_of: { Self → Data };
 
+    /// The value.
+    ///
+    /// Errors: `NoMemory`.
     fn value(&self, alloc: Global) -> Result<Value, NoMemory>
         ensures { IfOk result (λ v. view v ≡ data_of self.now) };
 }

@@ -38,6 +38,7 @@ impl Model for ScriptObject {
 }
 
 impl ScriptObject {
+    /// An object whose content holds no fraction, as a script's object.
     pub fn new(object: DynamicObject) -> ScriptObject
         requires { has_float (view object.content) ≡ false }
         ensures { result ≡ seen_object object }

@@ -150,7 +150,8 @@ pub fn in_order<K: Resource>(alloc: Global, items: &[Stored<K>]) -> Result<Vec<u
 /// Whether no reference stands at two of all places, and those at the places rise.
 pub fn rise<K: Resource>(items: &[Stored<K>], places: &[usize]) -> bool
     requires { AreAll (length items.now) places.now }
-    ensures { result ≡ true → IsIndex (references (all_stored K.type_of items.now)) places.now }
+    ensures index { result ≡ true → IsIndex (references (all_stored K.type_of items.now)) places.now }
+    ensures all { IsIndex (references (all_stored K.type_of items.now)) places.now → result ≡ true }
 {
     for i in 1..places.len() {
         let before = &*items[places[i - 1]].reference;

@@ -23,7 +23,9 @@ pub struct Stored<K: Resource> {
 }
 
 impl<K: Resource> Stored<K> {
-    // The same reference and object once more.
+    /// The same reference and object once more, shared.
+    ///
+    /// Errors: `NoMemory`.
     pub fn again(&self) -> Result<Stored<K>, NoMemory>
         ensures { IfOk result (λ s. stored_of K.type_of s ≡ stored_of K.type_of self.now) }
     {

@@ -1,5 +1,6 @@
 //! Worked scripts, and what no clause says.
 
+mod examples;
 mod objects;
 mod texts;
 

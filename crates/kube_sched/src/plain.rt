@@ -31,6 +31,7 @@ pub struct Plain {
 }
 
 impl Plain {
+    /// No entries, with a debounce in nanoseconds.
     pub fn new(alloc: Global, debounce: u64) -> Plain {
         Plain {
             debounce,
@@ -57,6 +58,7 @@ impl Plain {
         Ok(())
     }
 
+    /// A request for a message at a moment, asked now.
     pub fn request(&mut self, message: Message, run_at: u64, now: u64) -> Result<(), Fail> {
         let number = self.requests;
         self.requests = number.wrapping_add(1);
@@ -75,6 +77,7 @@ impl Plain {
         self.put(message.key, Some(entry))
     }
 
+    /// What is due now waits from now on.
     pub fn settle(&mut self, now: u64) {
         for entry in self.entries.iter_mut() {
             if entry.settle.is_none() && entry.time <= now {
@@ -101,6 +104,7 @@ impl Plain {
         }
     }
 
+    /// Whether the message of a key waits.
     pub fn is_waiting(&self, key: u8) -> bool {
         match self.entry(key) {
             Some(entry) => entry.settle.is_some(),
@@ -108,10 +112,12 @@ impl Plain {
         }
     }
 
+    /// How many messages have an entry.
     pub fn len(&self) -> usize {
         self.entries.len()
     }
 
+    /// How many messages wait.
     pub fn waiting_len(&self) -> usize {
         self.entries
             .iter()

@@ -1,4 +1,3 @@
-pub mod Escapes
 pub mod Loops
 pub mod Steps
 pub mod Members

@@ -2,7 +2,6 @@
 #![tactic(auto)]
 
 pub mod backoff;
-pub mod fault;
 pub mod load;
 pub mod owned;
 pub mod row;

@@ -10,7 +10,6 @@ ghost use Rattle.kube_meta.specs.Places.{Gives};
 ghost use Rattle.kube_meta.specs.Reading.{ObjectData as object_record, object_data_at, field, needed, items_at, list_at, optional, maybe_field};
 ghost use Rattle.kube_script.specs.Reading.{list_field, list_of};
 
-use crate::fault::{in_item, misshapen, under};
 use kube_meta::ObjectFault;
 use kube_object::ScriptObject;
 use serde_json::Value;
@@ -27,6 +26,9 @@ pub trait OwnedRow: Drop {
     /// The reading, with the first fault.
     ghost reads: { Data → Result Seen fault_data };
 
+    /// Reads a value, whose members may be moved.
+    ///
+    /// Errors: `Shape` and `Fraction` with the place of the first fault (a JSON Pointer, RFC 6901), and `NoMemory`.
     fn read(alloc: Global, value: Value) -> Result<Self, ObjectFault>
         ensures { Gives seen result (reads (view value)) };
 }
@@ -67,7 +69,7 @@ impl<R: OwnedRow> OwnedRow for Vec<R> {
     fn read(alloc: Global, value: Value) -> Result<Vec<R>, ObjectFault> {
         match value {
             Value::Array(values) => owned_items(alloc, values),
-            _ => Err(misshapen(alloc)),
+            _ => Err(ObjectFault::shape(alloc)),
         }
     }
 }
@@ -80,7 +82,7 @@ fn owned_items<R: OwnedRow>(alloc: Global, values: Vec<Value>) -> Result<Vec<R>,
     for value in values {
         match R::read(alloc, value) {
             Ok(row) => rows.push(row)?,
-            Err(fault) => return Err(in_item(alloc, fault, rows.len())),
+            Err(fault) => return Err(fault.in_item(alloc, rows.len())),
         }
     }
     Ok(rows)
@@ -92,10 +94,10 @@ pub fn owned_member<R: OwnedRow>(alloc: Global, value: Value, name: &str) -> Res
     ensures { Gives R.seen result (field name.now R.reads (view value)) }
 {
     match moved_out(value, name) {
-        None => Err(under(alloc, misshapen(alloc), name)),
+        None => Err(ObjectFault::shape(alloc).under(alloc, name)),
         Some(inner) => match R::read(alloc, inner) {
             Ok(row) => Ok(row),
-            Err(fault) => Err(under(alloc, fault, name)),
+            Err(fault) => Err(fault.under(alloc, name)),
         },
     }
 }
@@ -113,7 +115,7 @@ pub fn owned_maybe<R: OwnedRow>(
         None => Ok(None),
         Some(inner) => match unless_null(alloc, inner) {
             Ok(row) => Ok(row),
-            Err(fault) => Err(under(alloc, fault, name)),
+            Err(fault) => Err(fault.under(alloc, name)),
         },
     }
 }
@@ -162,7 +164,7 @@ pub fn list_out<R: OwnedRow>(
         Some(inner) => match unless_null(alloc, inner) {
             Ok(Some(rows)) => Ok(rows),
             Ok(None) => Ok(Vec::new(alloc)),
-            Err(fault) => Err(under(alloc, fault, name)),
+            Err(fault) => Err(fault.under(alloc, name)),
         },
     }
 }
@@ -176,10 +178,10 @@ pub fn member_out<R: OwnedRow>(
     ensures { Gives R.seen result (needed name.now R.reads (option_map view value)) }
 {
     match value {
-        None => Err(under(alloc, misshapen(alloc), name)),
+        None => Err(ObjectFault::shape(alloc).under(alloc, name)),
         Some(inner) => match R::read(alloc, inner) {
             Ok(row) => Ok(row),
-            Err(fault) => Err(under(alloc, fault, name)),
+            Err(fault) => Err(fault.under(alloc, name)),
         },
     }
 }

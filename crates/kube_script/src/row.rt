@@ -8,7 +8,6 @@ ghost use Rattle.kube_meta.specs.Places.{Gives};
 ghost use Rattle.kube_meta.specs.Reading.{text_at, pairs_at, texts_at, items_at, list_at, field, optional, maybe_field, object_at};
 ghost use Rattle.kube_script.specs.Reading.{flag_at, number_at, small_at, short_at, default_field, list_field};
 
-use crate::fault::{in_item, misshapen, under};
 use kube_meta::{ObjectFault, Text, TextMap};
 use serde_json::{Map, Value};
 use std::alloc::Global;
@@ -23,6 +22,9 @@ pub trait Row: Drop {
     /// The reading, with the first fault.
     ghost reads: { Data → Result Seen fault_data };
 
+    /// Reads a value.
+    ///
+    /// Errors: `Shape` and `Fraction` with the place of the first fault (a JSON Pointer, RFC 6901), and `NoMemory`.
     fn read(alloc: Global, value: &Value) -> Result<Self, ObjectFault>
         ensures { Gives seen result (reads (view value.now)) };
 }
@@ -37,7 +39,7 @@ impl Row for Text {
     fn read(alloc: Global, value: &Value) -> Result<Text, ObjectFault> {
         match value.as_str() {
             Some(text) => Ok(Text::new(alloc, text)?),
-            None => Err(misshapen(alloc)),
+            None => Err(ObjectFault::shape(alloc)),
         }
     }
 }
@@ -52,7 +54,7 @@ impl Row for u64 {
     fn read(alloc: Global, value: &Value) -> Result<u64, ObjectFault> {
         match value.as_u64() {
             Some(number) => Ok(number),
-            None => Err(misshapen(alloc)),
+            None => Err(ObjectFault::shape(alloc)),
         }
     }
 }
@@ -68,7 +70,7 @@ impl Row for u32 {
     fn read(alloc: Global, value: &Value) -> Result<u32, ObjectFault> {
         let number: u64 = Row::read(alloc, value)?;
         if number > u32::MAX as u64 {
-            return Err(misshapen(alloc));
+            return Err(ObjectFault::shape(alloc));
         }
         Ok(number as u32)
     }
@@ -85,7 +87,7 @@ impl Row for u16 {
     fn read(alloc: Global, value: &Value) -> Result<u16, ObjectFault> {
         let number: u64 = Row::read(alloc, value)?;
         if number > u16::MAX as u64 {
-            return Err(misshapen(alloc));
+            return Err(ObjectFault::shape(alloc));
         }
         Ok(number as u16)
     }
@@ -101,7 +103,7 @@ impl Row for bool {
     fn read(alloc: Global, value: &Value) -> Result<bool, ObjectFault> {
         match value.as_bool() {
             Some(flag) => Ok(flag),
-            None => Err(misshapen(alloc)),
+            None => Err(ObjectFault::shape(alloc)),
         }
     }
 }
@@ -117,7 +119,7 @@ impl Row for TextMap {
     fn read(alloc: Global, value: &Value) -> Result<TextMap, ObjectFault> {
         match value.as_object() {
             Some(members) => texts(alloc, members),
-            None => Err(misshapen(alloc)),
+            None => Err(ObjectFault::shape(alloc)),
         }
     }
 }
@@ -130,7 +132,7 @@ fn texts(alloc: Global, members: &Map<String, Value>) -> Result<TextMap, ObjectF
     for (name, value) in members.iter() {
         match Text::read(alloc, value) {
             Ok(text) => texts.insert(alloc, name.as_str(), text)?,
-            Err(fault) => return Err(under(alloc, fault, name.as_str())),
+            Err(fault) => return Err(fault.under(alloc, name.as_str())),
         }
     }
     Ok(texts)
@@ -147,7 +149,7 @@ impl<R: Row> Row for Vec<R> {
     fn read(alloc: Global, value: &Value) -> Result<Vec<R>, ObjectFault> {
         match value.as_array() {
             Some(values) => items(alloc, values),
-            None => Err(misshapen(alloc)),
+            None => Err(ObjectFault::shape(alloc)),
         }
     }
 }
@@ -160,7 +162,7 @@ fn items<R: Row>(alloc: Global, values: &[Value]) -> Result<Vec<R>, ObjectFault>
     for index in 0..values.len() {
         match R::read(alloc, &values[index]) {
             Ok(row) => rows.push(row)?,
-            Err(fault) => return Err(in_item(alloc, fault, index)),
+            Err(fault) => return Err(fault.in_item(alloc, index)),
         }
     }
     Ok(rows)
@@ -172,10 +174,10 @@ pub fn member<R: Row>(alloc: Global, value: &Value, name: &str) -> Result<R, Obj
     ensures { Gives R.seen result (field name.now R.reads (view value.now)) }
 {
     match value.get(name) {
-        None => Err(under(alloc, misshapen(alloc), name)),
+        None => Err(ObjectFault::shape(alloc).under(alloc, name)),
         Some(inner) => match R::read(alloc, inner) {
             Ok(row) => Ok(row),
-            Err(fault) => Err(under(alloc, fault, name)),
+            Err(fault) => Err(fault.under(alloc, name)),
         },
     }
 }
@@ -193,7 +195,7 @@ pub fn maybe_member<R: Row>(
         None => Ok(None),
         Some(inner) => match unless_null(alloc, inner) {
             Ok(row) => Ok(row),
-            Err(fault) => Err(under(alloc, fault, name)),
+            Err(fault) => Err(fault.under(alloc, name)),
         },
     }
 }
@@ -241,6 +243,6 @@ pub fn is_object(alloc: Global, value: &Value) -> Result<(), ObjectFault>
 {
     match value.as_object() {
         Some(_) => Ok(()),
-        None => Err(misshapen(alloc)),
+        None => Err(ObjectFault::shape(alloc)),
     }
 }

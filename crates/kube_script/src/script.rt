@@ -7,7 +7,6 @@ ghost use Rattle.serde_json.specs.Find.{get};
 ghost use Rattle.serde_json.specs.View.{view};
 ghost use Rattle.std.specs.Str.{bytes_eq};
 
-use crate::fault::misshapen;
 use crate::owned::{OwnedRow, list_out, member_out};
 use crate::row::{Row, default_member, is_object, maybe_member, member};
 use crate::settings::BackoffRow;
@@ -113,7 +112,7 @@ impl Row for Mapped {
     fn read(alloc: Global, value: &Value) -> Result<Mapped, ObjectFault> {
         match value.as_str() {
             Some("owners") => Ok(Mapped::ByOwners),
-            Some(_) => Err(misshapen(alloc)),
+            Some(_) => Err(ObjectFault::shape(alloc)),
             None => {
                 is_object(alloc, value)?;
                 Ok(Mapped::ByLabel(member(alloc, value, "label")?))

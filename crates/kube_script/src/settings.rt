@@ -9,7 +9,6 @@ ghost use Rattle.kube_watch.specs.Configs.{is_any, is_streaming};
 ghost use Rattle.kube_script.specs.Seen.{seen_config, seen_backoff, seen_watcher};
 ghost use Rattle.serde_json.specs.View.{view};
 
-use crate::fault::misshapen;
 use crate::row::{Row, default_member, is_object, maybe_member, member};
 use kube_meta::{ApiResource, ObjectFault, Text, api_version};
 use kube_turn::Config;
@@ -90,7 +89,7 @@ impl Row for BackoffRow {
         match value.as_str() {
             Some("default") => Ok(BackoffRow::ByDefault),
             Some("stop") => Ok(BackoffRow::Stopping),
-            Some(_) => Err(misshapen(alloc)),
+            Some(_) => Err(ObjectFault::shape(alloc)),
             None => exponential(alloc, value),
         }
     }
@@ -158,7 +157,7 @@ impl Row for Divisor {
         let number: u64 = Row::read(alloc, value)?;
         match Divisor::new(number) {
             Some(divisor) => Ok(divisor),
-            None => Err(misshapen(alloc)),
+            None => Err(ObjectFault::shape(alloc)),
         }
     }
 }

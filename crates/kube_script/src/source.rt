@@ -13,7 +13,6 @@ ghost use Rattle.kube_script.specs.Script.{PageMeta as page_meta_record, page_me
 ghost use Rattle.kube_script.specs.SeenSource.{seen_page_meta, seen_bookmark_meta, seen_bookmark, seen_type, seen_event, seen_step};
 ghost use Rattle.serde_json.specs.View.{view};
 
-use crate::fault::{misshapen, under};
 use crate::owned::{OwnedRow, owned_list, owned_maybe, owned_member};
 use crate::row::{Row, default_member, is_object, maybe_member, member};
 use crate::status::exactly_one;
@@ -148,14 +147,14 @@ fn with_version(alloc: Global, metadata: Option<BookmarkMeta>) -> Result<Bookmar
 {
     match metadata {
         Some(metadata) => Ok(metadata),
-        None => Err(under(alloc, without_version(alloc), "metadata")),
+        None => Err(without_version(alloc).under(alloc, "metadata")),
     }
 }
 
 fn without_version(alloc: Global) -> ObjectFault
     ensures { IsUnlessMemory result (under_part (escaped (codes "resourceVersion")) (shape [])) }
 {
-    under(alloc, misshapen(alloc), "resourceVersion")
+    ObjectFault::shape(alloc).under(alloc, "resourceVersion")
 }
 
 /// The type of an event.
@@ -185,7 +184,7 @@ impl Row for EventType {
             Some("BOOKMARK") => Ok(EventType::Bookmark),
             Some("ERROR") => Ok(EventType::Error),
             Some("FAULT") => Ok(EventType::Fault),
-            _ => Err(misshapen(alloc)),
+            _ => Err(ObjectFault::shape(alloc)),
         }
     }
 }

@@ -8,7 +8,6 @@ ghost use Rattle.kube_model.specs.declared.error.Status.{Status as status_record
 ghost use Rattle.kube_script.specs.Script.{details_at, status_at, fault_at, fault_form, one_of, count_there, fault_from};
 ghost use Rattle.serde_json.specs.View.{view};
 
-use crate::fault::misshapen;
 use crate::row::{Row, default_member, is_object, maybe_member};
 use kube_meta::{ObjectFault, Text};
 use kube_model::error::{ApiError, Status};
@@ -105,7 +104,7 @@ fn error(
     }
     match transport {
         Some(text) => Ok(ApiError::Transport(text)),
-        None => Err(misshapen(alloc)),
+        None => Err(ObjectFault::shape(alloc)),
     }
 }
 
@@ -118,7 +117,7 @@ pub fn exactly_one(alloc: Global, value: &Value, names: &[&str]) -> Result<(), O
     if count(value, names) == 1 {
         return Ok(());
     }
-    Err(misshapen(alloc))
+    Err(ObjectFault::shape(alloc))
 }
 
 /// How many of the members are there.

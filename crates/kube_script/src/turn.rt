@@ -6,7 +6,6 @@ ghost use Rattle.kube_model.specs.declared.turn.Shutdown.{Shutdown as shutdown_d
 ghost use Rattle.kube_script.specs.Script.{Ref as ref_record, ref_at, Finish as finish_record, finish_at, outcome_of, shutdown_at, Turn as turn_record, turn_at};
 ghost use Rattle.kube_script.specs.SeenTurn.{seen_ref, seen_finish, seen_outcome, seen_turn};
 
-use crate::fault::misshapen;
 use crate::owned::OwnedRow;
 use crate::row::{Row, default_member, is_object, list_member, maybe_member, member};
 use kube_meta::{ObjectFault, Text};
@@ -87,7 +86,7 @@ impl Row for Shutdown {
             Some("no") => Ok(Shutdown::No),
             Some("graceful") => Ok(Shutdown::Graceful),
             Some("forced") => Ok(Shutdown::Forced),
-            _ => Err(misshapen(alloc)),
+            _ => Err(ObjectFault::shape(alloc)),
         }
     }
 }

@@ -30,6 +30,24 @@ pub history-more : {V : Type 0} (meta : V → ObjectMeta) (changes : List (Chang
     → IsHistory meta changes → IsNextChange meta changes change → IsHistory meta (changes ++ change ∷ [])
 history-more meta changes change h n = history-after-more meta [] changes change h n
 
+history-after-next : {V : Type 0} (meta : V → ObjectMeta) (front before after : List (Change V)) (change : Change V)
+    → IsHistoryAfter meta front (before ++ change ∷ after) → IsNextChange meta (front ++ before) change
+history-after-next meta front [] after change h = subst (λ b. IsNextChange meta b change) (sym (append-nil front)) h.0
+history-after-next meta front (c ∷ before) after change h =
+    subst (λ b. IsNextChange meta b change) (append_assoc front (c ∷ []) before) (history-after-next meta (front ++ c ∷ []) before after change h.1)
+
+pub history-next : {V : Type 0} (meta : V → ObjectMeta) (before after : List (Change V)) (change : Change V)
+    → IsHistory meta (before ++ change ∷ after) → IsNextChange meta before change
+history-next meta before after change h = history-after-next meta [] before after change h
+
+history-after-front : {V : Type 0} (meta : V → ObjectMeta) (front before after : List (Change V))
+    → IsHistoryAfter meta front (before ++ after) → IsHistoryAfter meta front before
+history-after-front meta front [] after h = tt
+history-after-front meta front (c ∷ before) after h = (h.0, history-after-front meta (front ++ c ∷ []) before after h.1)
+
+pub history-front : {V : Type 0} (meta : V → ObjectMeta) (before after : List (Change V)) → IsHistory meta (before ++ after) → IsHistory meta before
+history-front meta before after h = history-after-front meta [] before after h
+
 -- ---- each object stands under its own key
 
 -- keys that are the same are equal
@@ -95,7 +113,7 @@ keyed-without : {V : Type 0} (meta : V → ObjectMeta) (key : Key) (state : Stat
 keyed-without meta key [] h = tt
 keyed-without meta key (p ∷ ps) h = keyed-cond meta (same_key key p.0) ps (p ∷ without_object key ps) h.1 (h.0, keyed-without meta key ps h.1)
 
-keyed-changed : {V : Type 0} (meta : V → ObjectMeta) (state : State V) (change : Change V)
+pub keyed-changed : {V : Type 0} (meta : V → ObjectMeta) (state : State V) (change : Change V)
     → is_named (meta (object_of change)) ≡ true → AllKeyed meta state → AllKeyed meta (changed meta state change)
 keyed-changed meta state (Adds o) n h = keyed-with meta (key_of (meta o)) o state (record { key = refl; named = n }) h
 keyed-changed meta state (Modifies o) n h = keyed-with meta (key_of (meta o)) o state (record { key = refl; named = n }) h

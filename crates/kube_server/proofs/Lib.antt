@@ -17,3 +17,9 @@ pub mod LogLemmas
 pub mod ConnLemmas
 pub mod PageLemmas
 pub mod OrderLemmas
+pub mod ReaderLemmas
+pub mod WholeLemmas
+pub mod TalkLemmas
+pub mod LastLemmas
+pub mod KeyLemmas
+pub mod RowLemmas

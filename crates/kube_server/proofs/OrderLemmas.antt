@@ -19,10 +19,10 @@ abbrev pub keys_of : {V : Type 0} → State V → List Key
 keys_of state = map (λ p. p.0) state
 
 -- a key comes before all of these
-abbrev IsBelow : Key → List Key → Type 0
+abbrev pub IsBelow : Key → List Key → Type 0
 IsBelow key keys = AllByRecursion (λ k. key_cmp key k ≡ Less) keys
 
-below-all : (a b : Key) (keys : List Key) → key_cmp a b ≡ Less → IsBelow b keys → IsBelow a keys
+pub below-all : (a b : Key) (keys : List Key) → key_cmp a b ≡ Less → IsBelow b keys → IsBelow a keys
 below-all a b [] e h = tt
 below-all a b (k ∷ ks) e h = (key_total.trans a b k e h.0, below-all a b ks e h.1)
 
@@ -56,7 +56,7 @@ ascending-match key object p ps Equal e h more = h
 ascending-match key object p ps Greater e h more =
     (below-with p.0 key object ps (key_total.antisymm p.0 key ∙ ap ordering_reverse e) h.0, more)
 
-ascending-with : {V : Type 0} (key : Key) (object : V) (state : State V) → IsAscending state → IsAscending (with_object key object state)
+pub ascending-with : {V : Type 0} (key : Key) (object : V) (state : State V) → IsAscending state → IsAscending (with_object key object state)
 unfolding IsStrictlySortedBy
 ascending-with key object [] h = (tt, tt)
 ascending-with key object (p ∷ ps) h = ascending-match key object p ps (key_cmp key p.0) refl h (ascending-with key object ps h.1)
@@ -71,7 +71,7 @@ ascending-without key [] h = tt
 ascending-without key (p ∷ ps) h =
     ascending-cond (same_key key p.0) ps (p ∷ without_object key ps) h.1 (below-without p.0 key ps h.0, ascending-without key ps h.1)
 
-ascending-changed : {V : Type 0} (meta : V → ObjectMeta) (state : State V) (change : Change V) → IsAscending state → IsAscending (changed meta state change)
+pub ascending-changed : {V : Type 0} (meta : V → ObjectMeta) (state : State V) (change : Change V) → IsAscending state → IsAscending (changed meta state change)
 ascending-changed meta state (Adds o) h = ascending-with (key_of (meta o)) o state h
 ascending-changed meta state (Modifies o) h = ascending-with (key_of (meta o)) o state h
 ascending-changed meta state (Removes o) h = ascending-without (key_of (meta o)) state h

@@ -3,6 +3,8 @@ pub mod History
 pub mod Numbers
 pub mod Tokens
 pub mod Honest
+pub mod Readers
+pub mod TalkRows
 pub mod Connections
 pub mod Servers
 pub mod Stored

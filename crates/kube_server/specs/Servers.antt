@@ -43,6 +43,10 @@ held_under s key = option_map seen_object (object_at key (state_of meta_of s.cha
 abbrev pub held : ServerState → Reference → Option ObjectData
 held s r = if same_type r.kind s.kind then held_under s (reference_key r) else None
 
+-- the object itself, with all that isn't seen of it
+abbrev pub held_object : ServerState → Reference → Option DynamicObject
+held_object s r = if same_type r.kind s.kind then object_at (reference_key r) (state_of meta_of s.changes) else None
+
 -- ---- one change
 
 -- the history has this change more, and all else is as before

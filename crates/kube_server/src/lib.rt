@@ -9,6 +9,7 @@ mod object;
 mod object_told;
 mod objects;
 mod place;
+pub mod rows;
 mod selector;
 pub mod server;
 mod server_objects;

@@ -1,4 +1,4 @@
-//! Objects with other metadata, and copies of objects.
+//! Objects with other metadata.
 
 ghost use Rattle.std.specs.Prelude.{◌≡◌, ◌++◌, IfOk, Some, None, option_map, option_copied, decimal, codes};
 ghost use Rattle.std.specs.Arc.{arc_value};
@@ -10,120 +10,9 @@ ghost use Rattle.kube_server.specs.Stored.{change_of};
 use crate::entry::Entry;
 use crate::token::decimal;
 use kube_meta::text::copy_option;
-use kube_meta::{
-    DynamicObject, List, Moment, NoMemory, ObjectMeta, OwnerReference, Text, TextMap, TypeMeta,
-};
+use kube_meta::{DynamicObject, Moment, NoMemory, ObjectMeta, Text};
 use std::alloc::Global;
 use std::sync::Arc;
-
-fn copy_types(alloc: Global, types: &Option<TypeMeta>) -> Result<Option<TypeMeta>, NoMemory>
-    ensures { IfOk result (λ t. t ≡ types.now) }
-{
-    match types {
-        Some(types) => Ok(Some(TypeMeta {
-            api_version: types.api_version.copy(alloc)?,
-            kind: types.kind.copy(alloc)?,
-        })),
-        None => Ok(None),
-    }
-}
-
-fn copy_map(map: &Option<TextMap>) -> Result<Option<TextMap>, NoMemory>
-    ensures { IfOk result (λ m. m ≡ map.now) }
-{
-    match map {
-        Some(map) => Ok(Some(map.copy()?)),
-        None => Ok(None),
-    }
-}
-
-fn copy_texts(alloc: Global, texts: &Option<List<Text>>) -> Result<Option<List<Text>>, NoMemory>
-    ensures { IfOk result (λ l. l ≡ texts.now) }
-{
-    match texts {
-        Some(texts) => Ok(Some(copy_each_text(alloc, texts.as_slice())?)),
-        None => Ok(None),
-    }
-}
-
-fn copy_each_text(alloc: Global, texts: &[Text]) -> Result<List<Text>, NoMemory>
-    ensures { IfOk result (λ l. l ≡ texts.now) }
-{
-    let mut all = List::new(alloc);
-    for text in texts {
-        all.push(text.copy(alloc)?)?;
-    }
-    Ok(all)
-}
-
-fn copy_owner(alloc: Global, owner: &OwnerReference) -> Result<OwnerReference, NoMemory>
-    ensures { IfOk result (λ o. o ≡ owner.now) }
-{
-    Ok(OwnerReference {
-        api_version: owner.api_version.copy(alloc)?,
-        kind: owner.kind.copy(alloc)?,
-        name: owner.name.copy(alloc)?,
-        uid: owner.uid.copy(alloc)?,
-    })
-}
-
-fn copy_each_owner(
-    alloc: Global,
-    owners: &[OwnerReference],
-) -> Result<List<OwnerReference>, NoMemory>
-    ensures { IfOk result (λ l. l ≡ owners.now) }
-{
-    let mut all = List::new(alloc);
-    for owner in owners {
-        all.push(copy_owner(alloc, owner)?)?;
-    }
-    Ok(all)
-}
-
-fn copy_owners(
-    alloc: Global,
-    owners: &Option<List<OwnerReference>>,
-) -> Result<Option<List<OwnerReference>>, NoMemory>
-    ensures { IfOk result (λ l. l ≡ owners.now) }
-{
-    match owners {
-        Some(owners) => Ok(Some(copy_each_owner(alloc, owners.as_slice())?)),
-        None => Ok(None),
-    }
-}
-
-fn copy_meta(alloc: Global, meta: &ObjectMeta) -> Result<ObjectMeta, NoMemory>
-    ensures { IfOk result (λ m. m ≡ meta.now) }
-{
-    Ok(ObjectMeta {
-        name: copy_option(alloc, &meta.name)?,
-        namespace: copy_option(alloc, &meta.namespace)?,
-        uid: copy_option(alloc, &meta.uid)?,
-        resource_version: copy_option(alloc, &meta.resource_version)?,
-        deletion_timestamp: copy_option(alloc, &meta.deletion_timestamp)?,
-        generation: meta.generation,
-        labels: copy_map(&meta.labels)?,
-        annotations: copy_map(&meta.annotations)?,
-        finalizers: copy_texts(alloc, &meta.finalizers)?,
-        owner_references: copy_owners(alloc, &meta.owner_references)?,
-    })
-}
-
-/// An equal object in memory of its own.
-///
-/// Errors: `NoMemory`.
-pub(crate) fn copy_object(alloc: Global, object: &DynamicObject) -> Result<DynamicObject, NoMemory>
-    ensures { IfOk result (λ o. seen_object o ≡ seen_object object.now) }
-{
-    let types = copy_types(alloc, &object.types)?;
-    let metadata = copy_meta(alloc, &object.metadata)?;
-    let content = object.content.clone()?;
-    Ok(DynamicObject {
-        types,
-        metadata,
-        content,
-    })
-}
 
 /// The object with a revision as its version.
 ///

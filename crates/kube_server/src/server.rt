@@ -9,11 +9,11 @@ ghost use Rattle.kube_meta.specs.Reading.{seen_object};
 ghost use Rattle.kube_api.specs.Patches.{operation_of};
 ghost use Rattle.kube_api.specs.declared.patch.PatchRefusal.TheVariants.{NoMemory as patch_memory, NotFound as patch_missing};
 ghost use Rattle.kube_server.specs.History.{key_of, change_seen, object_at, state_of, IsNextChange, IsHistory, IsLater};
-ghost use Rattle.kube_server.specs.Servers.{ServerState, meta_of, newest, next_revision, reference_key, held_under, held, IsStep, IsAtMostStep, IsMade, IsHeldAnd, IsPatched, put_change, remove_change, deletion, patch_change, IsPatchRefusal, compacted_to, removal};
+ghost use Rattle.kube_server.specs.Servers.{ServerState, meta_of, newest, next_revision, reference_key, held_under, held, held_object, IsStep, IsAtMostStep, IsMade, IsHeldAnd, IsPatched, put_change, remove_change, deletion, patch_change, IsPatchRefusal, compacted_to, removal};
 ghost use Rattle.kube_server.specs.Stored.{change_of, key_at};
 
 use crate::entry::Entry;
-use crate::object::{copy_object, deleting, has_finalizers, is_gone, put_entry, versioned};
+use crate::object::{deleting, has_finalizers, is_gone, put_entry, versioned};
 use crate::objects::Objects;
 use crate::place::{Place, place_named, place_of};
 use kube_api::{Patch, PatchRefusal, apply_patch};
@@ -98,7 +98,7 @@ fn is_same_type(a: &ApiResource, b: &ApiResource) -> bool
 fn removed(alloc: Global, stored: &DynamicObject, revision: u64) -> Result<Entry, NoMemory>
     ensures { IfOk result (λ e. change_seen seen_object (change_of e) ≡ removal revision (seen_object stored.now)) }
 {
-    let object = versioned(alloc, copy_object(alloc, stored)?, revision)?;
+    let object = versioned(alloc, stored.copy(alloc)?, revision)?;
     Ok(Entry::Deleted(Arc::new(alloc, object)?))
 }
 
@@ -119,7 +119,7 @@ fn deleted(
     if stored.metadata.deletion_timestamp.is_some() {
         return Ok(None);
     }
-    let object = deleting(alloc, copy_object(alloc, stored)?, revision, now)?;
+    let object = deleting(alloc, stored.copy(alloc)?, revision, now)?;
     Ok(Some(Entry::Modified(Arc::new(alloc, object)?)))
 }
 
@@ -270,6 +270,21 @@ impl Server {
         self.compacted = self.compacted.max(revision.min(self.revision()));
     }
 
+    /// The object of a reference, as the newest revision has it; none where there is none.
+    ///
+    /// Errors: `NoMemory`.
+    pub fn get(
+        &self,
+        alloc: Global,
+        key: &ObjectRef<DynamicObject>,
+    ) -> Result<Option<&Arc<DynamicObject>>, NoMemory>
+        ensures object { IfOk result (λ o. option_map arc_value (option_copied o) ≡ held_object self.now (reference_of (λ t. resource_type t.value) key.now)) }
+        ensures held { IfOk result (λ o. option_map (λ a. seen_object (arc_value a)) (option_copied o) ≡ held self.now (reference_of (λ t. resource_type t.value) key.now)) }
+    {
+        let place = place_named(alloc, key)?;
+        Ok(self.stored(key, &place))
+    }
+
     // The entries from the first on.
     pub(crate) fn entries(&self) -> &[Entry]
         ensures { map change_of result.now ≡ self.now.changes }
@@ -315,7 +330,8 @@ impl Server {
         place: &Place,
     ) -> Option<&Arc<DynamicObject>>
         requires { key_at place.now ≡ reference_key (reference_of (λ t. resource_type t.value) key.now) }
-        ensures { option_map (λ a. seen_object (arc_value a)) (option_copied result) ≡ held self.now (reference_of (λ t. resource_type t.value) key.now) }
+        ensures held { option_map (λ a. seen_object (arc_value a)) (option_copied result) ≡ held self.now (reference_of (λ t. resource_type t.value) key.now) }
+        ensures object { option_map arc_value (option_copied result) ≡ held_object self.now (reference_of (λ t. resource_type t.value) key.now) }
     {
         if !is_same_type(&key.dyntype, &self.resource) {
             return None;

@@ -35,6 +35,7 @@ pub struct LinearBackoff {
 }
 
 impl LinearBackoff {
+    /// Delays of one step, two steps and so on; the step in nanoseconds.
     pub fn new(step: u64) -> LinearBackoff
         ensures { result ≡ record { step = step; next = step } }
     {

@@ -26,6 +26,7 @@ impl<T> Model for Settle<T> {
 }
 
 impl<T: Drop> Settle<T> {
+    /// Nothing listed yet.
     pub fn new(alloc: Global) -> Settle<T>
         ensures { result ≡ [] }
     {

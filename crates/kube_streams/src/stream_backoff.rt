@@ -42,6 +42,7 @@ impl<S, B> Model for StreamBackoff<S, B> {
 }
 
 impl<S: EventStream, B: Backoff> StreamBackoff<S, B> {
+    /// A stream that waits after each error for as long as the backoff says (`kube_runtime::utils::StreamBackoff`).
     pub fn new(stream: S, backoff: B) -> StreamBackoff<S, B>
         ensures { result ≡ record { stream = stream; backoff = backoff; state = State.Awake; fault = None } }
     {

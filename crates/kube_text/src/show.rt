@@ -20,6 +20,9 @@ pub trait Show {
     /// How it is shown.
     ghost data_of: { Seen → Data };
 
+    /// Writes it as JSON (RFC 8259).
+    ///
+    /// Errors: `AllocError`; a part may have been written then.
     fn show(&self, alloc: Global, out: &mut Writer) -> Result<(), AllocError>
         ensures before { OnOk result (out.new.before ≡ out.old.before) }
         ensures tokens { OnOk result (out.new.tokens ≡ out.old.tokens ++ tokens_of (data_of (seen self.now))) };

@@ -40,6 +40,7 @@ pub fn watcher<A: ApiMode>(alloc: Global, api: A, config: Config) -> Watcher<A>
 mod sealed {
     use kube_meta::{PartialObjectMeta, Resource};
 
+    /// What holds the metadata alone.
     pub trait Sealed {}
 
     impl<K: Resource> Sealed for PartialObjectMeta<K> {}

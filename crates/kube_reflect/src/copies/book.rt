@@ -11,6 +11,7 @@ use crate::history::Listed;
 use logbook::{Offer, Seen, Start, Word};
 use std::sync::Wait;
 
+/// The first entry of a book and what follows it.
 pub type Head<K> = Word<Entry<K>, u64, Law>;
 
 /// A new book, with the list that it begins with, which is empty.

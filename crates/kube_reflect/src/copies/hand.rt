@@ -25,6 +25,8 @@ impl<K: Resource> Protocol<Hand<K>> for Links<K> {
     ghost allows = { MayFollow };
 }
 
+/// The end of the channel that sends.
 pub type Giver<K> = Producer<Hand<K>, Global, Links<K>>;
 
+/// The end of the channel that receives.
 pub type Taker<K> = Consumer<Hand<K>, Global, Links<K>>;

@@ -16,6 +16,7 @@ pub struct Mark<K> {
 }
 
 impl<K> Mark<K> {
+    /// The same beginning once more.
     pub fn again(&self) -> Mark<K>
         ensures { result.seen ≡ self.now.seen }
     {
@@ -37,6 +38,9 @@ impl<K: Resource> Origin<K> {
     ghost use Rattle.std.specs.Prelude.{◌≡◌, IfOk};
     ghost use Rattle.std.specs.Arc.{arc_value};
 
+    /// The same list and type once more.
+    ///
+    /// Errors: `NoMemory`.
     pub fn again(&self) -> Result<Origin<K>, NoMemory>
         ensures { IfOk result (λ o. (arc_value o.dyntype ≡ arc_value self.now.dyntype) × (o.mark.seen ≡ self.now.mark.seen)) }
     {

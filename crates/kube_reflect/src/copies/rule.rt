@@ -46,6 +46,7 @@ impl<K: Resource> Split<View<K>> for Notes {
     ghost right = { λ v. v };
 }
 
+/// A reader that ends brings what it knows.
 pub struct Brings;
 
 impl<K: Resource> Join<View<K>> for Brings {
@@ -56,8 +57,11 @@ impl<K: Resource> Join<View<K>> for Brings {
     ghost spent = { record { at = None } };
 }
 
+/// A reader of the two copies.
 pub type TwoReader<K> = Reader<Copied<K>, View<K>, Keeps<K>>;
 
+/// A look of a reader at the copy that stands.
 pub type TwoReading<K> = Reading<Copied<K>, View<K>, Keeps<K>>;
 
+/// The writer of the two copies.
 pub type TwoWriter<K> = Writer<Copied<K>, Op<K>, View<K>, Keeps<K>>;

@@ -26,6 +26,8 @@ impl<T> Protocol<Fate<T>> for Links<T> {
     ghost allows = { MayFollow };
 }
 
+/// The end of the channel that sets.
 pub type Giver<T> = Producer<Fate<T>, Global, Links<T>>;
 
+/// The end of the channel that looks.
 pub type Taker<T> = Consumer<Fate<T>, Global, Links<T>>;

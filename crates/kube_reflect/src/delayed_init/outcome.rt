@@ -15,6 +15,7 @@ pub struct Outcome<T> {
 }
 
 impl<T: Copy> Outcome<T> {
+    /// The same outcome once more.
     pub fn again(&self) -> Outcome<T>
         ensures { result ≡ self.now }
     {

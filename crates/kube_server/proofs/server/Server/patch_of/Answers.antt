@@ -14,5 +14,5 @@ returns-in-Some-clause-fits c =
     let same = ap₂ (λ r x. patch_change r (map operation_of c.args.patch.now) (seen_object x)) c.next_revision-revision.ensures.value c.deref.ensures in
     ok-map c.patched.result _ _
     (λ e h. next-of-patch c.args.self.now (reference_of (λ t. resource_type t.value) c.args.key.now) (seen_object (arc_value c.in-Some.stored.now))
-    (map operation_of c.args.patch.now) (change_of e) c.next_revision-revision.ensures.history (sym c.in-Some.ensures) (sym same ∙ h))
+    (map operation_of c.args.patch.now) (change_of e) c.next_revision-revision.ensures.history (sym c.in-Some.ensures.held) (sym same ∙ h))
     c.patched.ensures.ok

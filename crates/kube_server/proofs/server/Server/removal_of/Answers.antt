@@ -15,4 +15,4 @@ returns-in-Some-clause-fits c =
     let made : change_seen seen_object (change_of c.in_ok-removed-in-Some.field-0) ≡ removal (next_revision c.args.self.now) o =
     c.in_ok-removed-in-Some.ensures ∙ ap₂ (λ r x. removal r (seen_object x)) c.next_revision-revision.ensures.value c.deref.ensures in
     next-of-held c.args.self.now (reference_of (λ t. resource_type t.value) c.args.key.now) o (change_of c.in_ok-removed-in-Some.field-0)
-    (removal (next_revision c.args.self.now) o) c.next_revision-revision.ensures.history (sym c.in-Some.ensures) made tt refl refl refl
+    (removal (next_revision c.args.self.now) o) c.next_revision-revision.ensures.history (sym c.in-Some.ensures.held) made tt refl refl refl

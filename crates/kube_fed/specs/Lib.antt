@@ -1,0 +1,4 @@
+-- the definitions that the contracts cite
+pub mod Feedings
+pub mod Fed
+pub mod Determined

@@ -1,0 +1,11 @@
+-- lemmas on what is stored
+pub mod Finds
+pub mod Changes
+pub mod Follows
+pub mod Summaries
+pub mod Phases
+pub mod Steps
+pub mod NextSteps
+pub mod Walks
+pub mod Endings
+pub mod Turns

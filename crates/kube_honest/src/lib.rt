@@ -1,0 +1,4 @@
+//! What a controller stores over an API that is honest.
+#![tactic(auto)]
+
+pub mod laws;
