@@ -9,3 +9,6 @@ pub mod NextSteps
 pub mod Walks
 pub mod Endings
 pub mod Turns
+pub mod Tellings
+pub mod Reached
+pub mod Controllers

@@ -1,2 +1,3 @@
 -- the definitions that the contracts cite
 pub mod States
+pub mod Talks

@@ -1,0 +1,59 @@
+//! Laws of controllers over APIs that tell their talk: each is the contract of a function that does nothing. What they ask of
+//! a run is what `Controller::run` ensures of it.
+
+ghost use Rattle.std.specs.Prelude.{◌≡◌, ◌<◌, ◌^◌, ◌++◌, ℕ, [], Bool, List, Option, Some, fold, length, map, take};
+ghost use Rattle.kube_meta.specs.declared.dynamic.DynamicObject.{DynamicObject};
+ghost use Rattle.kube_model.specs.World.{World, Settings};
+ghost use Rattle.kube_model.specs.History.{Dated, Step, Turn, TurnRecord, exchanges, exchanges_of};
+ghost use Rattle.kube_model.specs.Raw.{Raw};
+ghost use Rattle.kube_model.specs.Traces.{IsTrace, steps, unread};
+ghost use Rattle.kube_server.specs.History.{Change, IsHistory};
+ghost use Rattle.kube_server.specs.Honest.{Selection, IsHonest};
+ghost use Rattle.kube_server.specs.Readers.{IsByKey};
+ghost use Rattle.kube_server.specs.Connections.{Act, Connection, acted, fresh};
+ghost use Rattle.kube_server.specs.Servers.{meta_of};
+ghost use Rattle.kube_watch.specs.Calls.{version_of};
+ghost use Rattle.kube_watch.specs.Stands.{api_of, settings_in};
+ghost use Rattle.kube_asks.specs.Roots.{RootWatching};
+ghost use Rattle.kube_step.specs.Calls.{ArePolled, dated_in};
+ghost use Rattle.kube_control.specs.Controllers.{Controlling, StandsFor};
+ghost use Rattle.kube_honest.specs.States.{selection_by, StoresState};
+ghost use Rattle.kube_honest.specs.Talks.{HasTold};
+
+use kube_api::ApiMode;
+use kube_asks::{Backoff, RelatedSet, RootSource, WatchRoot};
+use kube_meta::DynamicObject;
+use kube_server::Conn;
+
+/// The API of a root that lists and watches tells the raw forms of the root's exchanges, run after run: where it told those
+/// of the turns before a run, after what it had told before all of them, it has told those of the run's turns too.
+pub fn api_tells_the_exchanges_of_runs<A: ApiMode, S: RelatedSet<A::Value>, B>()
+    ensures { (w : World A.Value B) (settings : Settings) (policies : ℕ → ℕ → A.Value → Option ℕ) (h : List (Step A.Value)) (ts : List Turn) (rs : List (TurnRecord A.Value)) (r r' : RootWatching A A.Value) (s s' : S)
+        → settings_in r.watcher ≡ settings → IsTrace w policies h ts (map unread rs)
+        → ArePolled ⟦<WatchRoot<A> as RootSource>⟧.polls S.polls (exchanges h) r s (dated_in rs) r' s'
+        → (before : List (Raw A.Value)) → HasTold (version_of A.Value.meta_of) settings before (exchanges_of 0 (exchanges h)) (A.talk (api_of r.watcher))
+        → (settings_in r'.watcher ≡ settings) × HasTold (version_of A.Value.meta_of) settings before (exchanges_of 0 (exchanges (h ++ steps ts (map unread rs)))) (A.talk (api_of r'.watcher)) }
+{}
+
+/// A controller over an API that was honest to a history stored a state of it after each turn that it stands for: nothing
+/// before the first complete list, and from then on, as a map from references to objects, the selected objects of the
+/// history at the revision that the version names which was seen last. `before` is what the API told before the first turn.
+///
+/// Which objects are selected has to depend on their namespaces and names alone.
+pub fn honest_controllers_store_states<A: ApiMode, S: RelatedSet<A::Value>, B: Backoff>()
+    ensures { (w : World A.Value B) (h : List (Step A.Value)) (c : Controlling (RootWatching A A.Value) S B A.Value A.Value.DynamicType)
+        → StandsFor ⟦<WatchRoot<A> as RootSource>⟧ S.RelatedSet B.Backoff A.Value.Resource w h c → (settings : Settings) → settings_in c.asks.root.watcher ≡ settings
+        → (selects : Selection → A.Value → Bool) → IsByKey A.Value.meta_of (selects (selection_by settings)) → (history : List (Change A.Value)) → IsHistory A.Value.meta_of history → length history < 2 ^ 64
+        → (before talk : List (Raw A.Value)) → A.talk (api_of c.asks.root.watcher) ≡ Some talk
+        → HasTold (version_of A.Value.meta_of) settings before (exchanges_of 0 (exchanges h)) (Some talk) → IsHonest A.Value.meta_of selects history talk
+        → (n : ℕ) → StoresState w.key A.Value.meta_of selects history (selection_by settings) (exchanges_of 0 (exchanges (take n h))) }
+{}
+
+/// A connection to a server stays one that was made by calls and copies of the log, whatever a run asks of it: so its talk
+/// is honest to its log after the run too (kube_server's law `talks_are_honest`).
+pub fn connections_stay_honest_in_runs<S: RelatedSet<DynamicObject>>()
+    ensures { (before ds : List (Dated DynamicObject)) (r r' : RootWatching (Connection DynamicObject) DynamicObject) (s s' : S) (changes : List (Change DynamicObject)) (compacted : ℕ) (acts : List (Act DynamicObject))
+        → api_of r.watcher ≡ fold (acted meta_of) (fresh changes compacted) acts
+        → ArePolled ⟦<WatchRoot<Conn> as RootSource>⟧.polls S.polls before r s ds r' s'
+        → (more : List (Act DynamicObject)) × (api_of r'.watcher ≡ fold (acted meta_of) (fresh changes compacted) more) }
+{}
