@@ -11,4 +11,4 @@ pub mod Endings
 pub mod Turns
 pub mod Tellings
 pub mod Reached
-pub mod Controllers
+pub mod Standing

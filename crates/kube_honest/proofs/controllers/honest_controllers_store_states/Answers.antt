@@ -1,6 +1,6 @@
 use Rattle.std.proofs.Common.{ap}
 use Rattle.kube_model.specs.World.{Watched}
-use Rattle.kube_honest.proofs.Controllers.{controller-stores}
+use Rattle.kube_honest.proofs.Standing.{controller-stores}
 use Rattle.kube_honest.proofs.controllers.honest_controllers_store_states.Goals as goal
 
 pub returns : goal.returns

@@ -1,8 +1,8 @@
 -- What controllers store that stand for turns over an honest API.
-use Rattle.std.proofs.Common.{◌≡◌, ℕ, ◌<◌, ◌^◌, Bool, List, ◌++◌, length, take, Option, Some, unwrap_or, slice_get, sym, ap, subst, ◌∙◌}
+use Rattle.std.proofs.Common.{◌≡◌, ℕ, ◌<◌, ◌^◌, Bool, List, ◌++◌, length, take, Some, unwrap_or, slice_get, sym, ap, subst, ◌∙◌}
 use Rattle.kube_meta.specs.declared.resource.Resource as resource
 use Rattle.kube_model.specs.World.{World, Settings, Streamed, Watched, feed_of}
-use Rattle.kube_model.specs.History.{Exchange, Step, exchanges, exchanges_of}
+use Rattle.kube_model.specs.History.{Step, exchanges, exchanges_of}
 use Rattle.kube_model.specs.Raw.{Raw}
 use Rattle.kube_model.specs.Recorded.{AreRecorded}
 use Rattle.kube_model.specs.Traces.{steps}
