@@ -160,6 +160,13 @@ fn turn(alloc: Global, row: Row) -> Result<Turn<DynamicObject, u64>, NoMemory> {
     })
 }
 
+/// One turn alone.
+fn turns(alloc: Global, row: Row) -> Result<Vec<Turn<DynamicObject, u64>>, NoMemory> {
+    let mut turns = Vec::new(alloc);
+    turns.push(turn(alloc, row)?)?;
+    Ok(turns)
+}
+
 /// Takes a turn; whether it was refused, or a fault came.
 fn run(
     alloc: Global,
@@ -167,11 +174,11 @@ fn run(
     recorder: &mut Recorder<DynamicObject>,
     row: Row,
 ) -> Result<bool, NoMemory> {
-    let turns = vec![in alloc; turn(alloc, row)?]?;
-    if turns.len() > 9 {
-        return Err(NoMemory);
-    }
     let context = Arc::new(alloc, ())?;
+    let turns = turns(alloc, row)?;
+    if turns.len() > 9 {
+        return Ok(true);
+    }
     let policy = |_object: Arc<DynamicObject>, _error: &u64, _context: Arc<()>| Action::requeue(0);
     Ok(
         controller
@@ -205,7 +212,35 @@ fn is_stored(alloc: Global, controller: &Tested, revision: u64) -> Result<bool, 
     Ok(versions_of(&objects) == versions(revision))
 }
 
-/// The second of the first turn after which something else is stored, or that ends in a fault; none where there is no such turn.
+/// Whether a turn ends in a fault, or something else is stored after it.
+fn is_other(
+    alloc: Global,
+    controller: &mut Tested,
+    recorder: &mut Recorder<DynamicObject>,
+    row: Row,
+) -> Result<bool, NoMemory> {
+    if run(alloc, controller, recorder, row)? {
+        return Ok(true);
+    }
+    Ok(!is_stored(alloc, controller, row.wanted)?)
+}
+
+/// The second of the first turn that ends in a fault, or after which something else is stored; none where there is no such turn.
+fn first_other_of(
+    alloc: Global,
+    controller: &mut Tested,
+    recorder: &mut Recorder<DynamicObject>,
+    rows: &[Row],
+) -> Result<Option<u64>, NoMemory> {
+    for row in rows {
+        if is_other(alloc, controller, recorder, *row)? {
+            return Ok(Some(row.at));
+        }
+    }
+    Ok(None)
+}
+
+/// The same for a controller of its own.
 fn first_other(
     alloc: Global,
     rows: &'static [Row],
@@ -213,14 +248,7 @@ fn first_other(
 ) -> Result<Option<u64>, NoMemory> {
     let mut controller = controller(alloc, rows, streaming)?;
     let mut recorder = Recorder::new(alloc);
-    for row in rows {
-        if run(alloc, &mut controller, &mut recorder, *row)?
-            || !is_stored(alloc, &controller, row.wanted)?
-        {
-            return Ok(Some(row.at));
-        }
-    }
-    Ok(None)
+    first_other_of(alloc, &mut controller, &mut recorder, rows)
 }
 
 fn keeps_to<R: Abort + AllocGlobal>(
