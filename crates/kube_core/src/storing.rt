@@ -8,15 +8,17 @@ ghost use Rattle.kube_model.specs.World.{Settings};
 ghost use Rattle.kube_model.specs.SecondForms.{initial_after};
 ghost use Rattle.kube_watch.specs.Table.{table};
 ghost use Rattle.kube_reflect.specs.Cached.{applied};
+ghost use Rattle.kube_reflect.specs.Writers.{with_event};
 ghost use Rattle.kube_turn.specs.Views.{exchange_of};
 ghost use Rattle.kube_core.specs.Cores.{HasSameHandles};
 
 use kube_meta::{NoMemory, Resource};
 use kube_model::call::{Answer, Call};
-use kube_reflect::Writer;
+use kube_reflect::{WriteError, Writer};
 use kube_turn::SourceExchange;
-use kube_watch::events_of;
+use kube_watch::{Event, events_of};
 use std::alloc::Global;
+use std::sync::Arc;
 
 /// Whether a look at the root belongs to a watch that sends what is there first, after one more exchange.
 pub fn initial_after<K: Resource>(initial: bool, exchange: &SourceExchange<K>) -> bool
@@ -26,6 +28,25 @@ pub fn initial_after<K: Resource>(initial: bool, exchange: &SourceExchange<K>) -
         Answer::Opened => matches!(&exchange.call, Call::Watch { initial: true, .. }),
         Answer::Bookmark { ending, .. } => initial && !*ending,
         _ => initial,
+    }
+}
+
+/// Applies these events, or none. One alone is applied where the others are stored; more are applied beside them, by a copy.
+///
+/// # Errors
+///
+/// `NoMemory` where there is none for it; `Unnamed` where an object of them has no name.
+fn apply_told<K: Resource>(
+    alloc: Global,
+    writer: &mut Writer<K>,
+    events: &[Event<Arc<K>>],
+) -> Result<(), WriteError>
+    ensures applied { OnOk result (writer.new ≡ fold (with_event arc_value K.meta_of) writer.old events.now) }
+    ensures err { OnErr result (writer.new ≡ writer.old) }
+{
+    match events {
+        [event] => writer.apply_watcher_event(alloc, event),
+        _ => writer.apply_watcher_events(alloc, events),
     }
 }
 
@@ -53,7 +74,7 @@ pub fn store_told<K: Resource>(
         &exchange.answer,
         exchange.items.as_slice(),
     )?;
-    let Ok(()) = writer.apply_watcher_events(alloc, events.as_slice()) else {
+    let Ok(()) = apply_told(alloc, writer, events.as_slice()) else {
         return Err(NoMemory);
     };
     Ok(())
