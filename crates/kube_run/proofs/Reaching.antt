@@ -14,7 +14,8 @@ use Rattle.kube_model.specs.Stored.{store_after}
 use Rattle.kube_model.specs.Traces.{IsTrace, has_ended, steps, unread}
 use Rattle.kube_model.specs.World.{World}
 use Rattle.kube_streams.specs.declared.backoff.Backoff as backoff
-use Rattle.kube_reflect.specs.Exchanged.{all_keyed, keyed}
+use Rattle.kube_reflect.specs.Cached.{keyed}
+use Rattle.kube_reflect.specs.Exchanged.{all_keyed}
 use Rattle.kube_asks.specs.declared.root.RootSource as root_source
 use Rattle.kube_asks.specs.declared.set.RelatedSet as related_set
 use Rattle.kube_gen.specs.Generated.{script_of}

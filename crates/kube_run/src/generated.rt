@@ -229,7 +229,7 @@ fn take_turn(
     let context = Arc::new(alloc, ())?;
     match run_turns(alloc, controller, turns, after_fault, context) {
         Ok(trace) => Ok(Vec::from(trace.records).pop()),
-        // (no turn of such a run is refused, and each object has a name: what is left is want of memory)
+        // No turn of such a run is refused, and each object has a name; no clause says so, so any error ends here.
         Err(_) => Err(NoMemory),
     }
 }
