@@ -26,9 +26,9 @@ use Rattle.kube_control.specs.Runs.{AreFinishedIn}
 use Rattle.kube_run.specs.Played.{Api, Apis, AreAnswered, IsPlayedTo, IsRefusedNext, IsUnnamedNext, all_faults, api_at, apis_at_first, first_turns, has_name, policies_in, script_world, turns_in, type_in, version_of}
 use Rattle.kube_run.specs.Runs.{HasLines}
 use Rattle.kube_run.proofs.Policies.{Held, Turns, faults_of, few-records, refused-by, same-lines, trace-by}
-use Rattle.kube_run.specs.Sources.{Source}
+use Rattle.kube_run.specs.Sources.{AreOfScript, Root, Source, Sources, apis_in, list_of}
 use Rattle.kube_run.proofs.Once.{fed-at}
-use Rattle.kube_run.proofs.Polled.{AreOfScript, Root, Sources, apis_in, asked, at-place, changed-there, list_of, meta_of, polled-answered, related_polls, root_polls, source_breaks, unnamed-at}
+use Rattle.kube_run.proofs.Polled.{asked, at-place, changed-there, meta_of, polled-answered, related_polls, root_polls, source_breaks, unnamed-at}
 
 -- what breaks a script's root
 abbrev pub root_breaks : Root → ℕ → Root → Type 0

@@ -12,8 +12,7 @@ use Rattle.kube_script.specs.Script.{Related, Script}
 use Rattle.kube_script.specs.Told.{api_at_first}
 use Rattle.kube_watch.specs.Stands.{settings_in}
 use Rattle.kube_run.specs.Played.{apis_at_first, type_in}
-use Rattle.kube_run.specs.Sources.{AreAtFirst, IsFirst, IsOfRow, Source}
-use Rattle.kube_run.proofs.Polled.{AreOfScript, Root, Sources, apis_in, apis_of, list_of}
+use Rattle.kube_run.specs.Sources.{AreAtFirst, AreOfScript, IsFirst, IsOfRow, Root, Source, Sources, apis_in, apis_of, list_of}
 
 module _ (root : ObjectType) where
   rows-of : (rows : List Related) (ts : List Source) → AllZip (IsFirst root) rows ts → AllZip (IsOfRow root) rows ts

@@ -10,3 +10,8 @@ pub mod Polled
 pub mod First
 pub mod Plays
 pub mod Ended
+pub mod Words
+pub mod Counts
+pub mod Generating
+pub mod Reaching
+pub mod OneRun

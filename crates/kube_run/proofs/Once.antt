@@ -33,7 +33,7 @@ some-same x y e = ap (λ o. unwrap_or o x) e
 pub none-is-some : {A : Type 0} (o : Option A) (x : A) → o ≡ None → o ≡ Some x → ⊥
 none-is-some o x e f = absurd (cc)
 
-false-is-true : (b : Bool) → b ≡ false → b ≡ true → ⊥
+pub false-is-true : (b : Bool) → b ≡ false → b ≡ true → ⊥
 false-is-true b e f = absurd (cc)
 
 -- ---- polls

@@ -27,16 +27,7 @@ use Rattle.kube_step.specs.Calls.{ArePolled}
 use Rattle.kube_script.specs.Script.{Related, Script}
 use Rattle.kube_run.specs.Mapped.{mapped_as}
 use Rattle.kube_run.specs.Played.{Api, Apis, AreAnswered, IsAnsweredMapped, RelatedAnswers, has_name, root_answers, type_in, version_of}
-use Rattle.kube_run.specs.Sources.{IsOfRow, Source}
-
-abbrev pub Root : Type 0
-Root = RootWatching Api ObjectData
-
-abbrev pub Sources : Type 0
-Sources = Beside NoRelated (RelatedList Source)
-
-abbrev pub list_of : Sources → List Source
-list_of s = s.rest.items.items
+use Rattle.kube_run.specs.Sources.{AreOfScript, IsOfRow, Root, Source, Sources, apis_in, apis_of, list_of}
 
 abbrev pub meta_of : ObjectData → ObjectMeta
 meta_of o = o.metadata
@@ -63,13 +54,6 @@ at-place P Q p h =
     let none : nat_lt p 0 ≡ false = grind arith in
     let same : p - 0 ≡ p = omega arith in
     subst P same (subst (λ b. Either b Q (P (p - 0))) none h)
-
--- what the APIs of sources have left
-abbrev pub apis_of : List Source → List Api
-apis_of ts = map (λ t. api_of t.watcher) ts
-
-abbrev pub apis_in : Root → Sources → Apis
-apis_in r s = record { root = api_of r.watcher; related = apis_of (list_of s) }
 
 module _ (root : ObjectType) where
   answered : (row : Related) (t u : Source) (own : List (Dated ObjectData)) (at : ℕ) (x : Exchange ObjectData) → IsOfRow root row t → source_polls t own at x u → IsAnsweredMapped root row (exchanges_in own) (api_of t.watcher) at x (api_of u.watcher)
@@ -165,13 +149,8 @@ changed-there P zero (a ∷ olds) (b ∷ news) f = omega arith
 changed-there P (suc place) (a ∷ olds) (b ∷ news) f = let rest = changed-there P place olds news f.1 in omega (arith, rest)
 
 module _ (s : Script) where
-  -- how the sources are asked stays as the script tells
-  pub record AreOfScript (r : Root) (t : Sources) : Type 0 where
-    pub settings : settings_in r.watcher ≡ s.root.watcher
-    pub rows : AllZip (IsOfRow (type_in s)) s.related (list_of t)
-
-  one-answered : (before : List (Dated ObjectData)) (at : ℕ) (x : Exchange ObjectData) (old new : Root) (t t' : Sources) (source : ℕ) → AreOfScript old t → IsPolledAt root_polls related_polls before at x old t new t' source
-      → IsPolledAt (root_answers s) (RelatedAnswers s) before at x (api_of old.watcher) (apis_of (list_of t)) (api_of new.watcher) (apis_of (list_of t')) source × AreOfScript new t'
+  one-answered : (before : List (Dated ObjectData)) (at : ℕ) (x : Exchange ObjectData) (old new : Root) (t t' : Sources) (source : ℕ) → AreOfScript s old t → IsPolledAt root_polls related_polls before at x old t new t' source
+      → IsPolledAt (root_answers s) (RelatedAnswers s) before at x (api_of old.watcher) (apis_of (list_of t)) (api_of new.watcher) (apis_of (list_of t')) source × AreOfScript s new t'
   one-answered before at x old new t t' zero k q = (
     (
       record { raw = q.0.call.raw; recorded = subst (λ z. IsRecorded version_of z q.0.call.raw x) k.settings q.0.call.recorded; moved = q.0.call.moved },
@@ -187,11 +166,11 @@ module _ (s : Script) where
         record { settings = ap (λ (r : Root). settings_in r.watcher) q.1 ∙ k.settings; rows = made.rows_are },
       )
 
-  pub polled-answered : (before : List (Dated ObjectData)) (old : Root) (t : Sources) (ds : List (Dated ObjectData)) (new : Root) (t' : Sources) → AreOfScript old t → ArePolled root_polls related_polls before old t ds new t'
-      → AreAnswered s before (apis_in old t) ds (apis_in new t') × AreOfScript new t'
+  pub polled-answered : (before : List (Dated ObjectData)) (old : Root) (t : Sources) (ds : List (Dated ObjectData)) (new : Root) (t' : Sources) → AreOfScript s old t → ArePolled root_polls related_polls before old t ds new t'
+      → AreAnswered s before (apis_in old t) ds (apis_in new t') × AreOfScript s new t'
   polled-answered before old t [] new t' k p = (
     (ap (λ (r : Root). api_of r.watcher) p.0, ap (λ (v : Sources). apis_of (list_of v)) p.1),
-    subst (λ v. AreOfScript v t') (sym p.0) (subst (AreOfScript old) (sym p.1) k),
+    subst (λ v. AreOfScript s v t') (sym p.0) (subst (AreOfScript s old) (sym p.1) k),
   )
   polled-answered before old t (d ∷ ds) new t' k p =
       let one = one-answered before d.at d.exchange old p.0 t p.1 d.exchange.source k p.2 in

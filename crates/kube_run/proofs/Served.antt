@@ -7,7 +7,12 @@ use Rattle.kube_text.specs.Refusals.{refusal_text}
 use Rattle.kube_text.specs.declared.refusal.Refusal.TheVariants as refusals
 use Rattle.kube_run.specs.Limit.{longest}
 use Rattle.kube_run.specs.Played.{trace_text}
-use Rattle.kube_run.specs.Served.{IsBegun, RunsFor, RunsLeft, Serves, Tells, WrotePartFor, refusal_of}
+use Rattle.std.specs.Io.KnownBytes.{Appends}
+use Rattle.kube_text.specs.Part.{AppendsPart}
+use Rattle.kube_run.specs.GeneratedRun.{AreTotals}
+use Rattle.kube_run.specs.Summary.{totals_text}
+use Rattle.kube_run.specs.declared.totals.Totals.{Totals}
+use Rattle.kube_run.specs.Served.{Generates, IsBegun, RunsFor, RunsFrom, RunsLeft, Tells, WrotePartFor, refusal_of}
 use Rattle.kube_run.specs.declared.status.Status.{Status}
 use Rattle.kube_run.specs.declared.status.Status.TheVariants as status
 use Rattle.kube_run.proofs.Known.{of_left, of_longer}
@@ -43,31 +48,34 @@ told-script c result old new t =
 pub refused-script : (c : Cause) (input : Result Script Cause) (result : Status) (old new : Option (List ℕ)) → input ≡ Err c → Tells result status.BadScript (refusal_text (refusal_of c)) old new → RunsFor result input old new
 refused-script c input result old new e t = subst (λ w. RunsFor result w old new) (sym e) (told-script c result old new t)
 
--- ---- the whole program
+-- ---- a run by a script
 
 -- bytes that were all that was left
-pub serves-left : (st : Status) (run : Bool) (left old new : Option (List ℕ)) (v here : List ℕ) → run ≡ true → IfSome left (λ bytes. v ≡ bytes) → here ≡ v → RunsFor st (script_of here) old new → Serves st run left old new
-serves-left status.Done run left old new v here r e f k = (r, of_left left v (λ bytes. RunsFor status.Done (script_of bytes) old new) e (subst (λ b. RunsFor status.Done (script_of b) old new) f k))
-serves-left status.BadRun run left old new v here r e f k = (r, of_left left v (λ bytes. RunsFor status.BadRun (script_of bytes) old new) e (subst (λ b. RunsFor status.BadRun (script_of b) old new) f k))
-serves-left status.BadScript run left old new v here r e f k = (r, of_left left v (λ bytes. RunsFor status.BadScript (script_of bytes) old new) e (subst (λ b. RunsFor status.BadScript (script_of b) old new) f k))
-serves-left status.WriteFault run left old new v here r e f k = inr (r, of_left left v (λ bytes. RunsFor status.WriteFault (script_of bytes) old new) e (subst (λ b. RunsFor status.WriteFault (script_of b) old new) f k))
-serves-left status.NoMemory run left old new v here r e f k = inr (r, of_left left v (λ bytes. RunsFor status.NoMemory (script_of bytes) old new) e (subst (λ b. RunsFor status.NoMemory (script_of b) old new) f k))
-serves-left status.Usage run left old new v here r e f k = absurd k
-serves-left status.ReadFault run left old new v here r e f k = absurd k
+pub runs-left : (st : Status) (left old new : Option (List ℕ)) (v here : List ℕ) → IfSome left (λ bytes. v ≡ bytes) → here ≡ v → RunsFor st (script_of here) old new → RunsFrom st left old new
+runs-left status.Done left old new v here e f k = of_left left v (λ bytes. RunsFor status.Done (script_of bytes) old new) e (subst (λ b. RunsFor status.Done (script_of b) old new) f k)
+runs-left status.BadRun left old new v here e f k = of_left left v (λ bytes. RunsFor status.BadRun (script_of bytes) old new) e (subst (λ b. RunsFor status.BadRun (script_of b) old new) f k)
+runs-left status.BadScript left old new v here e f k = of_left left v (λ bytes. RunsFor status.BadScript (script_of bytes) old new) e (subst (λ b. RunsFor status.BadScript (script_of b) old new) f k)
+runs-left status.WriteFault left old new v here e f k = of_left left v (λ bytes. RunsFor status.WriteFault (script_of bytes) old new) e (subst (λ b. RunsFor status.WriteFault (script_of b) old new) f k)
+runs-left status.NoMemory left old new v here e f k = of_left left v (λ bytes. RunsFor status.NoMemory (script_of bytes) old new) e (subst (λ b. RunsFor status.NoMemory (script_of b) old new) f k)
+runs-left status.Usage left old new v here e f k = absurd k
+runs-left status.ReadFault left old new v here e f k = absurd k
 
 long-left : (st : Status) (left old new : Option (List ℕ)) → IfSome left (λ bytes. longest < length bytes) → RunsFor st (Err too_long) old new → RunsLeft st left old new
 long-left st left old new h r = of_longer left longest (λ bytes. RunsFor st (script_of bytes) old new) h (λ bytes l. subst (λ w. RunsFor st w old new) (sym (script_of_long bytes l)) r)
 
 -- more bytes than a script may have
-pub serves-long : (result : Status) (run : Bool) (left old new : Option (List ℕ)) → run ≡ true → IfSome left (λ bytes. longest < length bytes) → Tells result status.BadScript (refusal_text refusals.TooLong) old new → Serves result run left old new
-serves-long result run left old new r h t =
+pub runs-long : (result : Status) (left old new : Option (List ℕ)) → IfSome left (λ bytes. longest < length bytes) → Tells result status.BadScript (refusal_text refusals.TooLong) old new → RunsFrom result left old new
+runs-long result left old new h t =
     let line = refusal_text refusals.TooLong in
-    tells_so (λ st. Serves st run left old new) result status.BadScript line old new t
-    (λ a. (r, long-left status.BadScript left old new h (line, refl, a)))
-    (λ a. inr (r, long-left status.WriteFault left old new h (line, refl, a)))
-    (λ a. inr (r, long-left status.NoMemory left old new h (line, refl, a)))
+    tells_so (λ st. RunsFrom st left old new) result status.BadScript line old new t
+    (λ a. long-left status.BadScript left old new h (line, refl, a))
+    (λ a. long-left status.WriteFault left old new h (line, refl, a))
+    (λ a. long-left status.NoMemory left old new h (line, refl, a))
 
--- other words
-pub serves-usage : (result : Status) (run : Bool) (left old new : Option (List ℕ)) → run ≡ false → Tells result status.Usage (refusal_text refusals.Usage) old new → Serves result run left old new
-serves-usage result run left old new r t =
-    tells_so (λ st. Serves st run left old new) result status.Usage (refusal_text refusals.Usage) old new t (λ a. (r, a)) (λ a. inl (r, a)) (λ a. inl (r, a))
+-- ---- the run over a generated input
+
+pub told-totals : (seed objects turns : ℕ) (totals : Totals) (line : List ℕ) (old new : Option (List ℕ)) → AreTotals seed objects turns totals → line ≡ totals_text totals → Appends old new line → Generates status.Done seed objects turns old new
+told-totals seed objects turns totals line old new k e a = (line, (totals, k, e), a)
+
+pub begun-totals : (seed objects turns : ℕ) (totals : Totals) (line : List ℕ) (old new : Option (List ℕ)) → AreTotals seed objects turns totals → line ≡ totals_text totals → AppendsPart old new line → Generates status.WriteFault seed objects turns old new
+begun-totals seed objects turns totals line old new k e a = (line, (totals, k, e), a)

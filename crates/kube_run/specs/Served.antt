@@ -1,6 +1,5 @@
 -- What the program writes for its words and its input, and how it ends.
-use Rattle.std.specs.Prelude.{◌≡◌, ◌⊎◌, ℕ, Bool, true, false, List, [], ◌∷◌, Option, IfSome, Result, Ok, Err, codes}
-use Rattle.std.specs.Str.{bytes_eq}
+use Rattle.std.specs.Prelude.{◌≡◌, ◌⊎◌, ℕ, List, Option, IfSome, Result, Ok, Err}
 use Rattle.std.specs.Io.KnownBytes.{Appends, Keeps}
 use Rattle.kube_meta.specs.declared.object_fault.ObjectFault.TheVariants as faults
 use Rattle.kube_script.specs.Script.{Script}
@@ -9,17 +8,16 @@ use Rattle.kube_text.specs.Refusals.{refusal_text}
 use Rattle.kube_text.specs.declared.refusal.Refusal.{Refusal}
 use Rattle.kube_text.specs.declared.refusal.Refusal.TheVariants as refusals
 use Rattle.kube_text.specs.Part.{AppendsPart}
+use Rattle.kube_run.specs.Commands.{IsCommand, NameNothing}
+use Rattle.kube_run.specs.GeneratedRun.{AreTotals}
 use Rattle.kube_run.specs.Played.{IsWhole, IsCutOff, IsFront}
+use Rattle.kube_run.specs.Summary.{totals_text}
+use Rattle.kube_run.specs.declared.command.Command.TheVariants as commands
+use Rattle.kube_run.specs.declared.totals.Totals.{Totals}
 use Rattle.kube_run.specs.declared.status.Status.{Status}
 use Rattle.kube_run.specs.declared.status.Status.TheVariants as status
 use Rattle.kube_text.specs.declared.failed.Unwritten.{Unwritten}
 use Rattle.kube_text.specs.declared.failed.Unwritten.TheVariants as unwritten
-
--- the words are the one command
-abbrev pub is_run : List (List ℕ) → Bool
-is_run [] = false
-is_run (word ∷ []) = bytes_eq word (codes "run")
-is_run (word ∷ other ∷ rest) = false
 
 -- why bytes are no script, as it is told; data never wants memory
 abbrev pub refusal_of : Cause → Refusal
@@ -63,25 +61,49 @@ RunsFor status.ReadFault input old new = ⊥
 abbrev pub RunsLeft : Status → Option (List ℕ) → Option (List ℕ) → Option (List ℕ) → Type 0
 RunsLeft s left old new = IfSome left (λ bytes. RunsFor s (script_of bytes) old new)
 
--- where something failed: a part of the line on its words was written, or what may be for its input
-abbrev pub Failed : Status → Bool → Option (List ℕ) → Option (List ℕ) → Option (List ℕ) → Type 0
-Failed s run left old new = (run ≡ false) × AppendsPart old new (refusal_text refusals.Usage) ⊎ (run ≡ true) × RunsLeft s left old new
+-- how a run by a script may end, by what the source had left where that is told
+abbrev pub RunsFrom : Status → Option (List ℕ) → Option (List ℕ) → Option (List ℕ) → Type 0
+RunsFrom status.Done left old new = RunsLeft status.Done left old new
+RunsFrom status.BadRun left old new = RunsLeft status.BadRun left old new
+RunsFrom status.BadScript left old new = RunsLeft status.BadScript left old new
+RunsFrom status.WriteFault left old new = RunsLeft status.WriteFault left old new
+RunsFrom status.NoMemory left old new = RunsLeft status.NoMemory left old new
+RunsFrom status.ReadFault left old new = Keeps old new
+RunsFrom status.Usage left old new = ⊥
 
--- how the program may end: by the words, by what the source had left where that is told, and by what was written where that is told
-abbrev pub Serves : Status → Bool → Option (List ℕ) → Option (List ℕ) → Option (List ℕ) → Type 0
-Serves status.Done run left old new = (run ≡ true) × RunsLeft status.Done left old new
-Serves status.Usage run left old new = (run ≡ false) × Appends old new (refusal_text refusals.Usage)
-Serves status.BadScript run left old new = (run ≡ true) × RunsLeft status.BadScript left old new
-Serves status.BadRun run left old new = (run ≡ true) × RunsLeft status.BadRun left old new
-Serves status.ReadFault run left old new = (run ≡ true) × Keeps old new
-Serves status.WriteFault run left old new = Failed status.WriteFault run left old new
-Serves status.NoMemory run left old new = Failed status.NoMemory run left old new
+-- the text tells the totals of the run over a generated input
+abbrev pub TellsTotals : ℕ → ℕ → ℕ → List ℕ → Type 0
+TellsTotals seed objects turns text = (totals : Totals) × AreTotals seed objects turns totals × (text ≡ totals_text totals)
+
+-- how the run over a generated input may end: it reads nothing, and is refused for nothing
+abbrev pub Generates : Status → ℕ → ℕ → ℕ → Option (List ℕ) → Option (List ℕ) → Type 0
+Generates status.Done seed objects turns old new = (text : List ℕ) × TellsTotals seed objects turns text × Appends old new text
+Generates status.WriteFault seed objects turns old new = (text : List ℕ) × TellsTotals seed objects turns text × AppendsPart old new text
+Generates status.NoMemory seed objects turns old new = Keeps old new
+Generates status.Usage seed objects turns old new = ⊥
+Generates status.BadScript seed objects turns old new = ⊥
+Generates status.BadRun seed objects turns old new = ⊥
+Generates status.ReadFault seed objects turns old new = ⊥
 
 -- a line was written, and the end is the wanted one; or a write or memory failed, and a part of it was written
 abbrev pub Tells : Status → Status → List ℕ → Option (List ℕ) → Option (List ℕ) → Type 0
 Tells result wanted line old new =
     (result ≡ wanted) × Appends old new line
     ⊎ ((result ≡ status.WriteFault) × AppendsPart old new line ⊎ (result ≡ status.NoMemory) × AppendsPart old new line)
+
+-- so for the numbers that the words name
+pub record GeneratesFor (s : Status) (words : List (List ℕ)) (old new : Option (List ℕ)) : Type 0 where
+  pub seed : ℕ
+  pub objects : ℕ
+  pub turns : ℕ
+  pub named : IsCommand words (commands.Generate seed objects turns)
+  pub generates : Generates s seed objects turns old new
+
+-- how the program may end: by its words, by what the source had left where that is told, and by what was written where that is told
+abbrev pub Serves : Status → List (List ℕ) → Option (List ℕ) → Option (List ℕ) → Option (List ℕ) → Type 0
+Serves s words left old new =
+    IsCommand words commands.Run × RunsFrom s left old new
+    ⊎ (GeneratesFor s words old new ⊎ NameNothing words × Tells s status.Usage (refusal_text refusals.Usage) old new)
 
 -- how the program ends where a line was not written whole
 abbrev pub status_of : Unwritten → Status

@@ -1,5 +1,5 @@
 -- The sources of a script's controller.
-use Rattle.std.specs.Prelude.{◌≡◌, List, []}
+use Rattle.std.specs.Prelude.{◌≡◌, List, [], map}
 use Rattle.std.specs.List.{AllZip}
 use Rattle.kube_meta.specs.Reading.{ObjectData}
 use Rattle.kube_meta.specs.Reference.{ObjectType}
@@ -9,11 +9,11 @@ use Rattle.kube_asks.specs.Roots.{RootWatching}
 use Rattle.kube_asks.specs.declared.related_list.RelatedList.{RelatedList}
 use Rattle.kube_asks.specs.declared.sets.Beside.{Beside}
 use Rattle.kube_asks.specs.declared.sets.NoRelated.{NoRelated}
-use Rattle.kube_script.specs.Script.{Related, Source as source_row}
+use Rattle.kube_script.specs.Script.{Related, Script, Source as source_row}
 use Rattle.kube_script.specs.Told.{api_at_first}
 use Rattle.kube_watch.specs.Stands.{StandsFor, api_of, settings_in}
 use Rattle.kube_run.specs.Mapped.{mapped_as, mapped_by}
-use Rattle.kube_run.specs.Played.{Api}
+use Rattle.kube_run.specs.Played.{Api, Apis, type_in}
 use Rattle.kube_run.specs.declared.mapper.ScriptMapper.{ScriptMapper}
 
 -- a related source: it lists and watches, and maps objects to those of the root's type
@@ -37,3 +37,26 @@ pub record AreAtFirst (kind : ObjectType) (row : source_row) (rows : List Relate
   pub api : api_of r.watcher ≡ api_at_first row
   pub settings : settings_in r.watcher ≡ row.watcher
   pub related : AllZip (IsFirst kind) rows t.rest.items.items
+
+-- ---- sources that are asked
+
+abbrev pub Root : Type 0
+Root = RootWatching Api ObjectData
+
+abbrev pub Sources : Type 0
+Sources = Beside NoRelated (RelatedList Source)
+
+abbrev pub list_of : Sources → List Source
+list_of s = s.rest.items.items
+
+-- what the APIs of sources have left
+abbrev pub apis_of : List Source → List Api
+apis_of ts = map (λ t. api_of t.watcher) ts
+
+abbrev pub apis_in : Root → Sources → Apis
+apis_in r s = record { root = api_of r.watcher; related = apis_of (list_of s) }
+
+-- how sources are asked is as a script tells, whatever they were asked
+pub record AreOfScript (s : Script) (r : Root) (t : Sources) : Type 0 where
+  pub settings : settings_in r.watcher ≡ s.root.watcher
+  pub rows : AllZip (IsOfRow (type_in s)) s.related (list_of t)

@@ -4,6 +4,9 @@ ghost use Rattle.std.specs.Prelude.{◌≡◌, ◌<◌, ◌+◌, ◌^◌, ◌++�
 ghost use Rattle.std.specs.List.{AllZip};
 ghost use Rattle.kube_control.specs.Controllers.{StandsFor};
 ghost use Rattle.kube_control.specs.Errors.{records_before, IfRefused, IfUnnamed};
+ghost use Rattle.kube_meta.specs.Reading.{ObjectData};
+ghost use Rattle.kube_model.specs.History.{Step};
+ghost use Rattle.kube_model.specs.Traces.{steps, unread};
 ghost use Rattle.kube_object.specs.Named.{named_type};
 ghost use Rattle.kube_script.specs.Script.{Script as script_data};
 ghost use Rattle.kube_script.specs.Seen.{seen_backoff, seen_config};
@@ -13,8 +16,8 @@ ghost use Rattle.kube_text.specs.TraceText.{lines_of};
 ghost use Rattle.kube_text.specs.TraceView.{seen_records};
 ghost use Rattle.kube_turn.specs.Records.{records_of, turns_of};
 ghost use Rattle.kube_run.specs.Played.{all_faults, script_world, turns_in, type_in, world_with, IsPlayed, IsPlayedFront, IsRefusedNext, IsUnnamedNext};
-ghost use Rattle.kube_run.specs.Runs.{HasRun};
-ghost use Rattle.kube_run.specs.Sources.{AreAtFirst, IsFirst};
+ghost use Rattle.kube_run.specs.Runs.{GoesOn, HasRun};
+ghost use Rattle.kube_run.specs.Sources.{AreAtFirst, AreOfScript, IsFirst};
 
 use crate::mapper::ScriptMapper;
 use kube_api::TestMode;
@@ -105,15 +108,15 @@ fn sources(
 
 /// The controller of a script with its turns, and what is done after a failed reconcile.
 #[derive(Drop)]
-struct Parts {
-    controller: ScriptController,
-    turns: Vec<ScriptTurn>,
-    after_fault: Action,
-    context: Arc<()>,
+pub(crate) struct Parts {
+    pub(crate) controller: ScriptController,
+    pub(crate) turns: Vec<ScriptTurn>,
+    pub(crate) after_fault: Action,
+    pub(crate) context: Arc<()>,
 }
 
 /// What a script tells.
-fn make_parts(alloc: Global, script: Script) -> Result<Parts, NoMemory>
+pub(crate) fn make_parts(alloc: Global, script: Script) -> Result<Parts, NoMemory>
     ensures stands { IfOk result (λ p. StandsFor ⟦<WatchRoot<TestMode<ScriptObject>> as RootSource>⟧ ⟦<ScriptSources as RelatedSet<ScriptObject>>⟧ ⟦<ScriptBackoff as Backoff>⟧ ⟦<ScriptObject as Resource>⟧ (script_world (seen_script script)) [] p.controller) }
     ensures first { IfOk result (λ p. AreAtFirst (type_in (seen_script script)) (seen_script script).root (seen_script script).related p.controller.asks.root p.controller.asks.related) }
     ensures few { IfOk result (λ p. length p.turns.items < 2 ^ 32) }
@@ -144,8 +147,8 @@ fn make_parts(alloc: Global, script: Script) -> Result<Parts, NoMemory>
     })
 }
 
-/// Takes turns with a controller that hasn't run yet. After a failed reconcile this action is taken.
-fn run_turns(
+/// Takes turns with a controller. After a failed reconcile this action is taken.
+pub(crate) fn run_turns(
     alloc: Global,
     controller: &mut ScriptController,
     turns: Vec<ScriptTurn>,
@@ -154,10 +157,17 @@ fn run_turns(
 ) -> Result<ScriptTrace, ScriptError>
     requires few { length turns.items < 2 ^ 32 }
     requires few_sources { length controller.old.asks.related.rest.items.items + 1 < 2 ^ 32 }
+    // With one that hasn't run yet the answer is that of the script.
     ensures ran { (s : script_data) → StandsFor ⟦<WatchRoot<TestMode<ScriptObject>> as RootSource>⟧ ⟦<ScriptSources as RelatedSet<ScriptObject>>⟧ ⟦<ScriptBackoff as Backoff>⟧ ⟦<ScriptObject as Resource>⟧ (script_world s) [] controller.old
         → AreAtFirst (type_in s) s.root s.related controller.old.asks.root controller.old.asks.related
         → turns_of named_type turns.items ≡ turns_in s → map (λ t. map (λ f. fault_text f.outcome) t.finishes) turns.items ≡ all_faults s → after_fault ≡ s.error_requeue
         → HasRun s result }
+
+    // With one that stands for a history the records are the trace of the turns after it.
+    ensures goes { (s : script_data) (h : List (Step ObjectData)) → StandsFor ⟦<WatchRoot<TestMode<ScriptObject>> as RootSource>⟧ ⟦<ScriptSources as RelatedSet<ScriptObject>>⟧ ⟦<ScriptBackoff as Backoff>⟧ ⟦<ScriptObject as Resource>⟧ (script_world s) h controller.old
+        → AreOfScript s controller.old.asks.root controller.old.asks.related → after_fault ≡ s.error_requeue
+        → IfOk result (λ r. GoesOn s h (turns_of named_type turns.items) (records_of named_type r.records) controller.old.asks.root controller.old.asks.related controller.new.asks.root controller.new.asks.related
+        × StandsFor ⟦<WatchRoot<TestMode<ScriptObject>> as RootSource>⟧ ⟦<ScriptSources as RelatedSet<ScriptObject>>⟧ ⟦<ScriptBackoff as Backoff>⟧ ⟦<ScriptObject as Resource>⟧ (script_world s) (h ++ steps (turns_of named_type turns.items) (map unread (records_of named_type r.records))) controller.new) }
 {
     let mut recorder = Recorder::new(alloc);
     let policy = |_object: Arc<ScriptObject>, _fault: &Text, _context: Arc<()>| -> Action
@@ -167,7 +177,7 @@ fn run_turns(
 }
 
 /// Lets a controller go.
-fn let_go(_controller: ScriptController) {}
+pub(crate) fn let_go(_controller: ScriptController) {}
 
 /// Takes the turns that a script tells with the controller that it tells.
 fn take_turns(alloc: Global, parts: Parts) -> Result<ScriptTrace, ScriptError>

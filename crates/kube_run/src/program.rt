@@ -1,6 +1,6 @@
 //! The program over any source and any sink.
 
-ghost use Rattle.std.specs.Prelude.{◌≡◌, ◌+◌, ◌≤◌, ◌⊎◌, ◌≢◌, ◌++◌, false, map, string_bytes, Result, length, [], List};
+ghost use Rattle.std.specs.Prelude.{◌≡◌, ◌+◌, ◌⊎◌, ◌≢◌, ◌++◌, map, string_bytes, Result};
 ghost use Rattle.std.specs.Io.KnownBytes.{IsAtEnd};
 ghost use Rattle.kube_step.specs.Errors.{refusal_of as refusal_of_turn};
 ghost use Rattle.kube_script.specs.Loaded.{Answers, Refuses};
@@ -14,8 +14,11 @@ ghost use Rattle.kube_text.specs.Causes.{Rose};
 ghost use Rattle.kube_run.specs.Limit.{longest, TakesAtMost};
 ghost use Rattle.kube_text.specs.Part.{AppendsPart};
 ghost use Rattle.kube_run.specs.Played.{refusal_at};
-ghost use Rattle.kube_run.specs.Served.{is_run as names_run, Serves, RunsFor, Tells, status_of};
+ghost use Rattle.kube_run.specs.Commands.{IsCommand};
+ghost use Rattle.kube_run.specs.Served.{Serves, RunsFor, RunsFrom, Tells, status_of};
 
+use crate::command::{Command, command_of};
+use crate::generated::write_totals;
 use crate::input::{Unread, read_all};
 use crate::play::play;
 use crate::source::Source;
@@ -30,29 +33,48 @@ use kube_text::refusal::Refusal;
 use kube_text::sink::Sink;
 use std::alloc::Global;
 
-/// Does what the words name: `run` reads a script, runs a controller by it, and writes a line for each turn.
+/// Does what the words name: `run` reads a script, runs a controller by it, and writes a line for each turn; `gen` with a seed,
+/// a number of objects and a number of turns runs a controller over an input that it makes, and writes a line of totals.
 ///
-/// The words are those after the program's name.
+/// The words are those after the program's name. Numbers are in decimal, without a sign and without a leading zero.
 pub fn run_program<S: Source, W: Sink>(
     alloc: Global,
     words: &[String],
     source: &mut S,
     sink: &mut W,
 ) -> Status
-    ensures serves { Serves result (names_run (map string_bytes words.now)) (S.left source.old) (W.written sink.old) (W.written sink.new) }
+    ensures serves { Serves result (map string_bytes words.now) (S.left source.old) (W.written sink.old) (W.written sink.new) }
     ensures read_fault { result ≡ Status.ReadFault → Rose (S.faults source.old) (S.faults source.new) }
     ensures write_fault { result ≡ Status.WriteFault → Rose (W.faults sink.old) (W.faults sink.new) }
 
-    // Other words than `run` are refused before anything is read.
-    ensures unread { names_run (map string_bytes words.now) ≡ false → source.new ≡ source.old }
+    // For other words than `run` nothing is read.
+    ensures unread { (IsCommand (map string_bytes words.now) Command.Run → ⊥) → source.new ≡ source.old }
     ensures taken { TakesAtMost (longest + 1) (S.left source.old) (S.left source.new) }
 
-    // What is run was read to its end.
+    // A script that is run was read to its end.
+    ensures whole { IsCommand (map string_bytes words.now) Command.Run → (result ≡ Status.Done) ⊎ (result ≡ Status.BadRun) → IsAtEnd (S.left source.new) }
+{
+    match command_of(words) {
+        Some(Command::Run) => run_source(alloc, source, sink),
+        Some(
+            Command::Generate {
+                seed,
+                objects,
+                turns,
+            },
+        ) => write_totals(alloc, seed, objects, turns, sink),
+        None => refuse(alloc, &Refusal::Usage, Status::Usage, sink),
+    }
+}
+
+/// Reads a script, runs a controller by it, and writes a line for each turn.
+fn run_source<S: Source, W: Sink>(alloc: Global, source: &mut S, sink: &mut W) -> Status
+    ensures runs { RunsFrom result (S.left source.old) (W.written sink.old) (W.written sink.new) }
+    ensures read_fault { result ≡ Status.ReadFault → Rose (S.faults source.old) (S.faults source.new) }
+    ensures write_fault { result ≡ Status.WriteFault → Rose (W.faults sink.old) (W.faults sink.new) }
+    ensures taken { TakesAtMost (longest + 1) (S.left source.old) (S.left source.new) }
     ensures whole { (result ≡ Status.Done) ⊎ (result ≡ Status.BadRun) → IsAtEnd (S.left source.new) }
 {
-    if !is_run(words) {
-        return refuse(alloc, &Refusal::Usage, Status::Usage, sink);
-    }
     let bytes = match read_all(alloc, source) {
         Ok(bytes) => bytes,
         Err(Unread::NoMemory) => return Status::NoMemory,
@@ -80,16 +102,6 @@ fn load(alloc: Global, bytes: Vec<u8>) -> Result<Script, LoadError>
     ensures { Answers result (script_of bytes.items) }
 {
     script(alloc, &bytes)
-}
-
-/// Whether the words are the one command.
-fn is_run(words: &[String]) -> bool
-    ensures { result ≡ names_run (map string_bytes words.now) }
-{
-    match words {
-        [word] => word.as_str() == "run",
-        _ => false,
-    }
 }
 
 /// Writes the line of a refusal, and ends so if that went well.

@@ -42,6 +42,45 @@ const ROWS: &str = r#"= 0 run
 = 2 
 
 {"error":"usage"}
+= 0 gen 7 500 20
+
+{"asks":65,"finished":190,"missing":0,"objects":500,"requests":2019,"started":200}
+= 0 gen 1 1 1
+
+{"asks":6,"finished":0,"missing":0,"objects":1,"requests":4,"started":1}
+= 2 gen 7 500
+
+{"error":"usage"}
+= 2 gen 7 500 20 1
+
+{"error":"usage"}
+= 2 gen 18446744073709551616 500 20
+
+{"error":"usage"}
+= 2 gen +7 500 20
+
+{"error":"usage"}
+= 2 gen 07 500 20
+
+{"error":"usage"}
+= 2 gen 7 0 20
+
+{"error":"usage"}
+= 2 gen 7 20001 20
+
+{"error":"usage"}
+= 2 gen 7 500 0
+
+{"error":"usage"}
+= 2 gen 7 500 2001
+
+{"error":"usage"}
+= 2 gen 7 500 -1
+
+{"error":"usage"}
+= 2 run 7 500 20
+
+{"error":"usage"}
 = 0 run
 {"kind":{"group":"","version":"v1","kind":"ConfigMap","plural":"configmaps"},"root":{"lists":[{"items":[{"metadata":{"name":"a","resourceVersion":"1"}}],"metadata":{"resourceVersion":"1"}}],"watches":[[{"wait":1000000000000}]]},"turns":[{"at":9223372036854775807,"budget":[3]}]}
 {"asks":[{"answer":"page","call":"list","from":null,"items":[{"metadata":{"name":"a","resourceVersion":"1"}}],"requests":["ConfigMap.v1./a"],"source":0,"token":null,"version":"1"},{"answer":"opened","call":"watch","from":"1","initial":false,"items":[],"requests":[],"source":0},{"answer":"not ready","call":"next","items":[],"requests":[],"source":0}],"at":9223372036854775807,"ended":false,"finished":[],"stops":["not ready"],"taken":[{"found":true,"object":{"metadata":{"name":"a","resourceVersion":"1"}},"reason":"object updated","ref":"ConfigMap.v1./a"}],"turn":0}
@@ -282,7 +321,7 @@ fn writes_what_the_rows_say(rt: HostRuntime) -> Result<(), Fail> {
         runs_as_said(&rt, row)?;
         count = count.saturating_add(1);
     }
-    assert_eq!(rt; count, 47);
+    assert_eq!(rt; count, 60);
     Ok(())
 }
 

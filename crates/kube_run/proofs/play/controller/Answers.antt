@@ -11,9 +11,8 @@ use Rattle.kube_streams.specs.Backoffs.{Exponential, ResetTimer, asked_at, defau
 use Rattle.kube_watch.specs.Configs.{settings_of}
 use Rattle.kube_watch.specs.Stands.{settings_in}
 use Rattle.kube_run.specs.Played.{has_name, version_of, world_with}
-use Rattle.kube_run.specs.Sources.{Source}
+use Rattle.kube_run.specs.Sources.{Source, Sources, list_of}
 use Rattle.kube_run.proofs.First.{all-stand, rows-fed}
-use Rattle.kube_run.proofs.Polled.{Sources, list_of}
 use Rattle.kube_run.proofs.play.controller.Goals as goal
 
 pub returns-clause-stands : goal.returns-clause-stands

@@ -1,5 +1,6 @@
 use Rattle.std.proofs.Common.{◌≡◌, [], true, false, length, map, take, sym, ap, subst, ◌∙◌}
 use Rattle.std.proofs.lemmas.List.{length-map}
+use Rattle.kube_model.specs.History.{exchanges}
 use Rattle.kube_model.specs.Named.{AreNamedTurns, RootIsNamed}
 use Rattle.kube_model.specs.Traces.{IsTrace, steps, unread}
 use Rattle.kube_object.specs.Named.{named_type}
@@ -12,7 +13,8 @@ use Rattle.kube_run.proofs.Plays.{all-ok, both, err-cases}
 use Rattle.kube_run.proofs.Policies.{few-records, same-lines, trace-by}
 use Rattle.kube_run.proofs.Ended.{front, front-lines, refused-next, unnamed-next}
 use Rattle.kube_run.proofs.First.{first-apis, first-of}
-use Rattle.kube_run.proofs.Polled.{apis_in, polled-answered}
+use Rattle.kube_run.proofs.Polled.{polled-answered}
+use Rattle.kube_run.specs.Sources.{apis_in}
 use Rattle.kube_run.proofs.play.run_turns.Goals as goal
 
 pub returns : goal.returns
@@ -76,4 +78,17 @@ returns c = record {
         tt,
       ))
       (λ trace k. absurd (let z : true ≡ false = sym k.0 ∙ stands.unspent in cc)));
+  goes = λ s h stands of after.
+      let w = script_world s in
+      let ts = c.args.turns.items in
+      let told = c.run.ensures in
+      let root = c.args.controller.now.asks.root in
+      let set = c.args.controller.now.asks.related in
+      all-ok c.run.result
+      (λ r traced names polled finished.
+      let q = answered_by (records_of named_type r.records) in
+      let exact = trace-by w _ s.error_requeue (λ o e a k. k.says.met.2 ∙ after) q h ts r.records finished traced.0 in
+      let answers = polled-answered s (exchanges h) root set _ _ _ of polled in
+      (record { trace = exact; named = names; answered = answers.0; of_script = answers.1 }, traced.1))
+      (told.trace w h stands) (told.named w h stands) (told.asked w h stands) (told.policy w h stands);
 }

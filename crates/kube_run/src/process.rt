@@ -1,17 +1,4 @@
-//! Runs a controller by a script, and writes the trace of its turns.
-#![tactic(auto)]
-
-pub mod input;
-pub mod laws;
-pub mod mapper;
-pub mod play;
-pub mod program;
-pub mod source;
-pub mod status;
-pub mod stdio;
-#[cfg(test)]
-mod tests;
-pub mod trace;
+//! The program as a process runs it.
 
 use crate::program::run_program;
 use crate::status::Status;
@@ -22,10 +9,11 @@ use std::process::ExitCode;
 
 /// What is told on standard error where the words name nothing that the program does.
 const USAGE: &str =
-    "usage: kube_run run < SCRIPT\n\nReads a script, runs a controller by it, and writes a line for each turn.";
+    "usage: kube_program run < SCRIPT\n       kube_program gen SEED OBJECTS TURNS\n\nrun reads a script, runs a controller by it, and writes a line for each turn.\ngen runs a controller over an input that it makes, of 1 to 20000 objects, for 1 to 2000 turns,\nand writes one line of totals.";
 
-fn main(rt: HostRuntime) -> ExitCode {
-    let status = run(&rt);
+/// Runs the program over the process' words, its standard input and its standard output, and says how the process ends.
+pub fn run_process(rt: &HostRuntime) -> ExitCode {
+    let status = run(rt);
     if status == Status::Usage {
         // How the program ends is told by its status and its output alone.
         let _told = eprintln!(rt; "{USAGE}");

@@ -1,0 +1,18 @@
+//! The program: runs a controller by a script, and writes the trace of its turns; or over a generated input, and writes its totals.
+#![tactic(auto)]
+
+pub mod command;
+pub mod generated;
+pub mod input;
+pub mod laws;
+pub mod mapper;
+pub mod play;
+pub mod process;
+pub mod program;
+pub mod source;
+pub mod status;
+pub mod stdio;
+#[cfg(test)]
+mod tests;
+pub mod totals;
+pub mod trace;
