@@ -25,6 +25,3 @@ pub use recording::Recording;
 pub use result_page::ResultPage;
 pub use sequence::{Sequence, SequenceStep};
 pub use test_mode::TestMode;
-
-#[cfg(test)]
-mod tests;

@@ -26,6 +26,3 @@ pub use root::RootSource;
 pub use set::RelatedSet;
 pub use sets::{Beside, NoRelated, One};
 pub use watch_root::WatchRoot;
-
-#[cfg(test)]
-mod tests;

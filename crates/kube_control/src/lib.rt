@@ -5,8 +5,6 @@ pub mod controller;
 pub mod error;
 pub mod laws;
 mod stopped;
-#[cfg(test)]
-mod tests;
 
 pub use controller::Controller;
 pub use error::RunError;

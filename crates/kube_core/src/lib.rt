@@ -10,6 +10,3 @@ mod taking;
 
 pub use controller_core::Core;
 pub use pending::Pending;
-
-#[cfg(test)]
-mod tests;

@@ -45,6 +45,7 @@ fn apply_told<K: Resource>(
     ensures err { OnErr result (writer.new ≡ writer.old) }
 {
     match events {
+        [] => Ok(()),
         [event] => writer.apply_watcher_event(alloc, event),
         _ => writer.apply_watcher_events(alloc, events),
     }

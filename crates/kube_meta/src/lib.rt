@@ -35,6 +35,3 @@ pub use text::Text;
 pub use text_map::TextMap;
 pub use text_set::TextSet;
 pub use writing::write_object;
-
-#[cfg(test)]
-mod tests;

@@ -32,6 +32,3 @@ pub use steps::Steps;
 pub use store::{
     Ended, OfferError, Published, Store, WriteError, Writer, WriterDropped, store_shared,
 };
-
-#[cfg(test)]
-mod tests;

@@ -12,7 +12,5 @@ pub mod program;
 pub mod source;
 pub mod status;
 pub mod stdio;
-#[cfg(test)]
-mod tests;
 pub mod totals;
 pub mod trace;

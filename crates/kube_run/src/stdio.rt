@@ -8,9 +8,6 @@ use kube_text::failed::Failed;
 use kube_text::sink::Sink;
 use std::io::{ErrorKind, Read, Stdin, Stdout, Write};
 
-#[cfg(test)]
-mod tests;
-
 /// Standard input. It doesn't tell what is left. A read that a signal interrupted is tried again.
 #[derive(Drop)]
 pub struct StandardInput {
@@ -41,8 +38,12 @@ impl Source for StandardInput {
     }
 }
 
-/// Reads, and does so again where a signal interrupted it.
-fn read_again<R: Read>(input: &mut R, buf: &mut [u8]) -> Result<usize, Failed>
+/// Reads, and does so again where a signal interrupted it. How many bytes were moved: at most as many as there is room for.
+///
+/// # Errors
+///
+/// `Failed` where a read ended with any other error.
+pub fn read_again<R: Read>(input: &mut R, buf: &mut [u8]) -> Result<usize, Failed>
     ensures { ReadsAtMost result buf.new }
 {
     for _ in 0..u64::MAX {
@@ -85,8 +86,12 @@ impl Sink for StandardOutput {
     }
 }
 
-/// Writes, and does so again where a signal interrupted it. A write of no byte where there are any is a fault.
-fn write_again<W: Write>(output: &mut W, bytes: &[u8]) -> Result<usize, Failed>
+/// Writes, and does so again where a signal interrupted it. How many bytes were moved: at least one where there are any.
+///
+/// # Errors
+///
+/// `Failed` where a write ended with any other error, and where it moved no byte though there are some.
+pub fn write_again<W: Write>(output: &mut W, bytes: &[u8]) -> Result<usize, Failed>
     ensures bound { WritesAtMost result bytes.now }
     ensures some { IfOk result (λ n. 0 < length bytes.now → 0 < n) }
 {

@@ -24,8 +24,3 @@ pub use runner::Runner;
 pub use schedule::Scheduler;
 pub use scheduled::{Scheduled, debounced_scheduler, scheduler};
 pub use told_future::{ToldFuture, Untold};
-
-#[cfg(test)]
-mod plain;
-#[cfg(test)]
-mod tests;

@@ -18,6 +18,3 @@ pub use script::{Mapped, Related, Script, Source};
 pub use settings::BackoffRow;
 pub use told::{ScriptFinish, ScriptTurn};
 pub use turn::{FinishRow, Ref, TurnRow};
-
-#[cfg(test)]
-mod tests;

@@ -21,6 +21,3 @@ mod watching;
 pub use conn::Conn;
 pub use server::{Server, ServerRefusal};
 pub use server_objects::ServerObjects;
-
-#[cfg(test)]
-mod tests;

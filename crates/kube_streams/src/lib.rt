@@ -36,6 +36,3 @@ pub use settled::Settled;
 pub use split::split_result;
 pub use stream_backoff::StreamBackoff;
 pub use watch_ext::WatchStreamExt;
-
-#[cfg(test)]
-mod tests;

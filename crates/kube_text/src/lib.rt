@@ -20,6 +20,3 @@ pub use record::{ScriptRecord, write_record};
 pub use refusal::{Refusal, refusal_line};
 pub use show::Show;
 pub use sink::{NeverFailsSink, Sink, VecSink};
-
-#[cfg(test)]
-mod tests;

@@ -7,6 +7,3 @@ pub use trigger::{
     Mapped, Own, TriggerOthers, TriggerOwners, TriggerSelf, TriggerWith, With, trigger_others,
     trigger_owners, trigger_owners_shared, trigger_self, trigger_with,
 };
-
-#[cfg(test)]
-mod tests;

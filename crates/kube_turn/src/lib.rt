@@ -22,6 +22,3 @@ pub use record::{Finished, Trace, TurnRecord};
 pub use request::ReconcileRequest;
 pub use taken::Taken;
 pub use turn::{Finish, Turn};
-
-#[cfg(test)]
-mod tests;

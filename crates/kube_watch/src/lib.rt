@@ -26,6 +26,3 @@ pub use stub_watcher::error_indicates_graceful_watch_seq_exhaustion;
 pub use tell::events_of;
 pub use unit::{Exchange, Unit};
 pub use watching::Watcher;
-
-#[cfg(test)]
-mod tests;

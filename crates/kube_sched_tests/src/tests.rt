@@ -1,0 +1,447 @@
+//! Each call of a scheduler, with ample memory.
+
+mod future_hash_map;
+mod many;
+mod runner;
+mod waiting;
+
+use crate::plain::{Message, Plain};
+use kube_meta::{Moment, Next, NoMemory};
+use kube_sched::{Requests, ScheduleRequest, Scheduled, Scheduler, debounced_scheduler, scheduler};
+use std::alloc::Global;
+use std::collections::VecDeque;
+use std::process::Abort;
+use std::test::Fail;
+
+const SECOND: u64 = 1_000_000_000;
+
+fn request(key: u8, tag: u64, run_at: u64) -> ScheduleRequest<Message> {
+    ScheduleRequest {
+        message: Message { key, tag },
+        run_at: Moment(run_at),
+    }
+}
+
+/// The tag of a message.
+fn tag_of(message: Option<&Message>) -> Option<u64> {
+    match message {
+        Some(message) => Some(message.tag),
+        None => None,
+    }
+}
+
+/// The tag of the first message that waits at a moment.
+fn taken(scheduler: &mut Scheduler<Message>, at: u64) -> Option<u64> {
+    scheduler.settle(Moment(at));
+    let message = scheduler.take_first(|_| true)?;
+    Some(message.tag)
+}
+
+/// A step on a scheduler of messages of key 1, with what it is to give.
+#[derive(Clone, Copy)]
+enum Step {
+    /// A request for a message with a tag, for a moment, at a moment.
+    Ask(u64, u64, u64),
+    /// The tag of the first message that waits at a moment, which is taken.
+    Take(u64, Option<u64>),
+    /// How many messages wait at a moment, how many are held, and whether one of key 1 waits.
+    Count(u64, usize, usize, bool),
+}
+
+/// What is tried of a scheduler, its debounce, and its steps.
+const STEPS: [(&str, u64, &[Step]); 5] = [
+    (
+        "an earlier request takes the place",
+        0,
+        &[
+            Step::Ask(10, 2_000_000_000, 0),
+            Step::Ask(11, 1_000_000_000, 0),
+            Step::Take(999_999_999, None),
+            Step::Take(1_000_000_000, Some(11)),
+            Step::Take(2_000_000_000, None),
+            Step::Count(2_000_000_000, 0, 0, false),
+        ],
+    ),
+    (
+        "a later request changes nothing",
+        0,
+        &[
+            Step::Ask(10, 1_000_000_000, 0),
+            Step::Ask(11, 2_000_000_000, 0),
+            Step::Count(0, 0, 1, false),
+            Step::Take(1_000_000_000, Some(10)),
+            Step::Take(2_000_000_000, None),
+        ],
+    ),
+    (
+        "a debounce holds a message",
+        3_000_000_000,
+        &[
+            Step::Ask(10, 0, 0),
+            Step::Ask(11, 1_000_000_000, 1_000_000_000),
+            Step::Count(3_500_000_000, 0, 1, false),
+            Step::Count(4_000_000_000, 1, 1, true),
+        ],
+    ),
+    (
+        "a request before the settle moves the message",
+        3_000_000_000,
+        &[
+            Step::Ask(10, 0, 0),
+            Step::Ask(11, 3_000_000_000, 3_000_000_000),
+            Step::Take(3_000_000_000, None),
+            Step::Take(5_999_999_999, None),
+            Step::Take(6_000_000_000, Some(11)),
+        ],
+    ),
+    (
+        "no message is held longer than 180 days",
+        0,
+        &[
+            Step::Ask(10, u64::MAX, 5),
+            Step::Take(15_552_000_000_000_004, None),
+            Step::Take(15_552_000_000_000_005, Some(10)),
+        ],
+    ),
+];
+
+/// Does steps in order.
+fn check_steps(
+    rt: &impl Abort,
+    alloc: Global,
+    name: &str,
+    debounce: u64,
+    steps: &[Step],
+) -> Result<(), Fail> {
+    let mut scheduler = Scheduler::new(alloc, debounce);
+    for step in steps {
+        match step {
+            Step::Ask(tag, run_at, now) => {
+                scheduler.schedule(alloc, request(1, *tag, *run_at), Moment(*now))?;
+            }
+            Step::Take(at, wanted) => {
+                assert_eq!(rt; taken(&mut scheduler, *at), *wanted, "{name}: at {at}");
+            }
+            Step::Count(at, waiting, held, waits) => {
+                scheduler.settle(Moment(*at));
+                assert_eq!(rt; scheduler.waiting_len(), *waiting, "{name}: at {at}");
+                assert_eq!(rt; scheduler.len(), *held, "{name}: at {at}");
+                let one = Message { key: 1, tag: 0 };
+                assert_eq!(rt; scheduler.contains_pending(&one), *waits, "{name}: at {at}");
+            }
+        }
+    }
+    Ok(())
+}
+
+#[test]
+fn requests_settles_and_takes(rt: HostRuntime) -> Result<(), Fail> {
+    for (name, debounce, steps) in STEPS {
+        check_steps(&rt, rt.alloc(), name, debounce, steps)?;
+    }
+    Ok(())
+}
+
+/// Uses reserved places, of which each request takes one.
+fn use_reserved(rt: &impl Abort, scheduler: &mut Scheduler<Message>) {
+    let mut left = scheduler.spare();
+    assert!(rt; left >= 2);
+    for key in [1, 2] {
+        if scheduler.spare() > 0 {
+            scheduler.schedule_reserved(request(key, u64::from(key), 7), Moment(0));
+        }
+        assert!(rt; scheduler.spare() < left);
+        left = scheduler.spare();
+    }
+    assert_eq!(rt; taken(scheduler, 7), Some(1));
+    assert_eq!(rt; taken(scheduler, 7), Some(2));
+}
+
+#[test]
+fn reserved_places_are_used(rt: HostRuntime) -> Result<(), Fail> {
+    let mut scheduler = Scheduler::new(rt.alloc(), 0);
+    scheduler.reserve(rt.alloc(), 2)?;
+    use_reserved(&rt, &mut scheduler);
+    Ok(())
+}
+
+/// The next of numbers that look like chance.
+fn next_number(state: &mut u64) -> u64 {
+    *state = state
+        .wrapping_mul(6_364_136_223_846_793_005)
+        .wrapping_add(1_442_695_040_888_963_407);
+    *state >> 33
+}
+
+/// A moment of a request: mostly near now, now and then the greatest.
+fn any_run_at(state: &mut u64, now: u64) -> u64 {
+    let number = next_number(state);
+    if number % 50 == 0 {
+        u64::MAX
+    } else {
+        now.saturating_sub(5).saturating_add(number % 40)
+    }
+}
+
+/// One step on both: a request, a settle or a take. What was taken by each.
+fn take_step(
+    alloc: Global,
+    state: &mut u64,
+    now: u64,
+    scheduler: &mut Scheduler<Message>,
+    plain: &mut Plain,
+) -> Result<(Option<u64>, Option<u64>), Fail> {
+    let tag = next_number(state);
+    let key = (next_number(state) % 6) as u8;
+    let run_at = any_run_at(state, now);
+    match next_number(state) % 8 {
+        0 => {
+            scheduler.settle(Moment(now));
+            plain.settle(now);
+        }
+        1 => {
+            let passes = |message: &Message| message.key >= key;
+            let seen = tag_of(scheduler.first(passes));
+            let mine = scheduler.take_first(passes);
+            if seen != tag_of(mine.as_ref()) {
+                return Err(Fail::from("another one is taken than was seen"));
+            }
+            return Ok((seen, plain.take(key)?));
+        }
+        2 if scheduler.spare() > 0 => {
+            scheduler.schedule_reserved(request(key, tag, run_at), Moment(now));
+            plain.request(Message { key, tag }, run_at, now)?;
+        }
+        3 => scheduler.reserve(alloc, 1)?,
+        _ => {
+            scheduler.schedule(alloc, request(key, tag, run_at), Moment(now))?;
+            plain.request(Message { key, tag }, run_at, now)?;
+        }
+    }
+    Ok((None, None))
+}
+
+/// Both hold the same.
+fn compare(rt: &impl Abort, scheduler: &Scheduler<Message>, plain: &Plain) {
+    assert_eq!(rt; scheduler.len(), plain.len());
+    assert_eq!(rt; scheduler.waiting_len(), plain.waiting_len());
+    for key in 0..6u8 {
+        let waits = scheduler.contains_pending(&Message { key, tag: 0 });
+        assert_eq!(rt; waits, plain.is_waiting(key));
+    }
+}
+
+/// Two thousand steps on both. How many messages were taken.
+fn step_on_both(
+    rt: &impl Abort,
+    alloc: Global,
+    scheduler: &mut Scheduler<Message>,
+    plain: &mut Plain,
+) -> Result<u32, Fail> {
+    let mut state = 11;
+    let mut now = 100u64;
+    let mut given = 0u32;
+    for _step in 0..2000 {
+        now = now
+            .saturating_add(next_number(&mut state) % 7)
+            .saturating_sub(1);
+        let (mine, wanted) = take_step(alloc, &mut state, now, scheduler, plain)?;
+        assert_eq!(rt; mine, wanted);
+        if mine.is_some() {
+            given = given.saturating_add(1);
+        }
+        compare(rt, scheduler, plain);
+    }
+    Ok(given)
+}
+
+#[test]
+fn two_thousand_steps_are_as_defined(rt: HostRuntime) -> Result<(), Fail> {
+    let mut scheduler = Scheduler::new(rt.alloc(), 3);
+    let mut plain = Plain::new(rt.alloc(), 3);
+    let given = step_on_both(&rt, rt.alloc(), &mut scheduler, &mut plain)?;
+    assert!(rt; given > 100, "given {given}");
+    Ok(())
+}
+
+/// Requests that come at moments. After the last one there is nothing, or the end.
+#[derive(Drop)]
+struct Script {
+    requests: VecDeque<(u64, ScheduleRequest<Message>)>,
+    ends_at: Option<u64>,
+}
+
+impl Requests<Message> for Script {
+    ghost use Rattle.std.specs.Prelude.{None};
+
+    ghost told = { λ _. None };
+
+    fn poll_request(
+        &mut self,
+        _alloc: Global,
+        now: Moment,
+    ) -> Result<Next<ScheduleRequest<Message>>, NoMemory> {
+        let Some((at, request)) = self.requests.pop_front() else {
+            return match self.ends_at {
+                Some(end) if end <= now.0 => Ok(Next::End),
+                _ => Ok(Next::Spent),
+            };
+        };
+        if at <= now.0 {
+            return Ok(Next::Item(request));
+        }
+        self.requests.push_front((at, request))?;
+        Ok(Next::NotReady)
+    }
+}
+
+/// A script of keys with the moments at which they come and for which they ask.
+fn asks(alloc: Global, all: &[(u8, u64, u64)], ends_at: Option<u64>) -> Result<Script, Fail> {
+    let mut requests = VecDeque::new(alloc);
+    for (key, at, run_at) in all {
+        requests.push_back((*at, request(*key, u64::from(*key), *run_at)))?;
+    }
+    Ok(Script { requests, ends_at })
+}
+
+/// What a poll answered: a message's tag, or how it ended.
+fn shown(answer: &Next<Message>) -> u64 {
+    match answer {
+        Next::Item(message) => message.tag,
+        Next::NotReady => 1000,
+        Next::Spent => 1001,
+        Next::End => 1002,
+    }
+}
+
+const NOT_READY: u64 = 1000;
+
+const SPENT: u64 = 1001;
+
+const END: u64 = 1002;
+
+/// Polls at moments in seconds, each with what it answers.
+fn poll_all(
+    rt: &impl Abort,
+    alloc: Global,
+    name: &str,
+    scheduled: &mut Scheduled<Message, Script>,
+    fuel: u32,
+    polls: &[(u64, u64)],
+) -> Result<(), Fail> {
+    for (second, wanted) in polls {
+        let now = Moment(second.saturating_mul(SECOND));
+        let answer = scheduled.poll_next(alloc, now, fuel)?;
+        assert_eq!(rt; shown(&answer), *wanted, "{name}: at {second} s");
+    }
+    Ok(())
+}
+
+/// What is tried of a scheduler over requests: its debounce, the requests, how many of them a poll may take, and the polls.
+const POLLS: [(&str, u64, &[(u8, u64, u64)], u32, &[(u64, u64)]); 5] = [
+    (
+        "messages come when they are due",
+        0,
+        &[(1, 0, 1_000_000_000), (2, 0, 3_000_000_000)],
+        9,
+        &[(0, NOT_READY), (2, 1), (2, NOT_READY), (4, 2)],
+    ),
+    (
+        "equal messages come once, the earlier first",
+        0,
+        &[(1, 0, 1_000_000_000), (1, 0, 3_000_000_000)],
+        9,
+        &[(0, NOT_READY), (2, 1), (4, NOT_READY)],
+    ),
+    (
+        "equal messages come once, the later first",
+        0,
+        &[(1, 0, 3_000_000_000), (1, 0, 1_000_000_000)],
+        9,
+        &[(0, NOT_READY), (2, 1), (4, NOT_READY)],
+    ),
+    (
+        "a poll takes as many requests as it may",
+        0,
+        &[(1, 0, 0), (2, 0, 0), (3, 0, 0)],
+        2,
+        &[(0, SPENT), (0, 1), (0, 2), (0, 3), (0, NOT_READY)],
+    ),
+    (
+        "a debounced scheduler holds longer",
+        3_000_000_000,
+        &[(1, 0, 0), (1, 1_000_000_000, 1_000_000_000)],
+        9,
+        &[
+            (0, NOT_READY),
+            (1, NOT_READY),
+            (3, NOT_READY),
+            (4, 1),
+            (7, NOT_READY),
+        ],
+    ),
+];
+
+#[test]
+fn polls_give_what_is_due(rt: HostRuntime) -> Result<(), Fail> {
+    for (name, debounce, requests, fuel, polls) in POLLS {
+        let requests = asks(rt.alloc(), requests, None)?;
+        let mut scheduled = debounced_scheduler(rt.alloc(), requests, debounce);
+        poll_all(&rt, rt.alloc(), name, &mut scheduled, fuel, polls)?;
+    }
+    Ok(())
+}
+
+/// Holds all messages in two polls, at each of which the same one is asked for, and then releases them.
+fn hold_and_release(
+    rt: &impl Abort,
+    alloc: Global,
+    scheduled: &mut Scheduled<Message, Script>,
+) -> Result<(), Fail> {
+    let one = Message { key: 1, tag: 0 };
+    assert!(rt; !scheduled.contains_pending(&one));
+    for now in [0, SECOND] {
+        let answer = scheduled.hold().poll_next(alloc, Moment(now), 9)?;
+        assert_eq!(rt; shown(&answer), NOT_READY);
+        assert!(rt; scheduled.contains_pending(&one));
+    }
+    let polls = [(2, 1), (3, NOT_READY), (4, END), (5, END)];
+    poll_all(rt, alloc, "released", scheduled, 9, &polls)
+}
+
+#[test]
+fn a_held_message_comes_once_when_released(rt: HostRuntime) -> Result<(), Fail> {
+    let alloc = rt.alloc();
+    let requests = asks(alloc, &[(1, 0, 0), (1, SECOND, SECOND)], Some(4 * SECOND))?;
+    let mut scheduled = scheduler(alloc, requests);
+    hold_and_release(&rt, alloc, &mut scheduled)
+}
+
+/// Holds a message that does not pass, which is dropped at the end of the requests.
+fn hold_one(
+    rt: &impl Abort,
+    alloc: Global,
+    scheduled: &mut Scheduled<Message, Script>,
+) -> Result<(), Fail> {
+    for wanted in [2, NOT_READY] {
+        let mut unless = scheduled.hold_unless(|message: &Message| message.key != 1);
+        let answer = unless.poll_next(alloc, Moment(0), 9)?;
+        assert_eq!(rt; shown(&answer), wanted);
+    }
+    let one = Message { key: 1, tag: 0 };
+    assert!(rt; scheduled.contains_pending(&one));
+    poll_all(rt, alloc, "ended", scheduled, 9, &[(1, END)])?;
+    assert!(rt;
+        !scheduled.contains_pending(&one),
+        "what is held is dropped"
+    );
+    Ok(())
+}
+
+#[test]
+fn a_message_that_does_not_pass_is_held(rt: HostRuntime) -> Result<(), Fail> {
+    let alloc = rt.alloc();
+    let requests = asks(alloc, &[(1, 0, 0), (2, 0, 0)], Some(SECOND))?;
+    let mut scheduled = scheduler(alloc, requests);
+    hold_one(&rt, alloc, &mut scheduled)
+}

@@ -1,0 +1,113 @@
+//! Futures by key (kube-runtime's tests of `future_hash_map`).
+
+use super::waiting::Waiting;
+use futures::channel::oneshot;
+use futures::test::MockTask;
+use kube_meta::Polled;
+use kube_sched::{FutureHashMap, Untold};
+use std::alloc::Global;
+use std::process::Abort;
+use std::test::Fail;
+
+/// What a poll of values gave: a value, or how it ended.
+fn shown(answer: Polled<Option<u32>>) -> u32 {
+    match answer {
+        Polled::Ready(Some(value)) => value,
+        Polled::Ready(None) => EMPTY,
+        Polled::NotReady => NOT_READY,
+    }
+}
+
+const EMPTY: u32 = 1000;
+
+const NOT_READY: u32 = 1001;
+
+/// The same of what came through channels.
+fn received(answer: Polled<Option<Result<u32, oneshot::Canceled>>>) -> u32 {
+    match answer {
+        Polled::Ready(Some(Ok(value))) => value,
+        Polled::Ready(Some(Err(_))) => 1002,
+        Polled::Ready(None) => EMPTY,
+        Polled::NotReady => NOT_READY,
+    }
+}
+
+type Received = FutureHashMap<u8, Untold<oneshot::Receiver<u32>>>;
+
+/// Polls a map before and after each of two values comes.
+fn receive_each(
+    rt: &impl Abort,
+    task: &MockTask,
+    map: &mut Received,
+    send0: oneshot::Sender<u32>,
+    send1: oneshot::Sender<u32>,
+) {
+    assert_eq!(rt; received(task.enter(|cx| map.poll_next(cx))), NOT_READY);
+    assert!(rt; send0.send(10u32).is_ok());
+    assert_eq!(rt; received(task.enter(|cx| map.poll_next(cx))), 10);
+    assert_eq!(rt; received(task.enter(|cx| map.poll_next(cx))), NOT_READY);
+    assert!(rt; send1.send(11u32).is_ok());
+    assert_eq!(rt; received(task.enter(|cx| map.poll_next(cx))), 11);
+    assert_eq!(rt; received(task.enter(|cx| map.poll_next(cx))), EMPTY);
+}
+
+#[test]
+fn futures_end_one_after_another(rt: HostRuntime) -> Result<(), Fail> {
+    let alloc = rt.alloc();
+    let task = MockTask::new(&rt)?;
+    let mut map = FutureHashMap::new(alloc);
+    let (send0, receive0) = oneshot::channel(alloc)?;
+    let (send1, receive1) = oneshot::channel(alloc)?;
+    map.insert(alloc, 0u8, Untold { future: receive0 })?;
+    map.insert(alloc, 1u8, Untold { future: receive1 })?;
+    receive_each(&rt, &task, &mut map, send0, send1);
+    Ok(())
+}
+
+/// Polls a map, each time with what it answers.
+fn poll_each(
+    rt: &impl Abort,
+    task: &MockTask,
+    map: &mut FutureHashMap<u8, Waiting>,
+    wanted: &[u32],
+) {
+    for wanted in wanted {
+        assert_eq!(rt; shown(task.enter(|cx| map.poll_next(cx))), *wanted);
+    }
+}
+
+#[test]
+fn the_first_ready_one_in_order_of_insertion(rt: HostRuntime) -> Result<(), Fail> {
+    let alloc = rt.alloc();
+    let task = MockTask::new(&rt)?;
+    let mut map = FutureHashMap::new(alloc);
+    map.insert(alloc, 7u8, Waiting::new(1, 2))?;
+    map.insert(alloc, 3u8, Waiting::new(2, 1))?;
+    map.insert(alloc, 5u8, Waiting::new(3, 1))?;
+    poll_each(&rt, &task, &mut map, &[NOT_READY, 2, 1, 3, EMPTY]);
+    Ok(())
+}
+
+/// Puts a new future at a key that has one.
+fn insert_anew(
+    rt: &impl Abort,
+    alloc: Global,
+    map: &mut FutureHashMap<u8, Waiting>,
+) -> Result<(), Fail> {
+    assert!(rt; map.insert(alloc, 1u8, Waiting::new(1, 0))?.is_none());
+    assert!(rt; map.insert(alloc, 2u8, Waiting::new(2, 0))?.is_none());
+    assert!(rt; map.insert(alloc, 1u8, Waiting::new(3, 0))?.is_some());
+    assert_eq!(rt; map.len(), 2);
+    assert!(rt; map.contains_key(&1));
+    assert!(rt; !map.contains_key(&3));
+    Ok(())
+}
+
+#[test]
+fn a_new_future_takes_the_place_of_the_old(rt: HostRuntime) -> Result<(), Fail> {
+    let task = MockTask::new(&rt)?;
+    let mut map = FutureHashMap::new(rt.alloc());
+    insert_anew(&rt, rt.alloc(), &mut map)?;
+    poll_each(&rt, &task, &mut map, &[3, 2, EMPTY]);
+    Ok(())
+}

@@ -1,4 +1,0 @@
-use Rattle.kube_streams.proofs.tests.scripted.check_each.Given as goal
-
-abbrev pub invariant-loop-poll : goal.invariant-loop-poll
-invariant-loop-poll g l = g.S.EventStream.can_poll l.stream

@@ -1,0 +1,190 @@
+//! Events that are applied to a writer, closures at the end, and results apart from errors.
+
+use super::adapted::EIGHT;
+use super::scripted::Polls::{Each, Fueled};
+use super::scripted::Said::{Apply, End, Error, Init, InitApply, InitDone};
+use super::scripted::{Poll, Polls, Said, check, numbers, objects};
+use kube_meta::{ApiResource, DynamicObject, Moment, NoMemory, Text};
+use kube_reflect::Writer;
+use kube_streams::{EventStream, StreamFault, WatchStreamExt, on_complete, split_result};
+use std::alloc::Global;
+use std::process::Abort;
+use std::sync::Arc;
+use std::test::Fail;
+
+fn config_maps(alloc: Global) -> Result<Arc<ApiResource>, NoMemory> {
+    let kind = ApiResource {
+        group: Text::new(alloc, "")?,
+        version: Text::new(alloc, "v1")?,
+        api_version: Text::new(alloc, "v1")?,
+        kind: Text::new(alloc, "ConfigMap")?,
+        plural: Text::new(alloc, "configmaps")?,
+    };
+    Ok(Arc::new(alloc, kind)?)
+}
+
+fn writer(alloc: Global) -> Result<Writer<DynamicObject>, NoMemory> {
+    Writer::new(alloc, config_maps(alloc)?, 1)
+}
+
+const SAID: &[Said] = &[Apply(1), Error, Init, InitApply(1), InitApply(2), InitDone];
+
+const EVENTS: &[&str] = &[
+    "Init",
+    "InitApply(1)",
+    "not ready",
+    "error",
+    "Delete(2)",
+    "InitApply(3)",
+    "InitDone",
+    "Apply(4)",
+    "end",
+];
+
+const ROWS: &[(&[Said], Polls)] = &[
+    (
+        SAID,
+        Each(&[
+            Poll(0, 9, "Apply(1)"),
+            Poll(0, 9, "error"),
+            Poll(0, 9, "Init"),
+            Poll(0, 9, "InitApply(1)"),
+            Poll(0, 9, "InitApply(2)"),
+            Poll(0, 9, "InitDone"),
+            Poll(0, 9, "end"),
+        ]),
+    ),
+    (EIGHT, Fueled(1, EVENTS)),
+    (EIGHT, Fueled(2, EVENTS)),
+    (EIGHT, Fueled(3, EVENTS)),
+];
+
+#[test]
+fn applied_events_are_given(rt: HostRuntime) -> Result<(), Fail> {
+    let alloc = rt.alloc();
+    for (answers, polls) in ROWS {
+        let stream = objects(alloc, answers)?;
+        let mut events = stream.reflect(writer(alloc)?);
+        check(&rt, alloc, &mut events, polls)?;
+    }
+    Ok(())
+}
+
+fn poll_all<S: EventStream>(alloc: Global, stream: &mut S, polls: usize) -> Result<(), StreamFault>
+    requires may { S.can_poll stream.old }
+    ensures may { S.can_poll stream.new }
+{
+    for _poll in 0..polls {
+        stream.poll_next(alloc, Moment(0), 9)?;
+    }
+    Ok(())
+}
+
+/// After so many polls so many objects are stored.
+fn check_stored(rt: &impl Abort, alloc: Global, polls: usize, stored: usize) -> Result<(), Fail> {
+    let stream = objects(alloc, SAID)?;
+    let mut events = stream.reflect(writer(alloc)?);
+    poll_all(alloc, &mut events, polls)?;
+    assert_eq!(rt; events.writer().cache().len(), stored);
+    assert_eq!(rt; events.into_writer().is_ready(), stored == 2);
+    Ok(())
+}
+
+#[test]
+fn each_event_is_applied_before_it_is_given(rt: HostRuntime) -> Result<(), Fail> {
+    for polls in 1..6 {
+        check_stored(&rt, rt.alloc(), polls, 1)?;
+    }
+    check_stored(&rt, rt.alloc(), 6, 2)
+}
+
+#[test]
+fn an_object_without_a_name_ends_it(rt: HostRuntime) -> Result<(), Fail> {
+    let alloc = rt.alloc();
+    let stream = objects(alloc, &[Apply(0), Apply(1)])?;
+    let mut events = stream.reflect(writer(alloc)?);
+    for _poll in 0..2 {
+        let polled = poll_all(alloc, &mut events, 1);
+        assert_eq!(&rt; polled, Err(StreamFault::Unnamed));
+    }
+    Ok(())
+}
+
+#[test]
+fn subscribers_can_be_shared(rt: HostRuntime) -> Result<(), Fail> {
+    let alloc = rt.alloc();
+    let stream = objects(alloc, SAID)?;
+    let shared = Writer::new_shared(alloc, 10, config_maps(alloc)?, 1)?;
+    let mut events = stream.reflect_shared(shared);
+    check(
+        &rt,
+        alloc,
+        &mut events,
+        &Each(&[
+            Poll(0, 9, "Apply(1)"),
+            Poll(0, 9, "error"),
+            Poll(0, 9, "Init"),
+        ]),
+    )
+}
+
+/// Each answer of the stream is one of the adaptor, whatever the fuel.
+const UNCHANGED: &[&str] = &[
+    "Init",
+    "InitApply 1",
+    "not ready",
+    "error",
+    "Delete 2",
+    "InitApply 3",
+    "InitDone",
+    "Apply 4",
+    "end",
+];
+
+const COMPLETED: &[(&[Said], Polls)] = &[
+    (EIGHT, Fueled(1, UNCHANGED)),
+    (EIGHT, Fueled(2, UNCHANGED)),
+    (EIGHT, Fueled(3, UNCHANGED)),
+    // After the end only the end comes.
+    (
+        &[Init, End, Apply(1)],
+        Each(&[Poll(0, 9, "Init"), Poll(0, 9, "end"), Poll(0, 9, "end")]),
+    ),
+];
+
+#[test]
+fn events_come_up_to_the_end(rt: HostRuntime) -> Result<(), Fail> {
+    let alloc = rt.alloc();
+    for (answers, polls) in COMPLETED {
+        let mut events = on_complete(numbers(alloc, answers)?, || {});
+        check(&rt, alloc, &mut events, polls)?;
+    }
+    Ok(())
+}
+
+#[test]
+fn the_end_calls_once(rt: HostRuntime) -> Result<(), Fail> {
+    let alloc = rt.alloc();
+    let mut called = 0u32;
+    let mut events = on_complete(
+        numbers(alloc, &[Init])?,
+        || called = called.saturating_add(1),
+    );
+    poll_all(alloc, &mut events, 4)?;
+    drop(events);
+    assert_eq!(rt; called, 1);
+    Ok(())
+}
+
+fn results(alloc: Global) -> Result<Vec<Result<u32, u32>>, Fail> {
+    Ok(vec![in alloc; Ok(1), Err(2), Ok(3)]?)
+}
+
+#[test]
+fn results_are_taken_apart(rt: HostRuntime) -> Result<(), Fail> {
+    let alloc = rt.alloc();
+    let (items, errors) = split_result(alloc, results(alloc)?)?;
+    assert_eq!(rt; items.as_slice(), [1, 3].as_slice());
+    assert_eq!(rt; errors.as_slice(), [2].as_slice());
+    Ok(())
+}

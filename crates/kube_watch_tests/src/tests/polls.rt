@@ -1,0 +1,324 @@
+//! Polls of a watcher, of each kind, and the parameters of its calls.
+
+use super::params::add_calls;
+use super::script::{Api, Given, Listing, add_line, api, lines, shown_error, unit};
+use kube_meta::{DynamicObject, Moment, Next, NoMemory};
+use kube_watch::watcher::watcher;
+use kube_watch::{Config, Error, Event, EventStream, StreamFault, Watcher};
+use std::alloc::{AllocError, Global};
+use std::sync::Arc;
+use std::test::Fail;
+
+/// How a watcher is configured: by default, or with selectors, a timeout of 30 seconds and pages of 7, of which lists are of
+/// the newest version, of any version, or not made, since it starts by a watch.
+#[derive(Clone, Copy)]
+enum Settings {
+    Default,
+    Newest,
+    Any,
+    Watch,
+}
+
+#[derive(Clone, Copy)]
+enum Poll {
+    /// For one call.
+    Unit,
+    /// For one event or error, with this fuel. It tells how many calls were made by then too.
+    Next(u32),
+    /// The same of a watcher as a stream, with a fuel of 1.
+    Streamed,
+    /// Lends it another API, which answers by these lists.
+    Lend(&'static [Listing]),
+    /// For so many calls. It tells the parameters of all calls that were made.
+    Calls(usize),
+}
+
+/// A script, how a watcher over it is configured and polled, and what it tells.
+#[derive(Drop)]
+struct Case {
+    name: &'static str,
+    settings: Settings,
+    lists: &'static [Listing],
+    watches: &'static [&'static [Given]],
+    polls: &'static [Poll],
+    wanted: &'static [&'static str],
+}
+
+fn selecting(alloc: Global) -> Result<Config, NoMemory> {
+    Ok(
+        Config::default()
+            .timeout(30)
+            .fields(alloc, "metadata.name=a")?
+            .labels(alloc, "app=b")?
+            .page_size(7),
+    )
+}
+
+fn config(alloc: Global, settings: Settings) -> Result<Config, NoMemory> {
+    match settings {
+        Settings::Default => Ok(Config::default()),
+        Settings::Newest => selecting(alloc),
+        Settings::Any => Ok(selecting(alloc)?.any_semantic()),
+        Settings::Watch => Ok(selecting(alloc)?.streaming_lists()),
+    }
+}
+
+fn shown_told(
+    alloc: Global,
+    told: &Result<Event<Arc<DynamicObject>>, Error>,
+) -> Result<String, AllocError> {
+    match told {
+        Ok(event) => format!(in alloc; "{event}"),
+        Err(error) => String::from_str(alloc, shown_error(error)),
+    }
+}
+
+fn shown(
+    alloc: Global,
+    answer: &Next<Result<Event<Arc<DynamicObject>>, Error>>,
+) -> Result<String, AllocError> {
+    match answer {
+        Next::Item(told) => shown_told(alloc, told),
+        Next::NotReady => String::from_str(alloc, "not ready"),
+        Next::Spent => String::from_str(alloc, "spent"),
+        Next::End => String::from_str(alloc, "end"),
+    }
+}
+
+fn shown_once(
+    alloc: Global,
+    answer: Next<Result<Event<Arc<DynamicObject>>, Error>>,
+) -> Result<String, AllocError> {
+    shown(alloc, &answer)
+}
+
+fn next(alloc: Global, watcher: &mut Watcher<Api>, fuel: u32) -> Result<String, NoMemory> {
+    match watcher.poll_next(alloc, Moment(0), fuel) {
+        Ok(answer) => Ok(shown_once(alloc, answer)?),
+        Err(error) => Err(error),
+    }
+}
+
+fn count_of_calls(watcher: &mut Watcher<Api>) -> usize {
+    watcher.api_mut().get_recordings().len()
+}
+
+fn next_and_calls(
+    alloc: Global,
+    watcher: &mut Watcher<Api>,
+    fuel: u32,
+) -> Result<String, NoMemory> {
+    let answer = next(alloc, watcher, fuel)?;
+    let calls = count_of_calls(watcher);
+    Ok(format!(in alloc; "{answer}, {calls}")?)
+}
+
+fn poll_stream<S: EventStream>(
+    alloc: Global,
+    stream: &mut S,
+) -> Result<Next<Result<S::Item, Error>>, StreamFault>
+    requires { S.can_poll stream.old }
+{
+    stream.poll_next(alloc, Moment(0), 1)
+}
+
+fn streamed(alloc: Global, watcher: &mut Watcher<Api>) -> Result<String, NoMemory> {
+    match poll_stream(alloc, watcher) {
+        Ok(answer) => Ok(shown_once(alloc, answer)?),
+        Err(_) => Err(NoMemory),
+    }
+}
+
+fn lend(alloc: Global, watcher: &mut Watcher<Api>, lists: &[Listing]) -> Result<(), NoMemory> {
+    *watcher.api_mut() = api(alloc, lists, &[])?;
+    Ok(())
+}
+
+/// Polls, and adds the parameters of all calls that were made.
+fn add_polled_calls(
+    alloc: Global,
+    watcher: &mut Watcher<Api>,
+    polls: usize,
+    lines: &mut String,
+) -> Result<(), NoMemory> {
+    for _poll in 0..polls {
+        let _told = unit(alloc, watcher, 0)?;
+    }
+    add_calls(alloc, watcher.api_mut().get_recordings(), lines)?;
+    Ok(())
+}
+
+/// Polls, and adds what that tells.
+fn add_poll(
+    alloc: Global,
+    watcher: &mut Watcher<Api>,
+    poll: Poll,
+    lines: &mut String,
+) -> Result<(), NoMemory> {
+    match poll {
+        Poll::Unit => add_line(lines, unit(alloc, watcher, 0)?.as_str())?,
+        Poll::Next(fuel) => add_line(lines, next_and_calls(alloc, watcher, fuel)?.as_str())?,
+        Poll::Streamed => add_line(lines, streamed(alloc, watcher)?.as_str())?,
+        Poll::Lend(lists) => lend(alloc, watcher, lists)?,
+        Poll::Calls(polls) => add_polled_calls(alloc, watcher, polls, lines)?,
+    }
+    Ok(())
+}
+
+fn polled(alloc: Global, watcher: &mut Watcher<Api>, polls: &[Poll]) -> Result<String, NoMemory> {
+    let mut lines = String::new(alloc);
+    for poll in polls {
+        add_poll(alloc, watcher, *poll, &mut lines)?;
+    }
+    Ok(lines)
+}
+
+/// The same of a watcher that is let go then.
+fn all_polled(alloc: Global, watcher: Watcher<Api>, polls: &[Poll]) -> Result<String, NoMemory> {
+    let mut watcher = watcher;
+    polled(alloc, &mut watcher, polls)
+}
+
+/// What polls of the watcher tell.
+fn made(alloc: Global, case: &Case) -> Result<String, NoMemory> {
+    let config = config(alloc, case.settings)?;
+    match api(alloc, case.lists, case.watches) {
+        Ok(api) => all_polled(alloc, watcher(alloc, api, config), case.polls),
+        Err(error) => Err(error),
+    }
+}
+
+const PAGES: [Listing; 2] = [
+    Listing::Page(&["a"], "t", ""),
+    Listing::Page(&["b"], "", "9"),
+];
+
+const CASES: [Case; 8] = [
+    Case {
+        name: "bookmarks alone spend the fuel",
+        settings: Settings::Default,
+        lists: &[Listing::Page(&[], "", "1")],
+        watches: &[&[Given::Bookmark("5"), Given::Bookmark("6")]],
+        polls: &[Poll::Next(2), Poll::Next(2), Poll::Next(2)],
+        wanted: &["Init, 1", "InitDone, 1", "spent, 3"],
+    },
+    Case {
+        name: "events of a page come one by one",
+        settings: Settings::Default,
+        lists: &[Listing::Page(&["a", "b"], "", "1")],
+        watches: &[&[Given::Wait(5)]],
+        polls: &[
+            Poll::Next(1),
+            Poll::Next(1),
+            Poll::Next(1),
+            Poll::Next(1),
+            Poll::Next(1),
+            Poll::Next(9),
+        ],
+        wanted: &[
+            "Init, 1",
+            "InitApply(a), 1",
+            "InitApply(b), 1",
+            "InitDone, 1",
+            "spent, 2",
+            "not ready, 3",
+        ],
+    },
+    Case {
+        name: "an error comes after the events before it",
+        settings: Settings::Default,
+        lists: &[
+            Listing::Page(&["a"], "", ""),
+            Listing::Page(&["b"], "", "1"),
+        ],
+        watches: &[],
+        polls: &[
+            Poll::Next(1),
+            Poll::Next(1),
+            Poll::Next(1),
+            Poll::Next(1),
+            Poll::Next(1),
+            Poll::Next(1),
+        ],
+        wanted: &[
+            "Init, 1",
+            "NoResourceVersion, 1",
+            "Init, 2",
+            "InitApply(b), 2",
+            "InitDone, 2",
+            "WatchStartFailed, 3",
+        ],
+    },
+    Case {
+        name: "a watcher is a stream",
+        settings: Settings::Default,
+        lists: &[Listing::Page(&[], "", "1")],
+        watches: &[],
+        polls: &[Poll::Streamed],
+        wanted: &["Init"],
+    },
+    Case {
+        name: "a lent API changes nothing that is owed",
+        settings: Settings::Default,
+        lists: &PAGES,
+        watches: &[],
+        polls: &[
+            Poll::Unit,
+            Poll::Lend(&[Listing::Page(&["c"], "", "3")]),
+            Poll::Unit,
+        ],
+        wanted: &[
+            "list, page <t>,: Init InitApply(a)",
+            "list <t>, page, <3>: InitApply(c) InitDone",
+        ],
+    },
+    Case {
+        name: "lists of the newest version, page by page, and a watch",
+        settings: Settings::Newest,
+        lists: &PAGES,
+        watches: &[&[]],
+        polls: &[Poll::Calls(4)],
+        wanted: &[
+            "list app=b metadata.name=a 7, none, none",
+            "list app=b metadata.name=a 7, t, none",
+            "watch app=b metadata.name=a 30, 9, true false",
+            "next",
+        ],
+    },
+    Case {
+        name: "lists of any version",
+        settings: Settings::Any,
+        lists: &PAGES,
+        watches: &[],
+        polls: &[Poll::Calls(2)],
+        wanted: &[
+            "list app=b metadata.name=a 7, none, 0, not older",
+            "list app=b metadata.name=a 7, t, 0, not older",
+        ],
+    },
+    Case {
+        name: "a start by a watch",
+        settings: Settings::Watch,
+        lists: &[],
+        watches: &[&[Given::Ending("5")], &[]],
+        polls: &[Poll::Calls(4)],
+        wanted: &[
+            "watch app=b metadata.name=a 30, 0, true true",
+            "next",
+            "next",
+            "watch app=b metadata.name=a 30, 5, true false",
+        ],
+    },
+];
+
+#[test]
+fn polls_give_one_event_or_error_each_and_calls_have_what_is_configured(
+    rt: HostRuntime,
+) -> Result<(), Fail> {
+    for case in &CASES {
+        let made = made(rt.alloc(), case)?;
+        let wanted = lines(rt.alloc(), case.wanted)?;
+        assert_eq!(rt; made.as_str(), wanted.as_str(), "{}", case.name);
+    }
+    Ok(())
+}
