@@ -1,5 +1,6 @@
 //! Runs worked out by hand, over an API in memory.
 
+mod endless;
 mod node;
 mod parts;
 mod related;

@@ -352,8 +352,9 @@ impl<K: Resource> Core<K> {
 
     /// What is stored.
     pub fn cache(&self) -> &Cache<K>
-        ensures { (core : CoreWorld K) (es : List (CoreEvent K)) → StandsFor K.type_of K.meta_of core es self.now
+        ensures stands { (core : CoreWorld K) (es : List (CoreEvent K)) → StandsFor K.type_of K.meta_of core es self.now
             → result.now ≡ all_keyed core.key (cache_of core es) }
+        ensures kept { result.now ≡ self.now.writer.kept.cache }
     {
         self.writer.cache()
     }

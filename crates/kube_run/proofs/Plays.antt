@@ -40,8 +40,12 @@ pub err-unnamed : (s : Script) (r : Answer) → HasRun s r → IfErr r (λ e. Is
 err-unnamed s (Ok t) h = tt
 err-unnamed s (Err e) h = h.3
 
+pub err-unspent : (s : Script) (r : Answer) → HasRun s r → IfErr r (λ e. IfSpent e ⊥)
+err-unspent s (Ok t) h = tt
+err-unspent s (Err e) h = h.4
+
 pub both : (s : Script) (r : Answer) → IfOk r (λ t. IsPlayed s (records_of named_type t.records) × HasLines s t.records)
-    → IfErr r (λ e. IsPlayedFront s (records_of named_type (records_before e)) × HasLines s (records_before e) × IsRefusedAfter s (records_before e) e × IsUnnamedAfter s (records_before e) e) → HasRun s r
+    → IfErr r (λ e. IsPlayedFront s (records_of named_type (records_before e)) × HasLines s (records_before e) × IsRefusedAfter s (records_before e) e × IsUnnamedAfter s (records_before e) e × IfSpent e ⊥) → HasRun s r
 both s (Ok t) h k = h
 both s (Err e) h k = k
 

@@ -12,7 +12,7 @@ use Rattle.kube_turn.specs.Records.{records_of}
 use Rattle.kube_turn.specs.declared.record.Trace.{Trace}
 use Rattle.kube_turn.specs.declared.record.TurnRecord.{TurnRecord}
 use Rattle.kube_step.specs.Calls.{dated_in}
-use Rattle.kube_control.specs.Errors.{IfRefused, IfUnnamed, records_before}
+use Rattle.kube_control.specs.Errors.{IfRefused, IfSpent, IfUnnamed, records_before}
 use Rattle.kube_control.specs.declared.error.RunError.{RunError}
 use Rattle.kube_run.specs.Played.{AreAnswered, IsPlayed, IsPlayedFront, IsRefusedNext, IsUnnamedNext, all_faults, policies_in, script_world}
 use Rattle.kube_run.specs.Sources.{AreOfScript, Root, Sources, apis_in}
@@ -36,12 +36,12 @@ IsRefusedAfter s held e = IfRefused e (λ turn why. (turn ≡ length (records_of
 abbrev pub IsUnnamedAfter : Script → Held → ScriptError → Type 0
 IsUnnamedAfter s held e = IfUnnamed e (λ turn source. (turn ≡ length (records_of named_type held)) × IsUnnamedNext s (records_of named_type held) source)
 
--- the trace of a script's turns, or that of the turns before one that ends the run
+-- the trace of a script's turns, or that of the turns before one that ends the run. The controller was not spent before
 abbrev pub HasRun : Script → Result (Trace ObjectData (List ℕ) Named) ScriptError → Type 0
 HasRun s (Ok t) = IsPlayed s (records_of named_type t.records) × HasLines s t.records
 HasRun s (Err e) =
     IsPlayedFront s (records_of named_type (records_before e)) × HasLines s (records_before e)
-    × IsRefusedAfter s (records_before e) e × IsUnnamedAfter s (records_before e) e
+    × IsRefusedAfter s (records_before e) e × IsUnnamedAfter s (records_before e) e × IfSpent e ⊥
 
 -- after a history of a script's controller these records are the trace of these turns, each object that had to become a reference has a name, and each exchange was answered by what the script had left; how its sources are asked stays as the script tells
 pub record GoesOn (s : Script) (h : List (Step ObjectData)) (ts : List Turn) (rs : List (MadeRecord ObjectData)) (r : Root) (t : Sources) (r' : Root) (t' : Sources) : Type 0 where

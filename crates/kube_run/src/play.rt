@@ -3,7 +3,7 @@
 ghost use Rattle.std.specs.Prelude.{◌≡◌, ◌<◌, ◌+◌, ◌^◌, ◌++◌, [], IfOk, IfErr, length, map};
 ghost use Rattle.std.specs.List.{AllZip};
 ghost use Rattle.kube_control.specs.Controllers.{StandsFor};
-ghost use Rattle.kube_control.specs.Errors.{records_before, IfRefused, IfUnnamed};
+ghost use Rattle.kube_control.specs.Errors.{records_before, IfRefused, IfSpent, IfUnnamed};
 ghost use Rattle.kube_meta.specs.Reading.{ObjectData};
 ghost use Rattle.kube_model.specs.History.{Step};
 ghost use Rattle.kube_model.specs.Traces.{steps, unread};
@@ -215,6 +215,9 @@ pub fn play(alloc: Global, script: Script) -> Result<ScriptTrace, ScriptError>
     // The turn after those is refused, or an object without a name came in it.
     ensures refused { IfErr result (λ e. IfRefused e (λ turn why. (turn ≡ length (records_of named_type (records_before e))) × IsRefusedNext (seen_script script) (records_of named_type (records_before e)) why)) }
     ensures unnamed { IfErr result (λ e. IfUnnamed e (λ turn source. (turn ≡ length (records_of named_type (records_before e))) × IsUnnamedNext (seen_script script) (records_of named_type (records_before e)) source)) }
+
+    // It is never that an earlier run failed: there was none.
+    ensures unspent { IfErr result (λ e. IfSpent e ⊥) }
 {
     match make_parts(alloc, script) {
         Ok(parts) => take_turns(alloc, parts),

@@ -1,9 +1,10 @@
 //! Sources of bytes.
 
-ghost use Rattle.std.specs.Prelude.{◌≡◌, ◌≤◌, ◌<◌, ℕ, List, [], Option, Some, drop, length, take};
+ghost use Rattle.std.specs.Prelude.{◌≡◌, ◌≤◌, ◌<◌, ℕ, List, [], Option, Some, true, IsErr, drop, length, take};
 ghost use Rattle.std.specs.Io.{ReadsAtMost};
 ghost use Rattle.std.specs.Io.KnownBytes.{ReadConsumes};
 ghost use Rattle.kube_text.specs.Causes.{HasCause};
+ghost use Rattle.kube_text.specs.Held.{is_to_fail, next_call};
 
 use kube_text::failed::Failed;
 use std::marker::Model;
@@ -41,7 +42,7 @@ impl Model for VecSource {
 
     ghost Value = { Held };
 
-    ghost view = { λ s. record { bytes = drop s.at s.bytes.items; faults = s.faults } };
+    ghost view = { λ s. record { bytes = drop s.at s.bytes.items; failing = s.failing.items; calls = s.calls; faults = s.faults } };
 
     ghost invariant = { λ s. s.at ≤ length s.bytes.items };
 }
@@ -51,6 +52,8 @@ impl VecSource {
     /// whose numbers are in `failing` fail, the first one being number 1.
     pub fn new(bytes: Vec<u8>, failing: Vec<u64>, most: usize) -> VecSource
         ensures bytes { result.bytes ≡ bytes.items }
+        ensures failing { result.failing ≡ failing.items }
+        ensures calls { result.calls ≡ 0 }
         ensures faults { result.faults ≡ 0 }
     {
         VecSource {
@@ -69,7 +72,17 @@ impl Source for VecSource {
 
     ghost faults = { λ s. s.faults };
 
-    fn read(&mut self, buf: &mut [u8]) -> Result<usize, Failed> {
+    fn read(&mut self, buf: &mut [u8]) -> Result<usize, Failed>
+        ensures to_fail { is_to_fail self.old ≡ true → IsErr result }
+        ensures only { IsErr result → is_to_fail self.old ≡ true }
+        ensures calls { self.new.calls ≡ next_call self.old }
+        ensures failing { self.new.failing ≡ self.old.failing }
+
+        // those of the trait
+        ensures bound { ReadsAtMost result buf.new }
+        ensures bytes { ReadConsumes (Some self.old.bytes) (Some self.new.bytes) result buf.new }
+        ensures cause { HasCause self.old.faults self.new.faults result }
+    {
         self.calls = self.calls.saturating_add(1);
         if self.failing.contains(&self.calls) {
             self.faults = self.faults.saturating_add(1);

@@ -240,9 +240,9 @@ const ROWS: &str = r#"= 0 run
 {"error":"script","fault":"shape","place":"/turns/0/at"}
 "#;
 
-/// A script whose turn asks nobody.
+/// A script whose turn asks nobody, since its budget is 0.
 const IDLE: &str =
-    r#"{"kind":{"group":"","version":"v1","kind":"ConfigMap","plural":"configmaps"},"root":{},"turns":[{"at":0,"budget":[0]}]}"#;
+    r#"{"kind":{"group":"","version":"v1","kind":"ConfigMap","plural":"configmaps"},"root":{"lists":[{"items":[{"metadata":{"name":"a","resourceVersion":"1"}}],"metadata":{"resourceVersion":"1"}}],"watches":[[{"wait":1000000000000}]]},"turns":[{"at":0,"budget":[0]}]}"#;
 
 /// An object.
 const OBJECT: &str = r#"{"metadata":{"name":"a","resourceVersion":"1"}}"#;
@@ -448,10 +448,41 @@ fn ends_in_pieces<R: Abort + AllocGlobal>(
     Ok(())
 }
 
+/// The trace of the turn that asks nobody.
+const IDLE_TRACE: &str =
+    r#"{"asks":[],"at":0,"ended":false,"finished":[],"stops":["budget"],"taken":[],"turn":0}"#;
+
+/// In reads of 16 bytes, each read fails in turn, and the one that finds the end.
+fn fails_at_each_read<R: Abort + AllocGlobal>(rt: &R, script: &str) -> Result<(), Fail> {
+    let reads = (script.len().div_ceil(16) as u64).saturating_add(1);
+    for read in 0..reads {
+        let read = read.saturating_add(1);
+        ends_in_pieces(rt, script, 16, read, 0, 5, b"")?;
+    }
+    Ok(())
+}
+
+/// In writes of 16 bytes, each write fails in turn: what went before it was written.
+fn fails_at_each_write<R: Abort + AllocGlobal>(
+    rt: &R,
+    script: &str,
+    wanted: &[u8],
+) -> Result<(), Fail> {
+    for before in 0..wanted.len().div_ceil(16) {
+        let write = (before as u64).saturating_add(1);
+        let len = before.saturating_mul(16).min(wanted.len());
+        ends_in_pieces(rt, script, 16, 0, write, 6, &wanted[..len])?;
+    }
+    Ok(())
+}
+
 #[test]
 fn tells_faults(rt: HostRuntime) -> Result<(), Fail> {
     ends_in_pieces(&rt, SCRIPT, 64, 2, 0, 5, b"")?;
-    ends_in_pieces(&rt, IDLE, 16, 0, 2, 6, r#"{"asks":[],"at":"#.as_bytes())
+    fails_at_each_read(&rt, IDLE)?;
+    let wanted = line(rt.alloc(), IDLE_TRACE)?;
+    assert_eq!(rt; wanted.len(), 86);
+    fails_at_each_write(&rt, IDLE, wanted.as_slice())
 }
 
 #[test]

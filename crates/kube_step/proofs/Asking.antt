@@ -27,7 +27,7 @@ use Rattle.kube_asks.specs.declared.asks.AskFault.{AskFault}
 use Rattle.kube_asks.specs.declared.asks.AskFault.TheVariants as faults
 use Rattle.kube_asks.specs.declared.root.RootSource as root_source
 use Rattle.kube_asks.specs.declared.set.RelatedSet as related_set
-use Rattle.kube_step.specs.Asked.{AllStand, MayAsk, IsOneAsk, AreAsked, AreCutOff, AreEndedBy, IsLostNext, IsUnnamedNext, NotAsked, AskedOnce}
+use Rattle.kube_step.specs.Asked.{AllStand, MayAsk, IsOneAsk, AreAsked, AreCutOff, AreEndedBy, IsLeftOrLost, IsLostNext, IsUnnamedNext, AllStored, LastLost, NotAsked, AskedOnce}
 use Rattle.kube_step.specs.Calls.{ArePolled}
 use Rattle.kube_step.specs.Controllers.{IsWorldOfAsks, AsksStand}
 use Rattle.kube_step.specs.Turns.{requests_first}
@@ -62,6 +62,15 @@ source-is w h t xs o = go (is_shut h) (asks_shutdown t.shutdown) o
     go false false e = refl
 
 module _ {R S B O D : Type 0} (root : root_source.Ghosts R O D) (related : related_set.Ghosts S O D) (delays : backoff.Ghosts B) (object : resource.Ghosts O D) (w : World O B) (h : List (Step O)) (t : Turn) where
+  -- what is kept is what was asked so far left
+  pub left-now : (xs : List (Exchange O)) (es : List (CoreEvent O)) (a : Asking R S B) (core : Parts O D) → MayAsk root related delays object w h t xs es a core → IsLeftBy w.key (exchanges_of 0 (exchanges_with h t xs)) core.writer.kept
+  left-now xs es a core m = subst (λ ds. IsLeftBy w.key (exchanges_of 0 ds) core.writer.kept) m.answers m.core_stands.stored
+
+  -- the same over what was asked before
+  left-more : (xs made : List (Exchange O)) (kept : Kept O) → IsLeftOrLost root related w h t xs made kept → IsLeftOrLost root related w h t [] (xs ++ made) kept
+  left-more xs made kept (AllStored l) = AllStored l
+  left-more xs made kept (LastLost stored last e l) = LastLost (xs ++ stored) last (ap (λ ys. xs ++ ys) e ∙ sym (append_assoc xs stored (last ∷ []))) l
+
   module _ (xs : List (Exchange O)) (es : List (CoreEvent O)) (a : Asking R S B) (core : Parts O D) (may : MayAsk root related delays object w h t xs es a core) (x : Exchange O) (a' : Asking R S B)
       (asked : IsNextAsked w t.budget (exchanges h) (dated t.at xs) t.at (Some x))
       (polled : (ds : List (Dated O)) → AllStand root related a.root a.related ds → IsPolledAt root.polls related.polls ds t.at x a.root a.related a'.root a'.related x.source) where
@@ -124,6 +133,9 @@ module _ {R S B O D : Type 0} (root : root_source.Ghosts R O D) (related : relat
     stand-none : AllStand root related a.root a.related (exchanges_with h t (xs ++ []))
     stand-none = subst (λ ys. AllStand root related a.root a.related (exchanges_with h t ys)) (sym (append-nil xs)) may.asks_stand.sources
 
+    left-none : IsLeftBy w.key (exchanges_of 0 (exchanges_with h t (xs ++ []))) core.writer.kept
+    left-none = subst (λ ys. IsLeftBy w.key (exchanges_of 0 (exchanges_with h t ys)) core.writer.kept) (sym (append-nil xs)) (left-now xs es a core may)
+
     -- nothing more was asked, or the next source and no more
     cut-none : (Ends : Option ℕ → ℕ → R → S → R → S → Type 0) → Ends (next_source w h t xs) t.at a.root a.related a'.root a'.related → AreCutOff root related w h t Ends xs a.root a.related a'.root a'.related
     cut-none Ends e = record {
@@ -142,12 +154,14 @@ module _ {R S B O D : Type 0} (root : root_source.Ghosts R O D) (related : relat
         → AreEndedBy root related w h t f core.writer.kept xs a.root a.related a'.root a'.related
     unfolding cut-none
     ended-next faults.NoMemory lost unnamed only =
-        let l = lost refl in
-        cut-none (IsLostNext root related) (AskedOnce l.0 (found-is (Some l.0) l.2) (subst (λ n. IsLostAt root.polls related.polls root.loses related.loses (AllStand root related a.root a.related) n a.root a.related a'.root a'.related l.0) (sym now) l.1))
+        let l = lost refl in (
+          cut-none (IsLostNext root related) (AskedOnce l.0 (found-is (Some l.0) l.2) (subst (λ n. IsLostAt root.polls related.polls root.loses related.loses (AllStand root related a.root a.related) n a.root a.related a'.root a'.related l.0) (sym now) l.1)),
+          AllStored left-none,
+        )
     ended-next (faults.Unnamed source) lost unnamed only = (
       cut-none (λ next n p q p' q'. IsUnnamedNext root related next n p q p' q' source)
           (record { next_is = found-is (Some source) unnamed.1; broken = subst (λ n. IsBrokenAt root.breaks related.breaks n a.root a.related a'.root a'.related source) (sym now) unnamed.0 }),
-      subst (λ ds. IsLeftBy w.key (exchanges_of 0 ds) core.writer.kept) (may.answers ∙ ap (exchanges_with h t) (sym (append-nil xs))) may.core_stands.stored,
+      left-none,
     )
     ended-next faults.Spent lost unnamed only = absurd (let e : false ≡ true = sym may.unspent ∙ only refl in cc)
 
@@ -185,6 +199,11 @@ module _ {R S B O D : Type 0} (root : root_source.Ghosts R O D) (related : relat
         stand = subst (AllStand root related a'.root a'.related) (ap (λ ds. exchanges h ++ ds) (sym (dated-more t.at xs (x ∷ [])))) stand-now.sources;
         rest = NotAsked refl refl;
       }
+
+      -- what is kept is then what came before it left
+      pub lost-given : (kept : Kept O) → kept ≡ core.writer.kept → AreEndedBy root related w h t faults.NoMemory kept xs a.root a.related a'.root a'.related
+      unfolding lost-after
+      lost-given kept same = (lost-after, LastLost [] x refl (subst (λ k. IsLeftBy w.key (exchanges_of 0 (exchanges_with h t (xs ++ []))) k) (sym same) left-none))
 
   -- one more of those that are asked one after another
   pub asked-push : (es : List (CoreEvent O)) (a : Asking R S B) (xs : List (Exchange O)) (b : Asking R S B) (core' : Parts O D) (x : Exchange O) (b' : Asking R S B) (core'' : Parts O D) → AreAsked root related delays object w h t es a xs b core'
@@ -228,7 +247,7 @@ module _ {R S B O D : Type 0} (root : root_source.Ghosts R O D) (related : relat
   pub ended-more : (f : AskFault) (es : List (CoreEvent O)) (a : Asking R S B) (xs : List (Exchange O)) (b : Asking R S B) (core' : Parts O D) (r : R) (s : S) → AreAsked root related delays object w h t es a xs b core'
       → (kept : Kept O) → AreEndedBy root related w h t f kept xs b.root b.related r s → AreEndedBy root related w h t f kept [] a.root a.related r s
   unfolding cut-more
-  ended-more faults.NoMemory es a xs b core' r s k kept e = cut-more (IsLostNext root related) es a xs b core' r s k e
+  ended-more faults.NoMemory es a xs b core' r s k kept e = (cut-more (IsLostNext root related) es a xs b core' r s k e.0, left-more xs e.0.made kept e.1)
   ended-more (faults.Unnamed source) es a xs b core' r s k kept e = (cut-more (λ next n p q p' q'. IsUnnamedNext root related next n p q p' q' source) es a xs b core' r s k e.0, e.1)
   ended-more faults.Spent es a xs b core' r s k kept e = absurd e
 
@@ -245,6 +264,13 @@ module _ {R S B O D : Type 0} (root : root_source.Ghosts R O D) (related : relat
     stand = k.may.asks_stand.sources;
     rest = NotAsked refl refl;
   }
+
+  -- what is kept is then what it left
+  pub ended-lost : (es : List (CoreEvent O)) (a : Asking R S B) (xs : List (Exchange O)) (b : Asking R S B) (core' : Parts O D) → AreAsked root related delays object w h t es a xs b core'
+      → (kept : Kept O) → kept ≡ core'.writer.kept → AreEndedBy root related w h t faults.NoMemory kept [] a.root a.related b.root b.related
+  unfolding asked-lost
+  ended-lost es a xs b core' k kept same =
+      (asked-lost es a xs b core' k, AllStored (subst (λ j. IsLeftBy w.key (exchanges_of 0 (exchanges_with h t xs)) j) (sym same) (left-now xs (es ++ map (Answered t.at) xs) b core' k.may)))
 
   -- none is left to make
   pub asked-end : (es : List (CoreEvent O)) (a : Asking R S B) (xs : List (Exchange O)) (b : Asking R S B) (core' : Parts O D) (b' : Asking R S B) (core'' : Parts O D) → AreAsked root related delays object w h t es a xs b core'

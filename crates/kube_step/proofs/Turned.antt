@@ -3,7 +3,7 @@ use Rattle.std.proofs.Common.{◌≡◌, ℕ, ◌≤◌, Bool, true, false, not,
 use Rattle.std.specs.List.{fold}
 use Rattle.kube_meta.specs.declared.resource.Resource as resource
 use Rattle.kube_model.specs.World.{World}
-use Rattle.kube_model.specs.History.{Dated, Exchange, Turn, TurnRecord, Finished, Taken, Step, dated, exchanges, exchanges_with}
+use Rattle.kube_model.specs.History.{Dated, Exchange, Turn, TurnRecord, Finished, Taken, Step, dated, exchanges, exchanges_of, exchanges_with}
 use Rattle.kube_model.specs.Asks.{stops_of}
 use Rattle.kube_model.specs.Pause.{gave_up}
 use Rattle.kube_model.specs.Shutdowns.{asks_shutdown, is_closed, is_forced}
@@ -17,19 +17,20 @@ use Rattle.kube_history.specs.Legal.{AreLegal}
 use Rattle.kube_history.proofs.Segments.{running-append}
 use Rattle.kube_streams.specs.declared.backoff.Backoff as backoff
 use Rattle.kube_reflect.specs.Cached.{Kept}
+use Rattle.kube_reflect.specs.Exchanged.{IsLeftBy}
 use Rattle.kube_core.specs.Cores.{Parts, StandsFor as CoreStands}
 use Rattle.kube_asks.specs.Asking.{Asking, AskStands, asking_begun}
 use Rattle.kube_asks.specs.declared.asks.AskFault.{AskFault}
 use Rattle.kube_asks.specs.declared.asks.AskFault.TheVariants as faults
 use Rattle.kube_asks.specs.declared.root.RootSource as root_source
 use Rattle.kube_asks.specs.declared.set.RelatedSet as related_set
-use Rattle.kube_step.specs.Asked.{AllStand, AreCutOff, AreEndedBy, IsLostNext, NotAsked, MayAsk}
+use Rattle.kube_step.specs.Asked.{AllStand, AllStored, AreCutOff, AreEndedBy, IsLostNext, NotAsked, MayAsk}
 use Rattle.kube_step.specs.Controllers.{IsWorldOfAsks, AsksStand}
 use Rattle.kube_step.specs.Errors.{IfUnnamedAsk}
 use Rattle.kube_step.specs.Policies.{answered_in}
 use Rattle.kube_step.specs.Takes.{taken_so_far}
 use Rattle.kube_step.specs.Turns.{requests_first, MayGoOn, HasGoneOn, HasTakenFirst, TookNone, TookThese, AreFirstTakes, NoneTaken, FrontTaken, IsTaken}
-use Rattle.kube_step.proofs.Asking.{asked-lost}
+use Rattle.kube_step.proofs.Asking.{ended-lost}
 use Rattle.kube_step.proofs.Fronts.{takes-front}
 use Rattle.kube_step.proofs.OneTurn.{events-are, events-before, open-taken, closed-taken, core-now}
 use Rattle.kube_step.proofs.Records.{open-made}
@@ -115,6 +116,13 @@ module _ {R S B O D : Type 0} (root : root_source.Ghosts R O D) (related : relat
     rest = NotAsked same-root same-related;
   }
 
+  first-left : IsLeftBy w.key (exchanges_of 0 (exchanges_with h t [])) core.writer.kept
+  first-left = subst (λ ds. IsLeftBy w.key (exchanges_of 0 ds) core.writer.kept) (may.parts.agrees.answers ∙ sym (append-nil (exchanges h))) may.parts.core_stands.stored
+
+  pub ended-none : (kept : Kept O) → kept ≡ core.writer.kept → AreEndedBy root related w h t faults.NoMemory kept [] a.root a.related a1.root a1.related
+  unfolding lost-first
+  ended-none kept same = (lost-first, AllStored (subst (λ j. IsLeftBy w.key (exchanges_of 0 (exchanges_with h t [])) j) (sym same) first-left))
+
   -- over finishes
   module _ (fs : List Finished) (core2 : Parts O D) (core_stands : CoreStands object.type_of object.meta_of (core_world w) (first ++ map (finish_event t.at) fs) core2) where
     pub may-first : closed ≡ false → MayAsk root related delays object w h t [] (es ++ map (finish_event t.at) fs) a1 core2
@@ -172,16 +180,18 @@ module _ {R S B O D : Type 0} (root : root_source.Ghosts R O D) (related : relat
                 FrontTaken fs xs [] z g.asked.asked g.done (made.1 ∙ sym (append-nil ts))
 
         -- and then memory was wanting
-        pub lost-whole : AreCutOff root related w h t (IsLostNext root related) [] a.root a.related a'.root a'.related
-        lost-whole = go closed refl
+        pub lost-whole : core2.writer.kept ≡ core.writer.kept → AreEndedBy root related w h t faults.NoMemory core'.writer.kept [] a.root a.related a'.root a'.related
+        lost-whole same-kept = go closed refl
           where
-            go : (b : Bool) → closed ≡ b → AreCutOff root related w h t (IsLostNext root related) [] a.root a.related a'.root a'.related
-            go true e = subst (λ (c : Asking R S B). AreCutOff root related w h t (IsLostNext root related) [] a.root a.related c.root c.related) (sym (stayed (ap not e)).2) lost-first
+            go : (b : Bool) → closed ≡ b → AreEndedBy root related w h t faults.NoMemory core'.writer.kept [] a.root a.related a'.root a'.related
+            go true e =
+                subst (λ (c : Asking R S B). AreEndedBy root related w h t faults.NoMemory core'.writer.kept [] a.root a.related c.root c.related) (sym (stayed (ap not e)).2)
+                (ended-none core'.writer.kept (ap (λ (q : Parts O D). q.writer.kept) (stayed (ap not e)).3 ∙ same-kept))
             go false e =
                 let g = gone-now e in
-                subst (λ p. AreCutOff root related w h t (IsLostNext root related) [] p a.related a'.root a'.related) same-root
-                (subst (λ q. AreCutOff root related w h t (IsLostNext root related) [] a1.root q a'.root a'.related) same-related
-                (asked-lost root related delays object w h t (es ++ map (finish_event t.at) fs ++ requests_first t.at t.reload t.on) a1 xs a' g.asked_core g.asked))
+                subst (λ p. AreEndedBy root related w h t faults.NoMemory core'.writer.kept [] p a.related a'.root a'.related) same-root
+                (subst (λ q. AreEndedBy root related w h t faults.NoMemory core'.writer.kept [] a1.root q a'.root a'.related) same-related
+                (ended-lost root related delays object w h t (es ++ map (finish_event t.at) fs ++ requests_first t.at t.reload t.on) a1 xs a' g.asked_core g.asked core'.writer.kept g.kept))
 
         module _ (q : TurnRecord O) (at : q.at ≡ t.at) (finished : q.finished ≡ fs) (asked : q.exchanges ≡ xs) (took : q.taken ≡ ts) (runs : q.runner ≡ None)
             (stopped : (n : List ℕ) (before mine : List (Dated O)) → IsWorldOfAsks root related delays object w a' → AsksStand root related delays object w n before mine a' → q.stops ≡ stops_of w n before mine closed)

@@ -58,9 +58,14 @@ module _ {R S O D : Type 0} (root : root_source.Ghosts R O D) (related : related
     abbrev pub IsLeftAfter : List (Exchange O) → Kept O → Type 0
     IsLeftAfter xs kept = IsLeftBy w.key (exchanges_of 0 (exchanges_with h t xs)) kept
 
-    -- so did a fault. Where an object came without a name, what is kept is what came before it left
+    -- so it is after all of these that were made, or after all but the last, for which memory was wanting
+    pub data IsLeftOrLost (before made : List (Exchange O)) (kept : Kept O) : Type 0 where
+      AllStored : IsLeftAfter (before ++ made) kept → IsLeftOrLost before made kept
+      LastLost : (stored : List (Exchange O)) (last : Exchange O) → made ≡ stored ++ last ∷ [] → IsLeftAfter (before ++ stored) kept → IsLeftOrLost before made kept
+
+    -- so did a fault. What is kept is what came before it left; where memory was wanting, maybe but for the last exchange
     abbrev pub AreEndedBy : AskFault → Kept O → List (Exchange O) → R → S → R → S → Type 0
-    AreEndedBy faults.NoMemory kept before r s r' s' = AreCutOff IsLostNext before r s r' s'
+    AreEndedBy faults.NoMemory kept before r s r' s' = (cut : AreCutOff IsLostNext before r s r' s') × IsLeftOrLost before cut.made kept
     AreEndedBy (faults.Unnamed source) kept before r s r' s' =
         (cut : AreCutOff (λ next at p q p' q'. IsUnnamedNext next at p q p' q' source) before r s r' s') × IsLeftAfter (before ++ cut.made) kept
     AreEndedBy faults.Spent kept before r s r' s' = ⊥

@@ -43,6 +43,7 @@ module _ {R S B O D : Type 0} (root : root_source.Ghosts R O D) (related : relat
       pub asked_core : Parts O D
       pub asked : AreAsked root related delays object w h t (es ++ requests_first t.at t.reload t.on) a xs a' asked_core
       pub done : next_source w h t xs ≡ None
+      pub kept : core'.writer.kept ≡ asked_core.writer.kept
       pub core_stands : CoreStands object.type_of object.meta_of (core_world w)
           (es ++ requests_first t.at t.reload t.on ++ map (Answered t.at) xs ++ Settled t.at ∷ [] ++ shut_if (gave_up w (exchanges_with h t xs)) t.at ++ takes t.at ts) core'
 

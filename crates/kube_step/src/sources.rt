@@ -1,6 +1,6 @@
 //! The asks of a turn.
 
-ghost use Rattle.std.specs.Prelude.{◌≡◌, ◌<◌, ◌≤◌, ◌+◌, ◌^◌, ◌++◌, ◌∷◌, [], List, length, map, option_map, IfOk, IfErr, IfSome, OnOk, None};
+ghost use Rattle.std.specs.Prelude.{◌≡◌, ◌<◌, ◌≤◌, ◌+◌, ◌^◌, ◌++◌, ◌∷◌, [], List, length, map, option_map, IfOk, IfErr, IfSome, OnOk, OnErr, None};
 ghost use Rattle.kube_model.specs.World.{World};
 ghost use Rattle.kube_model.specs.History.{Exchange, Step, Turn};
 ghost use Rattle.kube_model.specs.Traces.{EachIsNext};
@@ -8,7 +8,7 @@ ghost use Rattle.kube_model.specs.Turns.{next_source};
 ghost use Rattle.kube_history.specs.CoreWorld.{CoreWorld, core_world};
 ghost use Rattle.kube_history.specs.CoreEvents.{CoreEvent, Answered, answers_in};
 ghost use Rattle.kube_history.specs.Legal.{MayBeAnswered};
-ghost use Rattle.kube_core.specs.Cores.{HasSameHandles, StandsFor as CoreStands};
+ghost use Rattle.kube_core.specs.Cores.{HasSameHandles, StandsFor as CoreStands, with_room};
 ghost use Rattle.kube_turn.specs.Views.{exchange_of};
 ghost use Rattle.kube_asks.specs.Kept.{total};
 ghost use Rattle.kube_step.specs.Asked.{AreAsked, AreEndedBy, IsAsked, MayAsk};
@@ -33,6 +33,7 @@ fn give<K: Resource>(
         → CoreStands K.type_of K.meta_of world (es ++ Answered now.0 (exchange_of K.type_of exchange) ∷ []) core.new) }
     ensures clock { OnOk result (core.new.clock ≡ now) }
     ensures handles { HasSameHandles core.old.writer core.new.writer }
+    ensures err { OnErr result (core.new ≡ with_room core.old core.new.pending.schedule.spare) }
 {
     core.answer(alloc, &exchange, now)?;
     Ok(exchange)

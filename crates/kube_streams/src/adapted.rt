@@ -1,6 +1,6 @@
 //! Streams made of other ones.
 
-ghost use Rattle.std.specs.Prelude.{◌≡◌, ◌≤◌, [], ◌∷◌, ◌++◌, None, Ok, OnOk};
+ghost use Rattle.std.specs.Prelude.{◌≡◌, ◌≤◌, [], ◌∷◌, ◌++◌, None, Ok, OnOk, OnErr};
 ghost use Rattle.kube_watch.specs.Asking.{Said};
 ghost use Rattle.kube_streams.specs.Adapts.{Asked, Comes, IsTaken};
 
@@ -51,11 +51,16 @@ impl<T: Drop> OfObject for Event<T> {
 pub type ObjectOf<S> = <<S as EventStream>::Item as OfObject>::Object;
 
 /// Puts one thing at the end of what waits.
+///
+/// # Errors
+///
+/// `NoMemory` where there is none for it: what waits is as before, and the thing is dropped.
 pub fn wait<J: Drop>(
     waiting: &mut VecDeque<Result<J, Error>>,
     given: Result<J, Error>,
 ) -> Result<(), NoMemory>
-    ensures { OnOk result (waiting.new.items ≡ waiting.old.items ++ given ∷ []) }
+    ensures added { OnOk result (waiting.new.items ≡ waiting.old.items ++ given ∷ []) }
+    ensures err { OnErr result (waiting.new.items ≡ waiting.old.items) }
 {
     waiting.push_back(given)?;
     Ok(())

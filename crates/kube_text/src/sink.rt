@@ -1,9 +1,10 @@
 //! Sinks of bytes.
 
-ghost use Rattle.std.specs.Prelude.{◌≡◌, ◌≤◌, ◌<◌, ℕ, List, [], Option, Some, None, IfOk, length};
+ghost use Rattle.std.specs.Prelude.{◌≡◌, ◌≤◌, ◌<◌, ℕ, List, [], Option, Some, None, true, IfOk, IsErr, length};
 ghost use Rattle.std.specs.Io.{WritesAtMost};
 ghost use Rattle.std.specs.Io.KnownBytes.{WriteAppends};
 ghost use Rattle.kube_text.specs.Causes.{HasCause};
+ghost use Rattle.kube_text.specs.Held.{is_to_fail, next_call};
 
 use crate::failed::Failed;
 use std::alloc::Global;
@@ -40,7 +41,7 @@ impl Model for VecSink {
 
     ghost Value = { Held };
 
-    ghost view = { λ s. record { bytes = s.bytes.items; faults = s.faults } };
+    ghost view = { λ s. record { bytes = s.bytes.items; failing = s.failing.items; calls = s.calls; faults = s.faults } };
 }
 
 impl VecSink {
@@ -48,6 +49,8 @@ impl VecSink {
     /// are in `failing` fail, the first one being number 1. So does a write for which memory can't be had.
     pub fn new(alloc: Global, failing: Vec<u64>, most: usize) -> VecSink
         ensures bytes { result.bytes ≡ [] }
+        ensures failing { result.failing ≡ failing.items }
+        ensures calls { result.calls ≡ 0 }
         ensures faults { result.faults ≡ 0 }
     {
         VecSink {
@@ -72,7 +75,17 @@ impl Sink for VecSink {
 
     ghost faults = { λ s. s.faults };
 
-    fn write(&mut self, bytes: &[u8]) -> Result<usize, Failed> {
+    fn write(&mut self, bytes: &[u8]) -> Result<usize, Failed>
+        ensures to_fail { is_to_fail self.old ≡ true → IsErr result }
+        ensures calls { self.new.calls ≡ next_call self.old }
+        ensures failing { self.new.failing ≡ self.old.failing }
+
+        // those of the trait
+        ensures bound { WritesAtMost result bytes.now }
+        ensures some { IfOk result (λ n. 0 < length bytes.now → 0 < n) }
+        ensures bytes { WriteAppends (Some self.old.bytes) (Some self.new.bytes) result bytes.now }
+        ensures cause { HasCause self.old.faults self.new.faults result }
+    {
         self.calls = self.calls.saturating_add(1);
         let count = self.most.max(1).min(bytes.len());
         if self.failing.contains(&self.calls)

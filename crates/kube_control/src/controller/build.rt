@@ -128,10 +128,11 @@ impl<R: RootSource, S: RelatedSet<R::Object>, B: Backoff> Controller<R, S, B> {
 }
 
 impl<A: ApiMode, S: RelatedSet<A::Value>, B: Backoff> Controller<WatchRoot<A>, S, B> {
-    /// The stored objects.
+    /// The stored objects, also after a run that failed for good.
     pub fn cache(&self) -> &Cache<A::Value>
         ensures store { (w : World A.Value B) (h : List (Step A.Value)) → StandsFor ⟦<WatchRoot<A> as RootSource>⟧ S.RelatedSet B.Backoff A.Value.Resource w h self.now
             → result.now ≡ all_keyed w.key (store_after w h) }
+        ensures kept { result.now ≡ self.now.core.writer.kept.cache }
     {
         self.core.cache()
     }

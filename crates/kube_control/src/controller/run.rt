@@ -132,7 +132,8 @@ impl<A: ApiMode, S: RelatedSet<A::Value>, B: Backoff> Controller<WatchRoot<A>, S
             → WereBrokenOff ⟦<WatchRoot<A> as RootSource>⟧ S.RelatedSet B.Backoff A.Value.Resource w (AskFault.Unnamed source) h (turns_of A.Value.type_of turns.items) self.old (records_of A.Value.type_of (records_before e)) self.new (Rc.handed reconciler.old) (Rc.handed reconciler.new)))) }
 
         // After want of memory all turns that were done have their records, the sources were asked at most once more than
-        // the turn under way owed, and the reconciler was handed at most the first takes of that turn.
+        // the turn under way owed, and the reconciler was handed at most the first takes of that turn. What is stored then is
+        // what was asked until then left, but maybe for the last exchange.
         ensures no_memory { IfErr result (λ e. IfNoMemory e ((w : World A.Value B) (h : List (Step A.Value)) → StandsFor ⟦<WatchRoot<A> as RootSource>⟧ S.RelatedSet B.Backoff A.Value.Resource w h self.old
             → WereBrokenOff ⟦<WatchRoot<A> as RootSource>⟧ S.RelatedSet B.Backoff A.Value.Resource w AskFault.NoMemory h (turns_of A.Value.type_of turns.items) self.old (records_of A.Value.type_of (records_before e)) self.new (Rc.handed reconciler.old) (Rc.handed reconciler.new))) }
 

@@ -134,7 +134,7 @@ fn transport(alloc: Global) -> Result<ApiError, NoMemory> {
     Ok(ApiError::Transport(Text::new(alloc, "torn")?))
 }
 
-fn objects(alloc: Global, named: &[Named]) -> Result<Vec<Arc<DynamicObject>>, NoMemory> {
+pub fn objects(alloc: Global, named: &[Named]) -> Result<Vec<Arc<DynamicObject>>, NoMemory> {
     let mut objects = Vec::new(alloc);
     for one in named {
         objects.push(object(alloc, *one)?)?;

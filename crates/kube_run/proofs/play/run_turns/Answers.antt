@@ -55,6 +55,7 @@ returns c = record {
         front-lines _ s (λ o e a k. k.says.met.2 ∙ after) ts turns faults rs finished traced,
         (n, refused-next _ s (λ o e a k. k.says.met.2 ∙ after) ts turns faults rs finished traced names root c.run.new.self.asks.root set c.run.new.self.asks.related apis of_script q.3 _ q.0),
         tt,
+        tt,
       ))
       (λ turn source trace finished k.
       let rs = trace.records in
@@ -68,12 +69,14 @@ returns c = record {
           unnamed-next _ s (λ o e a k. k.says.met.2 ∙ after) ts turns faults rs finished b.traced b.all_named root b.reached_root set b.reached_related apis of_script b.polled b.turn b.next b.going source cut.made cut.reached_root c.run.new.self.asks.root cut.reached_related c.run.new.self.asks.related b.broken.valid cut.asked
               cut.each_named cut.polled cut.stand cut.rest.next_is cut.rest.broken,
         ),
+        tt,
       ))
       (λ trace finished k.
       let rs = trace.records in
       let b = k w [] stands in (
         (_, front _ s (λ o e a k. k.says.met.2 ∙ after) ts turns faults rs finished b.traced b.all_named root b.reached_root set b.reached_related apis of_script b.polled),
         front-lines _ s (λ o e a k. k.says.met.2 ∙ after) ts turns faults rs finished b.traced,
+        tt,
         tt,
         tt,
       ))

@@ -1,4 +1,4 @@
-use Rattle.std.proofs.Common.{◌++◌, ◌∷◌, ◌+◌, ◌<◌, ◌^◌, [], ℕ, List, map, length, sym, ap, subst, ◌∙◌}
+use Rattle.std.proofs.Common.{◌++◌, ◌∷◌, ◌+◌, ◌<◌, ◌^◌, [], ℕ, List, map, length, refl, sym, ap, subst, ◌∙◌}
 use Rattle.std.proofs.lemmas.List.{map-append}
 use Rattle.std.proofs.lemmas.Result.{err_from_is_err_and}
 use Rattle.std.specs.Option.{option_map}
@@ -10,7 +10,7 @@ use Rattle.kube_asks.specs.declared.asks.AskFault.{AskFault}
 use Rattle.kube_asks.specs.declared.asks.AskFault.TheVariants as faults
 use Rattle.kube_step.specs.Asked.{AreAsked, IsAsked}
 use Rattle.kube_step.specs.Errors.{IfUnnamedAsk}
-use Rattle.kube_step.proofs.Asking.{asked-push, asked-end, asked-lost, ended-more}
+use Rattle.kube_step.proofs.Asking.{asked-push, asked-end, ended-lost, ended-more}
 use Rattle.kube_step.proofs.sources.ask_all.Goals as goal
 
 unnamed-weaker : (f : AskFault) (P Q : ℕ → Type 0) → ((s : ℕ) → P s → Q s) → IfUnnamedAsk f P → IfUnnamedAsk f Q
@@ -80,4 +80,4 @@ returns-in_err-push-in-Some-clause-ended g c =
     let one = subst (λ o. IsAsked g.R.RootSource g.S.RelatedSet g.B.Backoff g.R.Object.Resource w h t xs (es ++ map (Answered t.at) xs) c.loop-all.asks (option_map f o) c.ask_one.new.asks c.ask_one.new.core) c.in-Some.is
     (c.in_ok-exchange.ensures.asked w h t xs (es ++ map (Answered t.at) xs) at k.may) in
     let q = asked-push g.R.RootSource g.S.RelatedSet g.B.Backoff g.R.Object.Resource w h t es c.args.asks.now xs c.loop-all.asks c.loop-all.core (f c.in-Some.exchange) c.ask_one.new.asks c.ask_one.new.core k one in
-    asked-lost g.R.RootSource g.S.RelatedSet g.B.Backoff g.R.Object.Resource w h t es c.args.asks.now (xs ++ f c.in-Some.exchange ∷ []) c.ask_one.new.asks c.ask_one.new.core q)
+    ended-lost g.R.RootSource g.S.RelatedSet g.B.Backoff g.R.Object.Resource w h t es c.args.asks.now (xs ++ f c.in-Some.exchange ∷ []) c.ask_one.new.asks c.ask_one.new.core q c.ask_one.new.core.writer.kept refl)

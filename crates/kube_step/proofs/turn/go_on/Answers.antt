@@ -9,13 +9,14 @@ use Rattle.kube_model.specs.Pause.{gave_up}
 use Rattle.kube_history.specs.CoreWorld.{core_world}
 use Rattle.kube_history.specs.CoreEvents.{Answered, Settled, clock_of}
 use Rattle.kube_history.specs.TurnEvents.{shut_if, takes}
+use Rattle.kube_reflect.specs.Writers.{Writing}
 use Rattle.kube_core.specs.Cores.{StandsFor}
 use Rattle.kube_turn.specs.Views.{exchange_of, taken_of}
 use Rattle.kube_history.specs.Legal.{AreLegal}
 use Rattle.kube_history.proofs.Segments.{legal-append}
 use Rattle.kube_step.specs.Takes.{taken_so_far}
 use Rattle.kube_step.specs.Turns.{requests_first, TookNone, TookThese}
-use Rattle.kube_step.proofs.Asking.{asked-lost, asked-none, may-requested}
+use Rattle.kube_step.proofs.Asking.{asked-none, ended-lost, may-requested}
 use Rattle.kube_step.proofs.Taking.{grown-nil}
 use Rattle.kube_step.proofs.Turned.{if-unnamed}
 use Rattle.kube_step.proofs.turn.go_on.Goals as goal
@@ -39,6 +40,7 @@ returns-clause-gone_on g c w h t es at reload on may =
       asked_core = c.ask_all.new.core;
       asked = asked.0;
       done = asked.1;
+      kept = ap (λ (z : Writing _). z.kept) (c.in_ok-taken.ensures.writer ∙ c.settle.ensures.writer);
       core_stands =
           subst (λ n. StandsFor type_of meta (core_world w) (es ++ requests_first t.at t.reload t.on ++ map (Answered t.at) xs ++ Settled t.at ∷ [] ++ shut_if (gave_up w (exchanges_with h t xs)) t.at ++ takes n ts) c.take_all.new.core) (sym at) took;
     }
@@ -57,7 +59,8 @@ pub returns-in_err-request_first-clause-ended : goal.returns-in_err-request_firs
 returns-in_err-request_first-clause-ended g c =
     let p = err_from_is_err_and c.from_residual.result c.from_residual.ensures.1 in
     rw (p.1, p.2) (λ w h t es at reload on may.
-    asked-lost g.R.RootSource g.S.RelatedSet g.B.Backoff g.R.Object.Resource w h t es c.args.asks.now [] c.args.asks.now c.args.core.now (asked-none g.R.RootSource g.S.RelatedSet g.B.Backoff g.R.Object.Resource w h t es c.args.asks.now c.args.core.now may))
+    ended-lost g.R.RootSource g.S.RelatedSet g.B.Backoff g.R.Object.Resource w h t es c.args.asks.now [] c.args.asks.now c.args.core.now (asked-none g.R.RootSource g.S.RelatedSet g.B.Backoff g.R.Object.Resource w h t es c.args.asks.now c.args.core.now may)
+    c.request_first.new.core.writer.kept (ap (λ (z : Writing _). z.kept) c.in_err-request_first.ensures.writer))
 
 pub returns-in_err-exchanges-clause-ended : goal.returns-in_err-exchanges-clause-ended
 returns-in_err-exchanges-clause-ended g c =
@@ -80,7 +83,8 @@ returns-in_err-taken-clause-ended g c =
     (c.in_ok-request_first.ensures.stands (core_world w) es may.core_stands) in
     let may1 = may-requested g.R.RootSource g.S.RelatedSet g.B.Backoff g.R.Object.Resource w h t es c.args.asks.now c.args.core.now c.request_first.new.core may first in
     let asked = c.in_ok-exchanges.ensures.asked w h t (es ++ requests_first t.at t.reload t.on) at may1 in
-    asked-lost g.R.RootSource g.S.RelatedSet g.B.Backoff g.R.Object.Resource w h t (es ++ requests_first t.at t.reload t.on) c.args.asks.now (map (exchange_of type_of) c.in_ok-exchanges.exchanges) c.ask_all.new.asks c.ask_all.new.core asked.0)
+    ended-lost g.R.RootSource g.S.RelatedSet g.B.Backoff g.R.Object.Resource w h t (es ++ requests_first t.at t.reload t.on) c.args.asks.now (map (exchange_of type_of) c.in_ok-exchanges.exchanges) c.ask_all.new.asks c.ask_all.new.core asked.0
+    c.take_all.new.core.writer.kept (ap (λ (z : Writing _). z.kept) (c.in_err-taken.ensures.writer ∙ c.settle.ensures.writer)))
 
 pub returns-in_err-taken-clause-handed_before : goal.returns-in_err-taken-clause-handed_before
 returns-in_err-taken-clause-handed_before g c =

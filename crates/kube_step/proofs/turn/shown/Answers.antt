@@ -11,5 +11,5 @@ objects-keyed key (o ∷ os) = ap (λ ps. o ∷ ps) (objects-keyed key os)
 
 pub returns : goal.returns
 returns g c world es s =
-    ap Some (ap (map arc_value) c.from.ensures ∙ (c.in_ok-state.ensures ∙ (ap (map (λ (p : Reference × _). p.1)) (c.cache.ensures world es s) ∙ objects-keyed world.key (cache_of world es))))
+    ap Some (ap (map arc_value) c.from.ensures ∙ (c.in_ok-state.ensures ∙ (ap (map (λ (p : Reference × _). p.1)) (c.cache.ensures.stands world es s) ∙ objects-keyed world.key (cache_of world es))))
     ∙ ap (λ b. if b then Some (cache_of world es) else None) (sym c.if-not-show.false)

@@ -1,21 +1,32 @@
-use Rattle.std.proofs.Common.{[], map, refl, sym, ap}
+use Rattle.std.proofs.Common.{[], map, refl, sym, ap, ◌∙◌}
 use Rattle.std.specs.Arc.{arc_value}
 use Rattle.std.specs.List.{filter_map}
 use Rattle.std.proofs.lemmas.Result.{err_from_is_err_and}
 use Rattle.kube_history.specs.CoreWorld.{core_world}
+use Rattle.kube_reflect.specs.Writers.{Writing}
 use Rattle.kube_turn.specs.Records.{finished_of, turn_of}
 use Rattle.kube_turn.specs.Views.{exchange_of, taken_of}
 use Rattle.kube_step.specs.Policies.{Answers}
 use Rattle.kube_step.specs.Turns.{NoneTaken}
 use Rattle.kube_step.proofs.Taking.{grown-nil}
 use Rattle.kube_step.proofs.Turning.{told-finishes}
-use Rattle.kube_step.proofs.Turned.{ended-first, events-first, front-first, front-whole, lost-whole, running-first, stands-first, turned}
+use Rattle.kube_step.proofs.Turned.{ended-first, ended-none, events-first, front-first, front-whole, lost-whole, running-first, stands-first, turned}
 use Rattle.kube_step.proofs.turn.take_turn.Goals as goal
 
 pub returns-in_err-finished-clause-handed_before : goal.returns-in_err-finished-clause-handed_before
 returns-in_err-finished-clause-handed_before g c =
     let p = err_from_is_err_and c.from_residual.result c.from_residual.ensures.1 in
     rw p.1 ([], sym (grown-nil (g.Rc.Reconciler.handed c.args.reconciler.now)), λ w h may v. NoneTaken refl)
+
+pub returns-in_err-finished-clause-ended : goal.returns-in_err-finished-clause-ended
+returns-in_err-finished-clause-ended g c =
+    let p = err_from_is_err_and c.from_residual.result c.from_residual.ensures.1 in
+    rw (p.1, p.2) (λ w h may v.
+    let t = turn_of g.R.Object.Resource.type_of c.args.turn in
+    let k = c.close-closed.ensures.closed (core_world w) may.parts.events may.parts.core_stands in
+    let begun = c.begin.ensures.stands w may.parts.budget may.parts.before may.parts.mine may.parts.asks_stand in
+    ended-none g.R.RootSource g.S.RelatedSet g.B.Backoff g.R.Object.Resource w h t c.args.asks.now c.args.core.now may c.begin.new.self c.from.result.items c.from.ensures c.begin.ensures.begun begun c.close-closed.result k
+    c.finish_all.new.core.writer.kept (ap (λ (z : Writing _). z.kept) (c.in_err-finished.ensures.writer ∙ c.close-closed.ensures.writer)))
 
 pub returns-clause-finished : goal.returns-clause-finished
 returns-clause-finished g c w h may v =
@@ -90,7 +101,8 @@ returns-in_err-stops-clause-ended g c =
     (c.in_ok-finished.ensures.finished (core_world w) first h t first-stands ran v refl) in
     lost-whole g.R.RootSource g.S.RelatedSet g.B.Backoff g.R.Object.Resource w h t c.args.asks.now c.args.core.now may c.begin.new.self c.from.result.items c.from.ensures c.begin.ensures.begun begun c.close-closed.result k fs c.finish_all.new.core done v z (map (exchange_of type_of) c.in_ok-made.made.exchanges) (filter_map (taken_of type_of) c.in_ok-made.made.taken) c.go_on_where.new.asks c.go_on_where.new.core
     (λ e. (ap (map (exchange_of type_of)) (c.in_ok-made.ensures.closed e).0, ap (filter_map (taken_of type_of)) (c.in_ok-made.ensures.closed e).1, (c.in_ok-made.ensures.closed e).2, (c.in_ok-made.ensures.closed e).3))
-    (λ e us m. c.in_ok-made.ensures.gone_on e w h t us refl refl refl m))
+    (λ e us m. c.in_ok-made.ensures.gone_on e w h t us refl refl refl m)
+    (ap (λ (z : Writing _). z.kept) (c.in_ok-finished.ensures.writer ∙ c.close-closed.ensures.writer)))
 
 pub returns-in_err-stops-clause-handed_before : goal.returns-in_err-stops-clause-handed_before
 returns-in_err-stops-clause-handed_before g c =
@@ -138,7 +150,8 @@ returns-in_err-store-clause-ended g c =
     (c.in_ok-finished.ensures.finished (core_world w) first h t first-stands ran v refl) in
     lost-whole g.R.RootSource g.S.RelatedSet g.B.Backoff g.R.Object.Resource w h t c.args.asks.now c.args.core.now may c.begin.new.self c.from.result.items c.from.ensures c.begin.ensures.begun begun c.close-closed.result k fs c.finish_all.new.core done v z (map (exchange_of type_of) c.in_ok-made.made.exchanges) (filter_map (taken_of type_of) c.in_ok-made.made.taken) c.go_on_where.new.asks c.go_on_where.new.core
     (λ e. (ap (map (exchange_of type_of)) (c.in_ok-made.ensures.closed e).0, ap (filter_map (taken_of type_of)) (c.in_ok-made.ensures.closed e).1, (c.in_ok-made.ensures.closed e).2, (c.in_ok-made.ensures.closed e).3))
-    (λ e us m. c.in_ok-made.ensures.gone_on e w h t us refl refl refl m))
+    (λ e us m. c.in_ok-made.ensures.gone_on e w h t us refl refl refl m)
+    (ap (λ (z : Writing _). z.kept) (c.in_ok-finished.ensures.writer ∙ c.close-closed.ensures.writer)))
 
 pub returns-in_err-store-clause-handed_before : goal.returns-in_err-store-clause-handed_before
 returns-in_err-store-clause-handed_before g c =

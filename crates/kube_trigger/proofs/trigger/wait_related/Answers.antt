@@ -19,7 +19,7 @@ loop-reference-preserved g c =
     let r = c.reference-item.result in
     let l : i < length refs = omega arith in (
       inv.0 ++ q ∷ [],
-      c.in_ok-wait.ensures ∙ (ap (λ ws. ws ++ Ok q ∷ []) inv.1 ∙ (append_assoc before (map Ok inv.0) (Ok q ∷ []) ∙ ap (λ ws. before ++ ws) (sym (map-append Ok inv.0 (q ∷ []))))),
+      c.in_ok-wait.ensures.added ∙ (ap (λ ws. ws ++ Ok q ∷ []) inv.1 ∙ (append_assoc before (map Ok inv.0) (Ok q ∷ []) ∙ ap (λ ws. before ++ ws) (sym (map-append Ok inv.0 (q ∷ []))))),
       map-append (message_of type_of) inv.0 (q ∷ []) ∙ (ap₂ (λ xs m. xs ++ m ∷ []) inv.2 c.in_ok-request.ensures
           ∙ sym (ap (λ rs. map f (map (reference_of type_of) rs)) (take_more refs i r l ∙ ap (λ y. take i refs ++ y ∷ []) (sym c.reference-item.is))
           ∙ (ap (map f) (map-append (reference_of type_of) (take i refs) (r ∷ [])) ∙ map-append f (map (reference_of type_of) (take i refs)) (reference_of type_of r ∷ [])))),

@@ -22,7 +22,7 @@ returns-in-Ok-key g c =
           subst (λ o. is_named (meta o) ≡ true) shown c.in-Ok-key.ensures.named,
           (
             q ∷ [],
-            c.in_ok-wait-in-Ok-key.ensures ∙ ap (λ ws. ws ++ Ok q ∷ []) c.requires.none,
+            c.in_ok-wait-in-Ok-key.ensures.added ∙ ap (λ ws. ws ++ Ok q ∷ []) c.requires.none,
             ap (λ r. record { reference = r; reason = ObjectUpdated } ∷ []) (c.in-Ok-key.ensures.reference ∙ ap (λ o. key_of t (meta o)) shown),
           ),
         ),
