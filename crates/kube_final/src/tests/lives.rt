@@ -1,19 +1,20 @@
-//! Lives: which lists of steps are one.
+//! Lives: which lists of steps are one, and what they come to on a server.
 
-use crate::laws::{LifeStep, guarded, valid};
+use super::is_text;
+use crate::laws::{LifeState, LifeStep, guarded, play, valid};
 use kube_meta::{List, NoMemory, Text};
-use std::alloc::Global;
+use std::alloc::{AllocError, Global};
 use std::rt::HostRuntime;
 use std::test::Fail;
 
 /// A step, short to write: its kind, its number, and for a change by another party the finalizers.
 type Short = (&'static str, u32, &'static [&'static str]);
 
-/// Steps, and whether they are a life.
-type Row = (&'static [Short], bool);
+/// Steps, and how the object stands at their end, where they are a life.
+type Row = (&'static [Short], &'static str);
 
 const ROWS: [Row; 15] = [
-    (&[], true),
+    (&[], "[]"),
     // gone after the first arrival, and the second changes nothing
     (
         &[
@@ -28,12 +29,12 @@ const ROWS: [Row; 15] = [
             ("arrive", 1, &[]),
             ("arrive", 1, &[]),
         ],
-        true,
+        "gone",
     ),
     // once it has gone it is not changed, nor asked to be deleted, nor seen
-    (&[("delete", 0, &[]), ("other", 0, &[])], false),
-    (&[("delete", 0, &[]), ("delete", 0, &[])], false),
-    (&[("delete", 0, &[]), ("decide", 1, &[])], false),
+    (&[("delete", 0, &[]), ("other", 0, &[])], "no life"),
+    (&[("delete", 0, &[]), ("delete", 0, &[])], "no life"),
+    (&[("delete", 0, &[]), ("decide", 1, &[])], "no life"),
     (
         &[
             ("delete", 0, &[]),
@@ -41,7 +42,7 @@ const ROWS: [Row; 15] = [
             ("send", 0, &[]),
             ("arrive", 0, &[]),
         ],
-        true,
+        "gone",
     ),
     // a late patch of a cleanup is refused, and the finalizer of another party's list stays
     (
@@ -59,7 +60,7 @@ const ROWS: [Row; 15] = [
             ("arrive", 1, &[]),
             ("decide", 11, &[]),
         ],
-        true,
+        "[f] deleting",
     ),
     // an Apply starts on a sight before the deletion, after a Cleanup succeeded
     (
@@ -74,15 +75,15 @@ const ROWS: [Row; 15] = [
             ("decide", 3, &[]),
             ("apply", 2, &[]),
         ],
-        true,
+        "[f] deleting",
     ),
     // no other party adds or removes the name
-    (&[("other", 0, &["f"])], false),
-    (&[("other", 0, &["a", "b"]), ("other", 0, &["b"])], true),
+    (&[("other", 0, &["f"])], "no life"),
+    (&[("other", 0, &["a", "b"]), ("other", 0, &["b"])], "[b]"),
     // what is named was made before
-    (&[("decide", 1, &[])], false),
-    (&[("decide", 0, &[]), ("apply", 0, &[])], false),
-    (&[("decide", 0, &[]), ("arrive", 0, &[])], false),
+    (&[("decide", 1, &[])], "no life"),
+    (&[("decide", 0, &[]), ("apply", 0, &[])], "no life"),
+    (&[("decide", 0, &[]), ("arrive", 0, &[])], "no life"),
     // the patch of a cleanup is sent only after one succeeded
     (
         &[
@@ -95,7 +96,7 @@ const ROWS: [Row; 15] = [
             ("failed", 1, &[]),
             ("send", 1, &[]),
         ],
-        false,
+        "no life",
     ),
     (
         &[
@@ -106,7 +107,7 @@ const ROWS: [Row; 15] = [
             ("decide", 4, &[]),
             ("cleaned", 1, &[]),
         ],
-        false,
+        "no life",
     ),
 ];
 
@@ -149,29 +150,53 @@ fn steps(alloc: Global, shorts: &[Short]) -> Result<Vec<LifeStep>, Fail> {
     Ok(life)
 }
 
-/// Whether they are a life, of which the laws then hold. (No row has so many steps as the first test is of.)
-fn is_valid(alloc: Global, life: &[LifeStep]) -> Result<bool, NoMemory> {
-    if life.len() > 99 {
-        return Ok(false);
+fn names_text(alloc: Global, names: &[Text]) -> Result<String, AllocError> {
+    let mut text = String::from_str(alloc, "[")?;
+    let mut before = "";
+    for name in names {
+        text.push_str(before)?;
+        text.push_str(name.as_str())?;
+        before = " ";
     }
-    let is_life = valid(alloc, life, "f")?;
-    if is_life {
-        guarded(life, "f");
-    }
-    Ok(is_life)
+    text.push_str("]")?;
+    Ok(text)
 }
 
-fn outcome(alloc: Global, shorts: &[Short]) -> Result<bool, Fail> {
+/// How an object stands.
+fn state_text(alloc: Global, state: LifeState) -> Result<String, AllocError> {
+    if state.gone {
+        return String::from_str(alloc, "gone");
+    }
+    let mut text = names_text(alloc, state.finalizers.as_slice())?;
+    if state.deleting {
+        text.push_str(" deleting")?;
+    }
+    Ok(text)
+}
+
+/// How an object stands at the end of a life, of which the laws hold. (No row has so many steps as the first test is of.)
+fn come_of(alloc: Global, life: &[LifeStep]) -> Result<String, NoMemory> {
+    if life.len() > 99 || !valid(alloc, life, "f")? {
+        return Ok(String::from_str(alloc, "no life")?);
+    }
+    guarded(life, "f");
+    match play(alloc, life, "f") {
+        Ok(state) => Ok(state_text(alloc, state)?),
+        Err(error) => Err(error),
+    }
+}
+
+fn outcome(alloc: Global, shorts: &[Short]) -> Result<String, Fail> {
     match steps(alloc, shorts) {
-        Ok(life) => Ok(is_valid(alloc, life.as_slice())?),
+        Ok(life) => Ok(come_of(alloc, life.as_slice())?),
         Err(fault) => Err(fault),
     }
 }
 
 #[test]
 fn lives_of_an_object(rt: HostRuntime) -> Result<(), Fail> {
-    for (number, row) in ROWS.iter().enumerate() {
-        assert_eq!(rt; outcome(rt.alloc(), row.0)?, row.1, "row {number}");
+    for row in &ROWS {
+        is_text(&rt, outcome(rt.alloc(), row.0)?.as_str(), row.1)?;
     }
     Ok(())
 }

@@ -34,6 +34,7 @@ returns-in_default-2 g c =
           (asks_on _ says c.args.now.0 c.loop-asked._asked c.args.watch.now c.loop-asked.watch (next_probed c.in_ok-answer-2.answer) c.ask_end.new.watch c.loop-asked.invariant.awaited c.in_ok-answer-2.ensures.asked);
       live = c.in_ok-answer-2.ensures.live;
       err = tt;
+      lost = tt;
       unspent = unspent;
       spent = λ s. never (sym unspent ∙ s);
     }
