@@ -16,6 +16,3 @@ pub use delete::{DeleteAndFinalize, DeleteFailed};
 pub use finalizer::{Decision, Event, Finalizer, PatchFailed};
 pub use kube_api::{Patch, PatchRefusal, apply_patch};
 pub use wait::{AwaitCondition, Condition, FnCondition};
-
-#[cfg(test)]
-mod tests;

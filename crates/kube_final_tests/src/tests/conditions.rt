@@ -1,12 +1,12 @@
 //! Truth tables of the conditions, with parts that are absent.
 
 use super::object;
-use crate::conditions::{
+use kube_final::conditions::{
     is_crd_established, is_created, is_deleted, is_deployment_completed, is_ingress_provisioned,
     is_job_completed, is_pod_running, is_service_loadbalancer_provisioned,
 };
-use crate::kinds::{CustomResourceDefinition, Deployment, Ingress, Job, Pod, Service};
-use crate::wait::{Condition, FnCondition};
+use kube_final::kinds::{CustomResourceDefinition, Deployment, Ingress, Job, Pod, Service};
+use kube_final::wait::{Condition, FnCondition};
 use kube_meta::{DynamicObject, ObjectFault};
 use std::alloc::Global;
 use std::rt::HostRuntime;

@@ -1,7 +1,7 @@
 //! Lives: which lists of steps are one, and what they come to on a server.
 
 use super::is_text;
-use crate::laws::{LifeState, LifeStep, guarded, play, valid};
+use kube_final::laws::{LifeState, LifeStep, guarded, play, valid};
 use kube_meta::{List, NoMemory, Text};
 use std::alloc::{AllocError, Global};
 use std::rt::HostRuntime;

@@ -1,8 +1,8 @@
 //! Texts of errors.
 
 use super::{Torn, is_text};
-use crate::finalizer::{Error, PatchFailed};
-use crate::{DeleteFailed, PatchRefusal, delete, wait};
+use kube_final::finalizer::{Error, PatchFailed};
+use kube_final::{DeleteFailed, PatchRefusal, delete, wait};
 use kube_api::ApiError;
 use kube_meta::{NoMemory, Text};
 use kube_watch::Error as WatcherError;

@@ -4,10 +4,10 @@ ghost use Rattle.std.specs.Prelude.{◌≡◌, false, Option, IfOk};
 ghost use Rattle.kube_meta.specs.declared.dynamic.DynamicObject.{DynamicObject as Object};
 
 use super::{is_text, with_metadata};
-use crate::conditions::{is_created, is_deleted};
-use crate::delete;
-use crate::delete::DeleteAndFinalize;
-use crate::wait::{AwaitCondition, Condition, Error};
+use kube_final::conditions::{is_created, is_deleted};
+use kube_final::delete;
+use kube_final::delete::DeleteAndFinalize;
+use kube_final::wait::{AwaitCondition, Condition, Error};
 use kube_api::{
     ApiError, DeleteAnswer, ObjectApi, Page, Patch, PatchAnswer, ResultPage, Sequence,
     SequenceStep, Status, TestMode, WatchEvent,
