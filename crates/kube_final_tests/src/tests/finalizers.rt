@@ -3,9 +3,9 @@
 ghost use Rattle.std.specs.Prelude.{◌≡◌, false, IfOk};
 
 use super::{Torn, is_text, with_metadata};
+use kube_api::{ApiError, DeleteAnswer, ObjectApi, PatchAnswer};
 use kube_final::finalizer::{Decision, Error, Event, Finalizer};
 use kube_final::{Patch, PatchRefusal};
-use kube_api::{ApiError, DeleteAnswer, ObjectApi, PatchAnswer};
 use kube_meta::{Action, DynamicObject, Moment, NoMemory, ObjectMeta, Polled, Text};
 use std::alloc::{AllocError, Global};
 use std::rt::HostRuntime;

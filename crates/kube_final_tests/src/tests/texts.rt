@@ -1,9 +1,9 @@
 //! Texts of errors.
 
 use super::{Torn, is_text};
+use kube_api::ApiError;
 use kube_final::finalizer::{Error, PatchFailed};
 use kube_final::{DeleteFailed, PatchRefusal, delete, wait};
-use kube_api::ApiError;
 use kube_meta::{NoMemory, Text};
 use kube_watch::Error as WatcherError;
 use std::alloc::{AllocError, Global};

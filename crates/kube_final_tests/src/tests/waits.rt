@@ -4,14 +4,14 @@ ghost use Rattle.std.specs.Prelude.{◌≡◌, false, Option, IfOk};
 ghost use Rattle.kube_meta.specs.declared.dynamic.DynamicObject.{DynamicObject as Object};
 
 use super::{is_text, with_metadata};
-use kube_final::conditions::{is_created, is_deleted};
-use kube_final::delete;
-use kube_final::delete::DeleteAndFinalize;
-use kube_final::wait::{AwaitCondition, Condition, Error};
 use kube_api::{
     ApiError, DeleteAnswer, ObjectApi, Page, Patch, PatchAnswer, ResultPage, Sequence,
     SequenceStep, Status, TestMode, WatchEvent,
 };
+use kube_final::conditions::{is_created, is_deleted};
+use kube_final::delete;
+use kube_final::delete::DeleteAndFinalize;
+use kube_final::wait::{AwaitCondition, Condition, Error};
 use kube_meta::{DynamicObject, Moment, Next, NoMemory, Polled, Text};
 use std::alloc::{AllocError, Global};
 use std::collections::VecDeque;
