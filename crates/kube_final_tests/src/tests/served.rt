@@ -96,8 +96,36 @@ fn guarded(alloc: Global, server: &Server) -> Result<Option<Finalizer<DynamicObj
     }
 }
 
+/// What a poll over the objects of a server comes to.
+fn polled_over(
+    alloc: Global,
+    finalizer: &mut Finalizer<DynamicObject>,
+    objects: &mut ServerObjects<'_>,
+    branch: &str,
+) -> Result<String, NoMemory>
+    requires unready { finalizer.old.is_over ≡ false }
+{
+    match finalizer.poll(alloc, objects, branch_of(branch), Moment(5)) {
+        Ok(answer) => Ok(answer_text(alloc, answer)?),
+        Err(error) => Err(error),
+    }
+}
+
 /// What a poll over the server comes to.
 fn polled(
+    alloc: Global,
+    finalizer: &mut Finalizer<DynamicObject>,
+    server: &mut Server,
+    branch: &str,
+) -> Result<String, NoMemory>
+    requires unready { finalizer.old.is_over ≡ false }
+{
+    let mut objects = ServerObjects::new(alloc, server, None)?;
+    polled_over(alloc, finalizer, &mut objects, branch)
+}
+
+/// The same of a finalizer that ends with it.
+fn polled_once(
     alloc: Global,
     finalizer: Finalizer<DynamicObject>,
     server: &mut Server,
@@ -106,11 +134,7 @@ fn polled(
     requires unready { finalizer.is_over ≡ false }
 {
     let mut finalizer = finalizer;
-    let mut objects = ServerObjects::new(alloc, server, None)?;
-    match finalizer.poll(alloc, &mut objects, branch_of(branch), Moment(5)) {
-        Ok(answer) => Ok(answer_text(alloc, answer)?),
-        Err(error) => Err(error),
-    }
+    polled(alloc, &mut finalizer, server, branch)
 }
 
 /// What the object is when it is seen, what another party makes of it then, the branch, and the answer of the poll with how
@@ -185,15 +209,33 @@ const ROWS: [Row; 11] = [
     ),
 ];
 
+/// What a row's poll answers, where another party changes the object after it was seen.
+fn answer_of(
+    alloc: Global,
+    finalizer: Finalizer<DynamicObject>,
+    server: &mut Server,
+    row: &Row,
+) -> Result<String, Fail>
+    requires unready { finalizer.is_over ≡ false }
+{
+    match put(alloc, server, row.1) {
+        Ok(()) => Ok(polled_once(alloc, finalizer, server, row.2)?),
+        Err(fault) => Err(fault),
+    }
+}
+
+/// What the object that was seen comes to.
+fn come_of_one(alloc: Global, server: &mut Server, row: &Row) -> Result<String, Fail> {
+    match guarded(alloc, server)? {
+        Some(finalizer) => answer_of(alloc, finalizer, server, row),
+        None => Ok(String::new(alloc)),
+    }
+}
+
 /// What a row comes to, with a server on which nothing is yet.
 fn come_of(alloc: Global, server: &mut Server, row: &Row) -> Result<String, Fail> {
     put(alloc, server, row.0)?;
-    let finalizer = match guarded(alloc, server)? {
-        Some(finalizer) => finalizer,
-        None => return Ok(String::new(alloc)),
-    };
-    put(alloc, server, row.1)?;
-    let answer = polled(alloc, finalizer, server, row.2)?;
+    let answer = come_of_one(alloc, server, row)?;
     let left = server_text(alloc, server)?;
     Ok(format!(in alloc; "{answer}; {left}")?)
 }
@@ -212,7 +254,32 @@ fn finalizers_over_a_server(rt: HostRuntime) -> Result<(), Fail> {
 }
 
 /// Deletes the object of the server, and waits at a watch that tells that `uid-1` goes.
+fn deleted_over(
+    alloc: Global,
+    deletion: &mut DeleteAndFinalize<TestMode<DynamicObject>>,
+    objects: &mut ServerObjects<'_>,
+) -> Result<String, NoMemory>
+    requires unready { deletion.old.is_over ≡ false }
+{
+    match deletion.poll(objects, alloc, Moment(5), 9) {
+        Ok(answer) => deletion_text(alloc, answer),
+        Err(error) => Err(error),
+    }
+}
+
 fn deleted(
+    alloc: Global,
+    deletion: &mut DeleteAndFinalize<TestMode<DynamicObject>>,
+    server: &mut Server,
+) -> Result<String, NoMemory>
+    requires unready { deletion.old.is_over ≡ false }
+{
+    let mut objects = ServerObjects::new(alloc, server, None)?;
+    deleted_over(alloc, deletion, &mut objects)
+}
+
+/// The same of a deletion that ends with it.
+fn deleted_once(
     alloc: Global,
     deletion: DeleteAndFinalize<TestMode<DynamicObject>>,
     server: &mut Server,
@@ -220,11 +287,7 @@ fn deleted(
     requires unready { deletion.is_over ≡ false }
 {
     let mut deletion = deletion;
-    let mut objects = ServerObjects::new(alloc, server, None)?;
-    match deletion.poll(&mut objects, alloc, Moment(5), 9) {
-        Ok(answer) => deletion_text(alloc, answer),
-        Err(error) => Err(error),
-    }
+    deleted(alloc, &mut deletion, server)
 }
 
 /// The object on the server, and the answer of the poll with how the object stands then.
@@ -238,10 +301,17 @@ const DELETIONS: [(&str, &str); 4] = [
     ),
 ];
 
+fn deleted_on(alloc: Global, server: &mut Server) -> Result<String, Fail> {
+    match uid_one(alloc, "x") {
+        Ok(deletion) => Ok(deleted_once(alloc, deletion, server)?),
+        Err(fault) => Err(fault),
+    }
+}
+
 /// What a deletion comes to, with a server on which nothing is yet.
 fn deletion_of(alloc: Global, server: &mut Server, metadata: &str) -> Result<String, Fail> {
     put(alloc, server, metadata)?;
-    let answer = deleted(alloc, uid_one(alloc, "x")?, server)?;
+    let answer = deleted_on(alloc, server)?;
     let left = server_text(alloc, server)?;
     Ok(format!(in alloc; "{answer}; {left}")?)
 }

@@ -62,19 +62,34 @@ fn api(alloc: Global, uids: &[&str]) -> Result<TestMode<DynamicObject>, Fail> {
 fn found_text(
     alloc: Global,
     found: Next<Result<Option<Arc<DynamicObject>>, Error>>,
-) -> Result<String, AllocError> {
-    match found {
-        Next::Item(Ok(Some(_object))) => String::from_str(alloc, "object"),
-        Next::Item(Ok(None)) => String::from_str(alloc, "none"),
-        Next::Item(Err(error)) => format!(in alloc; "{error}"),
-        Next::NotReady => String::from_str(alloc, "not ready"),
-        Next::Spent => String::from_str(alloc, "spent"),
-        Next::End => String::from_str(alloc, "end"),
-    }
+) -> Result<String, NoMemory> {
+    Ok(match found {
+        Next::Item(Ok(Some(_object))) => String::from_str(alloc, "object")?,
+        Next::Item(Ok(None)) => String::from_str(alloc, "none")?,
+        Next::Item(Err(error)) => format!(in alloc; "{error}")?,
+        Next::NotReady => String::from_str(alloc, "not ready")?,
+        Next::Spent => String::from_str(alloc, "spent")?,
+        Next::End => String::from_str(alloc, "end")?,
+    })
 }
 
 /// What one poll of a wait gives.
 fn polled<C: Condition<DynamicObject>>(
+    alloc: Global,
+    wait: &mut AwaitCondition<TestMode<DynamicObject>, C>,
+    fuel: u32,
+) -> Result<String, NoMemory>
+    requires unready { wait.old.is_over ≡ false }
+    requires may { (object : Option Object) → C.may wait.old.condition object }
+{
+    match wait.poll(alloc, Moment(0), fuel.max(1)) {
+        Ok(found) => found_text(alloc, found),
+        Err(error) => Err(error),
+    }
+}
+
+/// What one poll of a wait gives, which ends with it.
+fn polled_once<C: Condition<DynamicObject>>(
     alloc: Global,
     wait: AwaitCondition<TestMode<DynamicObject>, C>,
     fuel: u32,
@@ -83,27 +98,37 @@ fn polled<C: Condition<DynamicObject>>(
     requires may { (object : Option Object) → C.may wait.condition object }
 {
     let mut wait = wait;
-    match wait.poll(alloc, Moment(0), fuel.max(1)) {
-        Ok(found) => Ok(found_text(alloc, found)?),
+    polled(alloc, &mut wait, fuel)
+}
+
+/// What a wait over an API gives.
+fn awaited<C: Condition<DynamicObject>>(
+    alloc: Global,
+    api: TestMode<DynamicObject>,
+    condition: C,
+    fuel: u32,
+) -> Result<String, NoMemory>
+    requires may { (object : Option Object) → C.may condition object }
+{
+    match AwaitCondition::new(alloc, api, "a", condition) {
+        Ok(wait) => polled_once(alloc, wait, fuel),
         Err(error) => Err(error),
     }
 }
 
 /// What a wait for an object gives.
 fn created(alloc: Global, uids: &[&str], fuel: u32) -> Result<String, Fail> {
-    let api = api(alloc, uids)?;
-    match AwaitCondition::new(alloc, api, "a", is_created()) {
-        Ok(wait) => Ok(polled(alloc, wait, fuel)?),
-        Err(error) => Err(Fail::from(error)),
+    match api(alloc, uids) {
+        Ok(api) => Ok(awaited(alloc, api, is_created(), fuel)?),
+        Err(fault) => Err(fault),
     }
 }
 
 /// What a wait for the end of the object `uid-1` gives.
 fn gone(alloc: Global, uids: &[&str], fuel: u32) -> Result<String, Fail> {
-    let api = api(alloc, uids)?;
-    match AwaitCondition::new(alloc, api, "a", is_deleted("uid-1")) {
-        Ok(wait) => Ok(polled(alloc, wait, fuel)?),
-        Err(error) => Err(Fail::from(error)),
+    match api(alloc, uids) {
+        Ok(api) => Ok(awaited(alloc, api, is_deleted("uid-1"), fuel)?),
+        Err(fault) => Err(fault),
     }
 }
 
@@ -221,8 +246,23 @@ pub fn uid_one(
 ) -> Result<DeleteAndFinalize<TestMode<DynamicObject>>, Fail>
     ensures { IfOk result (λ d. d.is_over ≡ false) }
 {
-    let api = api(alloc, &["uid-1"])?;
-    Ok(DeleteAndFinalize::new(alloc, api, name)?)
+    match api(alloc, &["uid-1"]) {
+        Ok(api) => opened(alloc, api, name),
+        Err(fault) => Err(fault),
+    }
+}
+
+fn opened(
+    alloc: Global,
+    api: TestMode<DynamicObject>,
+    name: &str,
+) -> Result<DeleteAndFinalize<TestMode<DynamicObject>>, Fail>
+    ensures { IfOk result (λ d. d.is_over ≡ false) }
+{
+    match DeleteAndFinalize::new(alloc, api, name) {
+        Ok(deletion) => Ok(deletion),
+        Err(error) => Err(Fail::from(error)),
+    }
 }
 
 /// Polls with so much fuel each, until one gives an answer.
@@ -253,24 +293,35 @@ fn polls(
 /// What a deletion comes to, and how often it was asked.
 fn come_of(
     alloc: Global,
+    deletion: &mut DeleteAndFinalize<TestMode<DynamicObject>>,
+    row: &Row,
+) -> Result<String, NoMemory>
+    requires unready { deletion.old.is_over ≡ false }
+{
+    let mut objects = Deleter {
+        answer: row.0,
+        calls: 0,
+    };
+    let text = polls(alloc, deletion, &mut objects, row.1)?;
+    let calls = objects.calls;
+    Ok(format!(in alloc; "{text}; {calls}")?)
+}
+
+/// The same of one that ends with it.
+fn come_of_one(
+    alloc: Global,
     deletion: DeleteAndFinalize<TestMode<DynamicObject>>,
     row: &Row,
 ) -> Result<String, NoMemory>
     requires unready { deletion.is_over ≡ false }
 {
     let mut deletion = deletion;
-    let mut objects = Deleter {
-        answer: row.0,
-        calls: 0,
-    };
-    let text = polls(alloc, &mut deletion, &mut objects, row.1)?;
-    let calls = objects.calls;
-    Ok(format!(in alloc; "{text}; {calls}")?)
+    come_of(alloc, &mut deletion, row)
 }
 
 fn deleted(alloc: Global, row: &Row) -> Result<String, Fail> {
     match uid_one(alloc, "a") {
-        Ok(deletion) => Ok(come_of(alloc, deletion, row)?),
+        Ok(deletion) => Ok(come_of_one(alloc, deletion, row)?),
         Err(fault) => Err(fault),
     }
 }
