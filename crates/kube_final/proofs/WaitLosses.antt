@@ -1,19 +1,18 @@
 -- What a wait asked where memory could not be had.
-use Rattle.std.proofs.Common.{◌≡◌, ◌⊎◌, inl, inr, ℕ, zero, suc, ◌+◌, ◌≤◌, List, [], ◌∷◌, ◌++◌, map, length, Option, Some, None, Result, Ok, Err, OnErr, refl, sym, ap, subst, ◌∙◌, arith, append-nil, append_assoc, Bool}
+use Rattle.std.proofs.Common.{◌≡◌, inl, ℕ, zero, suc, ◌+◌, ◌≤◌, List, [], ◌∷◌, ◌++◌, map, length, Some, Result, Ok, Err, OnErr, refl, sym, ap, subst, ◌∙◌, arith, append-nil, append_assoc, Bool}
 use Rattle.std.proofs.Math.Logic.{∥∥₁_elim}
 use Rattle.std.proofs.Math.Bridge.{le_prop}
 use Rattle.std.proofs.lemmas.List.{length-append}
 use Rattle.kube_meta.specs.declared.poll.Next.{Next}
-use Rattle.kube_meta.specs.declared.poll.Next.TheVariants.{Item, NotReady, Spent, End}
 use Rattle.kube_model.specs.World.{Settings, Watched}
 use Rattle.kube_model.specs.History.{Dated, Exchange}
 use Rattle.kube_model.specs.Owed.{owed}
 use Rattle.kube_watch.specs.Calls.{IsAskedOnce}
 use Rattle.kube_watch.specs.Configs.{settings_of}
-use Rattle.kube_watch.specs.Stands.{StandsFor, exchanges_in, settings_in}
+use Rattle.kube_watch.specs.Stands.{StandsFor, exchanges_in, row_of, settings_in}
 use Rattle.kube_watch.specs.Watching.{Watching}
-use Rattle.kube_watch.specs.Polls.{Api, AreCalls, AreNext, Exchanged, Look, Lost, Tells, Waits, Quiet, answered_by, dated_now, polled}
-use Rattle.kube_watch.specs.Objects.{Found, Observing, PolledObject, answers_in, is_held, object_looks}
+use Rattle.kube_watch.specs.Polls.{Api, AreCalls, AreNext, Exchanged, Look, Lost, Tells, Waits, Quiet, answered_by, dated_now, polled, told_by}
+use Rattle.kube_watch.specs.Objects.{Found, Observing, PolledObject, answers_in, held_by, is_held, object_looks}
 use Rattle.kube_final.specs.Waiting.{Stands}
 use Rattle.kube_final.specs.Waits.{Awaited, Says, Waited}
 use Rattle.kube_final.proofs.WaitLaws.{calls_append, exchanges_after, next_append, no_pair}
@@ -49,7 +48,7 @@ waited_few says ws (suc n) (Waits ∷ ls) answer left h = let none : length ls �
 
 looks_length : {V : Type 0} (settings : Settings) (held : Bool) (before xs : List (Exchange V)) → length (object_looks settings held before xs) ≡ length xs
 looks_length settings held before [] = refl
-looks_length settings held before (x ∷ xs) = ap suc (looks_length settings _ (before ++ x ∷ []) xs)
+looks_length settings held before (x ∷ xs) = ap suc (looks_length settings (held_by held (told_by (row_of settings before x))) (before ++ x ∷ []) xs)
 
 -- ---- what was asked before counts too
 
@@ -72,9 +71,8 @@ lost_then api now n m k old middle new xs h few le l =
           subst Q before (subst P same (l.once es (h.stands ds s)));
     }
 
--- nothing was asked
-pub lost_nothing : {A V : Type 0} (api : Api A V) (now k : ℕ) (w : Watching A V) → Lost api now k w w
-lost_nothing api now k w = record {
+nothing_asked : {A V : Type 0} (api : Api A V) (now k : ℕ) (w : Watching A V) → Lost api now k w w
+nothing_asked api now k w = record {
   exchanges = [];
   reached = w.api;
   few = omega arith;
@@ -82,6 +80,10 @@ lost_nothing api now k w = record {
   made = λ ds s. tt;
   once = λ ds s. inl refl;
 }
+
+-- nothing was asked
+pub lost_nothing : {A V : Type 0} (api : Api A V) (now k : ℕ) (old new : Watching A V) → new ≡ old → Lost api now k old new
+lost_nothing api now k old new e = let P : Watching _ _ → Type 0 = λ w. Lost api now k old w in subst P (sym e) (nothing_asked api now k old)
 
 -- fewer were made than might be
 pub lost_more : {A V : Type 0} (api : Api A V) (now m k : ℕ) (old new : Watching A V) → m ≤ k → Lost api now m old new → Lost api now k old new
