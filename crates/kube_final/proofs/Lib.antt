@@ -1,3 +1,9 @@
 pub mod LifeLaws
 pub mod WaitLaws
 pub mod WaitLoops
+pub mod WaitLosses
+pub mod EqualTexts
+pub mod Documents
+pub mod Patching
+pub mod Staging
+pub mod Sights

@@ -19,7 +19,7 @@ use Rattle.kube_final.specs.declared.wait.Error.{Error}
 
 -- ---- a poll without fuel makes no exchange
 
-looks_none : {T : Type 0} (ws : List T) (ls : List (Look T)) (answer : Next T) (left : List T) → polled ws 0 ls ≡ Some (answer, left) → ls ≡ []
+pub looks_none : {T : Type 0} (ws : List T) (ls : List (Look T)) (answer : Next T) (left : List T) → polled ws 0 ls ≡ Some (answer, left) → ls ≡ []
 looks_none [] [] answer left e = refl
 looks_none [] (l ∷ ls) answer left e = cc
 looks_none (w ∷ ws) [] answer left e = refl
@@ -50,7 +50,7 @@ pair_parts : {X Y : Type 0} (x z : X) (y w : Y) → ◌≡◌ {A = Option (X × 
 unfolding left_of right_of
 pair_parts x z y w e = (ap (left_of x) e, ap (right_of y) e)
 
-no_pair : {X : Type 0} (x : X) → None ≡ Some x → ⊥
+pub no_pair : {X : Type 0} (x : X) → None ≡ Some x → ⊥
 no_pair x e = cc
 
 first_item : {V : Type 0} (ws : List (Found V)) (found : Found V) (left : List (Found V)) → polled ws 0 [] ≡ Some (Item found, left) → ws ≡ found ∷ left
@@ -222,11 +222,11 @@ asked_then api says now old middle f o new passed p t = record {
 
 -- ---- exchanges, one after another
 
-calls_append : {A V : Type 0} (api : Api A V) (settings : Settings) (now : ℕ) (old middle new : A) (xs ys : List (Exchange V)) → AreCalls api settings now old xs middle → AreCalls api settings now middle ys new → AreCalls api settings now old (xs ++ ys) new
+pub calls_append : {A V : Type 0} (api : Api A V) (settings : Settings) (now : ℕ) (old middle new : A) (xs ys : List (Exchange V)) → AreCalls api settings now old xs middle → AreCalls api settings now middle ys new → AreCalls api settings now old (xs ++ ys) new
 calls_append api settings now old middle new [] ys h k = let P : _ → Type 0 = λ a. AreCalls api settings now a ys new in subst P h k
 calls_append api settings now old middle new (x ∷ xs) ys h k = (h.0, h.1, calls_append api settings now h.0 middle new xs ys h.2 k)
 
-next_append : {V : Type 0} (settings : Settings) (ds : List (Dated V)) (now : ℕ) (xs ys : List (Exchange V)) → AreNext settings ds now xs → AreNext settings (ds ++ map (dated_now now) xs) now ys → AreNext settings ds now (xs ++ ys)
+pub next_append : {V : Type 0} (settings : Settings) (ds : List (Dated V)) (now : ℕ) (xs ys : List (Exchange V)) → AreNext settings ds now xs → AreNext settings (ds ++ map (dated_now now) xs) now ys → AreNext settings ds now (xs ++ ys)
 next_append settings ds now [] ys h k = let P : List (Dated _) → Type 0 = λ es. AreNext settings es now ys in subst P (append-nil ds) k
 next_append settings ds now (x ∷ xs) ys h k =
     let P : List (Dated _) → Type 0 = λ es. AreNext settings es now ys in
@@ -249,7 +249,7 @@ exchanges_of_dated : {V : Type 0} (now : ℕ) (xs : List (Exchange V)) → excha
 exchanges_of_dated now [] = refl
 exchanges_of_dated now (x ∷ xs) = ap (λ ys. x ∷ ys) (exchanges_of_dated now xs)
 
-exchanges_after : {V : Type 0} (now : ℕ) (ds : List (Dated V)) (xs : List (Exchange V)) → exchanges_in (ds ++ map (dated_now now) xs) ≡ exchanges_in ds ++ xs
+pub exchanges_after : {V : Type 0} (now : ℕ) (ds : List (Dated V)) (xs : List (Exchange V)) → exchanges_in (ds ++ map (dated_now now) xs) ≡ exchanges_in ds ++ xs
 exchanges_after now [] xs = exchanges_of_dated now xs
 exchanges_after now (d ∷ ds) xs = ap (λ ys. d.exchange ∷ ys) (exchanges_after now ds xs)
 

@@ -1,5 +1,5 @@
 -- What an object asks of a finalizer, and the patch that is then sent. (Kubernetes API concept "finalizers"; crate: `finalizer`.)
-use Rattle.std.specs.Prelude.{ℕ, Bool, true, false, List, [], ◌∷◌, ◌++◌, map, Option, Some, None, is_some, unwrap_or, codes, decimal}
+use Rattle.std.specs.Prelude.{ℕ, ◌<◌, ◌^◌, Bool, true, false, List, [], ◌∷◌, ◌++◌, map, Option, Some, None, is_some, unwrap_or, codes, decimal}
 use Rattle.std.specs.Str.{bytes_eq}
 use Rattle.std.specs.List.{position_from}
 use Rattle.std.specs.Arc.{arc_value}
@@ -78,6 +78,10 @@ first_addition name = Tests list_path null ∷ Changes list_path (Puts (names_da
 abbrev pub addition : List ℕ → List (List ℕ) → List Operation
 addition name names = Tests list_path (names_data names) ∷ Changes end_path (Puts (string name)) ∷ []
 
+-- other finalizers stand in their place
+abbrev pub replacement : List (List ℕ) → List Operation
+replacement names = Changes list_path (Puts (names_data names)) ∷ []
+
 -- what is sent, by the finalizer's name and the finalizers that were seen; nothing where no patch is owed
 abbrev pub patch_on : List ℕ → List (List ℕ) → Decision → List Operation
 patch_on name names Apply = []
@@ -86,3 +90,12 @@ patch_on name names AddFirst = first_addition name
 patch_on name names AddMore = addition name names
 patch_on name names Nothing = []
 patch_on name names Unnamed = []
+
+-- the index of a removal is one that a `u64` holds
+abbrev pub IsSmall : Decision → Type 0
+IsSmall (Cleanup i) = i < 2 ^ 64
+IsSmall Apply = Unit {0}
+IsSmall AddFirst = Unit {0}
+IsSmall AddMore = Unit {0}
+IsSmall Nothing = Unit {0}
+IsSmall Unnamed = Unit {0}

@@ -8,3 +8,4 @@ pub mod Lives
 pub mod Waiting
 pub mod Waits
 pub mod Pasts
+pub mod Playing

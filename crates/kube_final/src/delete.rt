@@ -5,6 +5,7 @@ ghost use Rattle.std.specs.Arc.{arc_value};
 ghost use Rattle.kube_api.specs.ObjectTalk.{delete_answer};
 ghost use Rattle.kube_watch.specs.Calls.{version_of};
 ghost use Rattle.kube_watch.specs.Objects.{IsOpened};
+ghost use Rattle.kube_watch.specs.Polls.{Lost};
 ghost use Rattle.kube_final.specs.Deletions.{IsAsked, IsAskedAtMostOnce, IsAwaited, IsDeletedBy, deletion_by, ended, known};
 ghost use Rattle.kube_final.specs.Waits.{is_item, next_probed};
 
@@ -184,6 +185,7 @@ impl<A: ApiMode> DeleteAndFinalize<A> {
         ensures rises { O.faults objects.old ≤ O.faults objects.new }
         ensures err { OnErr result (self.new.is_spent ≡ true) }
         ensures lost { OnErr result (IsAskedAtMostOnce (record { held = O.held; talk = O.talk; faults = O.faults }) self.old.name objects.old objects.new) }
+        ensures watched { OnErr result (Lost (record { moves = A.moves; talk = A.talk; faults = A.faults; version = version_of A.Value.meta_of }) now.0 fuel self.old.watch.watcher self.new.watch.watcher) }
         ensures again { OnErr result (self.new.is_over ≡ false) }
         ensures unspent { OnOk result (self.new.is_spent ≡ false) }
         ensures spent { self.old.is_spent ≡ true → IsErr result × (self.new ≡ self.old) × (objects.new ≡ objects.old) }
@@ -223,6 +225,7 @@ impl<A: ApiMode> DeleteAndFinalize<A> {
         ensures name { self.new.name ≡ self.old.name }
         ensures unspent { OnOk result (self.new.is_spent ≡ false) }
         ensures err { OnErr result (self.new ≡ record self.old { watch = self.new.watch }) }
+        ensures watched { OnErr result (Lost (record { moves = A.moves; talk = A.talk; faults = A.faults; version = version_of A.Value.meta_of }) now.0 fuel self.old.watch.watcher self.new.watch.watcher) }
     {
         let answer = poll_end(&mut self.watch, &is_deleted(uid.as_str()), alloc, now, fuel)?;
         let answer = ended(answer);

@@ -104,7 +104,7 @@ pub(crate) fn index_of(names: &[Text], name: &str) -> Option<u64>
 }
 
 /// The finalizers of an object.
-fn finalizers(meta: &ObjectMeta) -> &[Text]
+pub(crate) fn finalizers(meta: &ObjectMeta) -> &[Text]
     ensures { result.now ≡ finalizers_in meta.now }
 {
     match &meta.finalizers {

@@ -8,6 +8,7 @@ ghost use Rattle.kube_final.specs.declared.life.LifeStep.TheVariants.{Arrive};
 
 use crate::life::Past;
 pub use crate::life::{LifeState, LifeStep};
+use crate::play::played;
 use kube_meta::NoMemory;
 use std::alloc::Global;
 
@@ -38,3 +39,15 @@ pub fn guarded(life: &[LifeStep], name: &str)
     ensures others { (front back : List Step) (send : ℕ) → life.now ≡ front ++ Arrive send ∷ back
         → others_in name.now (past_of name.now (front ++ Arrive send ∷ [])).current.finalizers ≡ others_in name.now (past_of name.now front).current.finalizers }
 {}
+
+/// Plays a life on a server in memory, and gives how the object stands at its end, which is as the definitions say. Each
+/// decision is that of `Finalizer::decide`, each patch the one that `Finalizer::poll` sends for it, and the object changes by
+/// `Server::request_delete` and `Server::patch` alone; another party's change is a patch too.
+///
+/// Errors: `NoMemory`.
+pub fn play(alloc: Global, life: &[LifeStep], name: &str) -> Result<LifeState, NoMemory>
+    requires valid { is_life name.now life.now ≡ true }
+    ensures { IfOk result (λ s. s ≡ (past_of name.now life.now).current) }
+{
+    played(alloc, life, name)
+}

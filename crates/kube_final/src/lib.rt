@@ -9,6 +9,7 @@ pub mod laws;
 mod life;
 pub mod parts;
 mod patches;
+mod play;
 pub mod wait;
 
 pub use delete::{DeleteAndFinalize, DeleteFailed};

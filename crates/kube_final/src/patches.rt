@@ -1,10 +1,10 @@
 //! The patches of finalizers.
 
-ghost use Rattle.std.specs.Prelude.{◌≡◌, ◌<◌, ◌^◌, map, IfOk, vec_len, [], ◌∷◌, codes};
+ghost use Rattle.std.specs.Prelude.{◌≡◌, ◌<◌, ◌^◌, map, length, IfOk, vec_len, [], ◌∷◌, codes};
 ghost use Rattle.serde_json.specs.Data.{string};
 ghost use Rattle.serde_json.specs.View.{view};
 ghost use Rattle.kube_api.specs.Patches.{operation_of};
-ghost use Rattle.kube_final.specs.Finalizers.{addition as addition_of, first_addition as first_addition_of, names_data, patch_on, removal as removal_of};
+ghost use Rattle.kube_final.specs.Finalizers.{addition as addition_of, first_addition as first_addition_of, IsSmall, names_data, patch_on, removal as removal_of, replacement as replacement_of};
 
 use crate::finalizer::Decision;
 use kube_api::Patch;
@@ -32,7 +32,8 @@ fn names_value(alloc: Global, names: &[Text]) -> Result<Value, NoMemory>
 
 /// Tests for the finalizer at a place, and takes it out.
 fn removal(alloc: Global, name: &str, index: u64) -> Result<Vec<Patch>, NoMemory>
-    ensures { IfOk result (λ p. map operation_of p.items ≡ removal_of name.now index) }
+    ensures operations { IfOk result (λ p. map operation_of p.items ≡ removal_of name.now index) }
+    ensures small { index < 2 ^ 64 }
 {
     let value = text_value(alloc, name)?;
     let tested = Text::from(format!(in alloc; "/metadata/finalizers/{index}")?);
@@ -78,6 +79,21 @@ fn addition(alloc: Global, name: &str, names: &[Text]) -> Result<Vec<Patch>, NoM
     Ok(vec![in alloc; test, add]?)
 }
 
+/// Puts other finalizers in the place of those that are there.
+///
+/// Errors: `NoMemory`.
+pub(crate) fn replacement(alloc: Global, names: &[Text]) -> Result<Vec<Patch>, NoMemory>
+    ensures operations { IfOk result (λ p. map operation_of p.items ≡ replacement_of names.now) }
+    ensures one { IfOk result (λ p. length p.items ≡ 1) }
+{
+    let value = names_value(alloc, names)?;
+    let add = Patch::Add {
+        path: Text::new(alloc, "/metadata/finalizers")?,
+        value,
+    };
+    Ok(vec![in alloc; add]?)
+}
+
 /// The patch that a decision comes to, empty where it comes to none.
 ///
 /// Errors: `NoMemory`.
@@ -87,7 +103,8 @@ pub(crate) fn patch_for(
     name: &Text,
     names: &[Text],
 ) -> Result<Vec<Patch>, NoMemory>
-    ensures { IfOk result (λ p. map operation_of p.items ≡ patch_on name.now names.now decision) }
+    ensures operations { IfOk result (λ p. map operation_of p.items ≡ patch_on name.now names.now decision) }
+    ensures small { IfOk result (λ p. IsSmall decision) }
 {
     match decision {
         Decision::Cleanup { index } => removal(alloc, name.as_str(), index),

@@ -23,6 +23,7 @@ returns-in-NotReady g c =
       taken = taken_none _ c.args.now.0 c.args.watch.now (next_found c.in_ok-answer.field-0) c.poll_next.new.self (quiet_next c.in_ok-answer.field-0 c.in-NotReady.is) stands polled;
       live = stands_on c.args.watch.now c.poll_next.new.self _ polled.exchanged.stands stands;
       err = tt;
+      lost = tt;
       unspent = unspent;
       spent = λ s. never ((c.in_ok-answer.ensures.spent s).0);
     }

@@ -1,0 +1,7 @@
+use Rattle.std.proofs.Common.{map}
+use Rattle.kube_api.specs.Patches.{operation_of}
+use Rattle.kube_final.proofs.Sights.{arrival_came, on-ok}
+use Rattle.kube_final.proofs.play.arrive.Goals as goal
+
+pub returns : goal.returns
+returns c = on-ok c.send.result _ _ (λ a. arrival_came c.args.server.now c.send.new.server _ (map operation_of c.args.patch.now) a) c.send.ensures

@@ -1,0 +1,5 @@
+use Rattle.kube_final.proofs.Sights.{IsPlayed}
+use Rattle.kube_final.proofs.play.played.Given as goal
+
+abbrev pub invariant-loop-step : goal.invariant-loop-step
+invariant-loop-step l = IsPlayed l.name l.life l.step-index l.stage
