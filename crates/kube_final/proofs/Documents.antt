@@ -1,31 +1,24 @@
 -- The JSON document of the object of a life, and what the patches of finalizers make of it.
-use Rattle.std.proofs.Common.{◌≡◌, ℕ, suc, zero, ◌^◌, ◌<◌, ◌&&◌, ◌||◌, ◌==◌, List, [], ◌∷◌, ◌++◌, length, get_or, map, Option, Some, None, Result, Ok, Err, Bool, true, false, not, cond, option_map, unwrap_or, bytes_eq, codes, decimal, refl, sym, ap, ◌∙◌, subst, true≢false, append-nil, lt-ltb, arith}
-use Rattle.std.specs.Prelude.{slice_get, remove, if◌then◌else◌, option_and_then, nat_lt}
+use Rattle.std.proofs.Common.{◌≡◌, ℕ, suc, zero, ◌^◌, ◌<◌, ◌||◌, ◌==◌, List, [], ◌∷◌, ◌++◌, length, get_or, map, Option, Some, None, Ok, true, false, not, option_map, codes, decimal, refl, sym, ap, ◌∙◌, append-nil, arith}
+use Rattle.std.specs.Prelude.{slice_get, remove, option_and_then}
 use Rattle.std.specs.Int.{IsInRange}
 use Rattle.std.specs.Str.{all_ascii_digits}
-use Rattle.std.specs.Str.Parse.{AllDigits, digits_value}
+use Rattle.std.specs.Str.Parse.{digits_value}
 use Rattle.std.proofs.lemmas.Str.Parse.{IsNumeralModel, numerals_by_value, tells_all_ascii_digits}
 use Rattle.std.proofs.lemmas.Bool.Decides.{nat_tests}
 use Rattle.std.proofs.lemmas.Fmt.{decimal_is_IsNumeral, digits_decimal, decimal_nonempty, decimal_digit, first_decimal}
-use Rattle.fast_float.specs.Text.{Parts, text_of, digits_of, IsWellFormed, scan}
+use Rattle.fast_float.specs.Text.{Parts, digits_of, IsWellFormed, scan}
 use Rattle.fast_float.proofs.Writing.{scan-text_of}
-use Rattle.serde_json.specs.Data.{Data, null, boolean, number, string, array, object, Items, no_items, item, Members, no_members, member, put}
-use Rattle.serde_json.specs.Find.{get, get_member, get_item, index_of, unescape}
-use Rattle.serde_json.specs.Read.{is_integer}
-use Rattle.serde_json.specs.Written.{has_float, items_have_float, compact_text}
+use Rattle.serde_json.specs.Data.{Data, string, object, Members, no_members, member}
+use Rattle.serde_json.specs.Find.{get_item, index_of, unescape}
 use Rattle.serde_json.specs.Events.{items_len}
 use Rattle.std.proofs.lemmas.Slice.Eq.{bytes_eq-Decides}
 use Rattle.serde_json.specs.View.{items_of}
-use Rattle.kube_meta.specs.declared.metadata.ObjectMeta.{ObjectMeta}
-use Rattle.kube_meta.specs.declared.object_fault.ObjectFault.{ObjectFault}
-use Rattle.kube_meta.specs.Reading.{ObjectData, unless_empty, object_data_at, object_at, types_at, has_types, maybe_field, full_field, field, meta_at, list_at, text_at, items_at, texts_at, content_at, others}
-use Rattle.kube_meta.specs.Writing.{object_data, meta_data, meta_fields, with_fields, content_members}
-use Rattle.kube_api.specs.declared.patch.PatchRefusal.{PatchRefusal}
-use Rattle.kube_api.specs.declared.patch.PatchRefusal.TheVariants.{TestFailed}
-use Rattle.kube_api.specs.Patches.{Operation, Tests, Changes, Puts, Takes, found_at, cut, onto_first, parts_of, changed_at, performed_from, patched, passes, removed_item, changed_by, performed, stays, has_same, is_object, is_read, found_by, inserted_item, is_equal, is_null}
-use Rattle.kube_final.specs.Finalizers.{names_data, list_path, item_path, end_path, removal, first_addition, addition, patch_on}
+use Rattle.kube_meta.specs.Reading.{unless_empty, object_data_at, object_at, types_at, has_types, maybe_field, full_field, meta_at, list_at, text_at, items_at, texts_at, content_at, others}
+use Rattle.kube_meta.specs.Writing.{object_data, meta_data, meta_fields, content_members}
+use Rattle.kube_api.specs.Patches.{Puts, Takes, found_at, cut, onto_first, parts_of, changed_at, removed_item, changed_by, stays, has_same, is_object, is_read, found_by, inserted_item}
+use Rattle.kube_final.specs.Finalizers.{names_data, list_path, item_path, end_path}
 use Rattle.kube_final.specs.Playing.{plain_object}
-use Rattle.kube_final.proofs.EqualTexts.{text-test, list-test}
 
 abbrev pub named_members : List ℕ → List ℕ → Members
 named_members uid version = member (codes "name") (string (codes "object")) (member (codes "resourceVersion") (string version) (member (codes "uid") (string uid) no_members))
@@ -93,14 +86,6 @@ digits-plain (c ∷ []) all = refl
 digits-plain (c ∷ d ∷ ds) all =
     let parts = tells_all_ascii_digits.parts c (d ∷ ds) all in
     rw (no_tilde c parts.0) (ap (λ l. c ∷ l) (digits-plain (d ∷ ds) parts.1))
-
-pub list-parts : parts_of list_path ≡ Some (codes "metadata" ∷ codes "finalizers" ∷ [])
-unfolding unescape
-list-parts = refl
-
-pub end-parts : parts_of end_path ≡ Some (codes "metadata" ∷ codes "finalizers" ∷ codes "-" ∷ [])
-unfolding unescape
-end-parts = refl
 
 front-parts : (ds : List ℕ) → parts_of (codes "/metadata/finalizers/" ++ ds) ≡ Some (codes "metadata" ∷ codes "finalizers" ∷ map unescape (cut ds))
 unfolding unescape

@@ -1,19 +1,18 @@
 -- What the patches of finalizers make of the document of the object of a life.
-use Rattle.std.proofs.Common.{◌≡◌, ℕ, suc, zero, ◌^◌, ◌<◌, ◌&&◌, List, [], ◌∷◌, ◌++◌, map, Option, Some, None, Result, Ok, Err, Bool, true, false, cond, refl, sym, ap, ◌∙◌, subst, true≢false}
+use Rattle.std.proofs.Common.{◌≡◌, ℕ, ◌^◌, ◌<◌, List, [], ◌∷◌, ◌++◌, map, Option, Some, None, Result, Ok, Err, Bool, true, false, cond, refl, sym, ap, ◌∙◌, true≢false}
 use Rattle.std.specs.Prelude.{slice_get, remove, option_map}
-use Rattle.std.specs.Str.{bytes_eq}
-use Rattle.serde_json.specs.Data.{Data, null, string, array, object, Members, no_members}
-use Rattle.serde_json.specs.Written.{has_float, items_have_float, compact_text}
+use Rattle.serde_json.specs.Data.{Data, null, string}
+use Rattle.serde_json.specs.Written.{items_have_float}
 use Rattle.serde_json.specs.View.{items_of}
 use Rattle.kube_api.specs.declared.patch.PatchRefusal.{PatchRefusal}
 use Rattle.kube_api.specs.declared.patch.PatchRefusal.TheVariants.{TestFailed}
-use Rattle.kube_api.specs.Patches.{Operation, Change, Tests, Changes, Puts, Takes, found_at, changed_at, patched, passes, stays}
+use Rattle.kube_api.specs.Patches.{Change, Tests, Changes, Puts, Takes, found_at, changed_at, patched, passes, stays}
 use Rattle.kube_final.specs.declared.finalizer.Decision.{Decision}
 use Rattle.kube_final.specs.declared.finalizer.Decision.TheVariants.{Apply, Cleanup, AddFirst, AddMore, Nothing, Unnamed}
 use Rattle.kube_final.specs.Finalizers.{names_data, list_path, item_path, end_path, removal, first_addition, addition, patch_on}
 use Rattle.kube_final.specs.Lives.{same_names, is_at, is_empty, patched_by}
 use Rattle.kube_final.specs.Playing.{IsSendable}
-use Rattle.kube_final.proofs.EqualTexts.{text-test, list-test, same_names-same}
+use Rattle.kube_final.proofs.EqualTexts.{text-test, list-test}
 use Rattle.kube_final.proofs.Documents.{document, list_of, list-found, item-found, list-put, end-put, item-taken, list-stays}
 
 -- ---- tests
@@ -99,10 +98,6 @@ module _ (uid version : List ℕ) (deleted : Option (List ℕ)) where
     pub passes : Bool
     pub comes : patched (patch_on name seen decision) (with names) ≡ cond passes (Ok (after (patched_by name decision seen names))) (Err (TestFailed 0))
     pub refused : passes ≡ false → patched_by name decision seen names ≡ names
-
-  chosen : {A : Type 0} (b : Bool) (x y : A) → b ≡ true → cond b x y ≡ x
-  chosen true x y h = refl
-  chosen false x y h = absurd (true≢false (sym h))
 
   not-chosen : {A : Type 0} (b : Bool) (x y : A) → b ≡ false → cond b x y ≡ y
   not-chosen true x y h = absurd (true≢false h)

@@ -1,5 +1,5 @@
 -- What a stage keeps of a life, step by step.
-use Rattle.std.proofs.Common.{◌≡◌, ◌⊎◌, inl, inr, ℕ, suc, zero, ◌^◌, ◌<◌, ◌&&◌, List, [], ◌∷◌, ◌++◌, map, length, slice_get, ◌≤◌, Option, Some, None, Result, Ok, Err, Bool, true, false, cond, not, is_some, option_map, OnOk, IfOk, refl, sym, ap, ◌∙◌, subst, true≢false, append-nil, arith}
+use Rattle.std.proofs.Common.{◌≡◌, inl, inr, ℕ, suc, zero, ◌<◌, ◌&&◌, List, [], ◌∷◌, ◌++◌, map, length, slice_get, ◌≤◌, Option, Some, None, Result, Ok, Err, Bool, true, false, not, is_some, OnOk, IfOk, refl, sym, ap, ◌∙◌, subst, true≢false, append-nil, arith}
 use Rattle.std.specs.Prelude.{unwrap_or, nat_lt, drop, fold}
 use Rattle.std.proofs.lemmas.List.{drop_all}
 use Rattle.std.proofs.lemmas.Bool.Decides.{nat_tests}
@@ -24,7 +24,7 @@ use Rattle.kube_final.specs.declared.life.LifeStep.TheVariants.{Arrive}
 use Rattle.kube_final.specs.declared.play.Stage.{Stage}
 use Rattle.kube_final.specs.declared.play.Made.{Made}
 use Rattle.kube_final.specs.Finalizers.{decided, decision_on, finalizers_in, place_of, replacement}
-use Rattle.kube_final.specs.Lives.{Decided, Past, after, arrived, beginning, decided_on, decisions_after, sent_by, is_life, is_life_from, may_follow, past_of, state_after, is_empty, is_made, is_there, may_send, state_of, with_decision}
+use Rattle.kube_final.specs.Lives.{Decided, Past, after, arrived, decided_on, decisions_after, sent_by, is_life_from, may_follow, past_of, state_after, is_made, is_there, state_of, with_decision}
 use Rattle.kube_final.specs.Playing.{AreMade, AreSent, AreSights, IsAnswered, IsDue, IsHeldAs, IsKept, IsMadeAs, IsPatchOf, IsSeenAs, IsSight, IsStage, Serves, is_due, stage_reference, there}
 use Rattle.kube_final.proofs.Staging.{arrived-done, arrived-refused, change-gives, held-only, only, patch-done, patch-refused}
 
@@ -80,9 +80,6 @@ plain-finalizers (n ∷ ns) = refl
 
 pub seen-finalizers : (x : DynamicObject) (state : LifeState) → IsSeenAs (seen_object x) state → finalizers_in x.metadata ≡ state.finalizers
 seen-finalizers x state h = ap (λ d. finalizers_in d.metadata) h.is ∙ plain-finalizers state.finalizers
-
-pub seen-deleting : (x : DynamicObject) (state : LifeState) → IsSeenAs (seen_object x) state → is_some x.metadata.deletion_timestamp ≡ state.deleting
-seen-deleting x state h = ap (λ d. is_some d.metadata.deletion_timestamp) h.is ∙ h.deleting
 
 seen-decision : (name : List ℕ) (x : DynamicObject) (state : LifeState) → IsSeenAs (seen_object x) state → decision_on name x.metadata ≡ decided true state.deleting (place_of name state.finalizers) state.finalizers
 seen-decision name x state h =
@@ -175,33 +172,11 @@ none-sent name ds (w ∷ vs) [] n h e t = h
 none-sent name ds (w ∷ vs) (m ∷ ns) zero h e t = some-no w e
 none-sent name ds (w ∷ vs) (m ∷ ns) (suc n) h e t = none-sent name ds vs ns n h.1 e (omega (arith, t))
 
--- ---- how the object stands
-
-pub stands : (x : DynamicObject) (state : LifeState) → state.gone ≡ false → IsSeenAs (seen_object x) state
-    → record { finalizers = finalizers_in x.metadata; deleting = is_some x.metadata.deletion_timestamp; gone = false } ≡ state
-stands x state g h =
-    let fs = seen-finalizers x state h in
-    let d = seen-deleting x state h in
-    λ i. record { finalizers = fs i; deleting = d i; gone = sym g i }
+-- ---- one step more
 
 both : (a b : Bool) → (a && b) ≡ true → (a ≡ true) × (b ≡ true)
 both true b h = (refl, h)
 both false b h = absurd (true≢false (sym h))
-
-empty-names : (names : List (List ℕ)) → is_empty names ≡ true → names ≡ []
-empty-names [] h = refl
-empty-names (n ∷ ns) h = absurd (true≢false (sym h))
-
-gone-state : LifeState
-gone-state = record { finalizers = []; deleting = true; gone = true }
-
-pub has-gone : (state : LifeState) → state.gone ≡ (state.deleting && is_empty state.finalizers) → state.gone ≡ true → record { finalizers = []; deleting = true; gone = true } ≡ state
-has-gone state formed g =
-    let parts = both state.deleting (is_empty state.finalizers) (sym formed ∙ g) in
-    let names = empty-names state.finalizers parts.1 in
-    λ i. record { finalizers = sym names i; deleting = sym parts.0 i; gone = sym g i }
-
--- ---- one step more
 
 pub sights-more : (os : List (Option (Arc DynamicObject Global))) (states : List LifeState) (o : Option (Arc DynamicObject Global)) (w : LifeState) → AreSights os states → IsSight o w → AreSights (os ++ o ∷ []) (states ++ w ∷ [])
 sights-more [] [] o w s k = (k, tt)
@@ -224,19 +199,6 @@ sent-later name ds es (v ∷ vs) (n ∷ ns) h = (patch-later name (map operation
 pub sent-decided : (name : List ℕ) (o : Option LifeState) (ds : List Decided) (vs : List (Vec Patch Global)) (ns : List ℕ) → AreSent name ds vs ns → AreSent name (with_decision name o ds) vs (ns ++ [])
 sent-decided name None ds vs ns h = subst (λ l. AreSent name ds vs l) (sym (append-nil ns)) h
 sent-decided name (Some w) ds vs ns h = subst (λ l. AreSent name (ds ++ decided_on name w ∷ []) vs l) (sym (append-nil ns)) (sent-later name ds (decided_on name w ∷ []) vs ns h)
-
--- a patch that may be sent is owed
-may-due : (b : Bool) (d : Decision) → may_send b d ≡ true → is_due d ≡ true
-may-due b Apply h = h
-may-due b (Cleanup i) h = refl
-may-due b AddFirst h = refl
-may-due b AddMore h = refl
-may-due b Nothing h = h
-may-due b Unnamed h = h
-
-pub made-due : (b : Bool) (o : Option Decided) → is_made (may_send b) o ≡ true → is_made is_due o ≡ true
-made-due b None h = h
-made-due b (Some d) h = may-due b d.decision h
 
 -- ---- a patch arrives
 
@@ -296,9 +258,6 @@ pub record IsPlayed (name : List ℕ) (life : List LifeStep) (i : ℕ) (s : Stag
   pub stage : IsStage name s past
   pub rest : is_life_from name past (drop i life) ≡ true
   pub comes : fold (after name) past (drop i life) ≡ past_of name life
-
-pub played-first : (name : List ℕ) (life : List LifeStep) (s : Stage) → s.name ≡ name → IsStage name s beginning → is_life name life ≡ true → IsPlayed name life 0 s
-played-first name life s n h l = record { past = beginning; named = n; stage = h; rest = l; comes = refl }
 
 pub played-step : (name : List ℕ) (life : List LifeStep) (i : ℕ) (s t : Stage) (step : LifeStep) → IsPlayed name life i s → drop i life ≡ step ∷ drop (suc i) life → t.name ≡ s.name
     → ((p : Past) → IsStage s.name s p → may_follow s.name p step ≡ true → IsStage s.name t (after s.name p step)) → IsPlayed name life (suc i) t

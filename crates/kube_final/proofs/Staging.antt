@@ -1,27 +1,24 @@
 -- What the calls of a server make of the object of a life.
-use Rattle.std.proofs.Common.{◌≡◌, ℕ, suc, zero, ◌^◌, ◌<◌, ◌&&◌, List, [], ◌∷◌, ◌++◌, Option, Some, None, Result, Ok, Err, Bool, true, false, cond, not, is_some, option_map, decimal, refl, sym, ap, ◌∙◌, subst, true≢false}
+use Rattle.std.proofs.Common.{◌≡◌, ℕ, ◌&&◌, List, [], ◌∷◌, ◌++◌, Option, Some, None, Result, Ok, Err, Bool, true, false, cond, is_some, option_map, decimal, refl, sym, ap, ◌∙◌, subst, true≢false}
 use Rattle.std.specs.Prelude.{unwrap_or}
-use Rattle.std.specs.Str.{bytes_eq}
 use Rattle.std.proofs.lemmas.List.Sums.{fold-append}
 use Rattle.std.proofs.lemmas.Slice.Eq.{bytes_eq-Decides}
-use Rattle.serde_json.specs.Data.{Data, null, object, no_members}
+use Rattle.serde_json.specs.Data.{Data, object, no_members}
 use Rattle.kube_meta.specs.declared.dynamic.DynamicObject.{DynamicObject}
-use Rattle.kube_meta.specs.declared.metadata.ObjectMeta.{ObjectMeta}
-use Rattle.kube_meta.specs.Reading.{ObjectData, seen_object, unless_empty, object_data_at}
+use Rattle.kube_meta.specs.Reading.{ObjectData, seen_object}
 use Rattle.kube_meta.specs.Reference.{Reference, ObjectType, same_type}
-use Rattle.kube_meta.specs.Writing.{object_data, content_members}
+use Rattle.kube_meta.specs.Writing.{content_members}
 use Rattle.kube_api.specs.declared.patch.PatchRefusal.{PatchRefusal}
 use Rattle.kube_api.specs.declared.patch.PatchRefusal.TheVariants.{TestFailed, NoMemory}
 use Rattle.kube_api.specs.Patches.{Operation, Changes, Puts, patched}
-use Rattle.kube_server.specs.History.{Key, Change, Adds, Modifies, Removes, State, key_of, same_key, object_at, object_of, with_object, without_object, changed, change_seen, state_of as objects_after}
-use Rattle.kube_server.specs.Servers.{ServerState, meta_of, data_meta, newest, next_revision, reference_key, held_under, held, IsStep, IsAtMostStep, IsHeldAnd, IsPatched, with_version, removal, deletion, deleting, has_finalizers, is_deleting, is_gone, patch_result, read_patched, patch_document, patch_change, IsPatchRefusal, IsOfHeld, RefusesAs}
-use Rattle.kube_final.specs.declared.finalizer.Decision.{Decision}
+use Rattle.kube_server.specs.History.{Change, Adds, Modifies, Removes, State, key_of, object_at, object_of, with_object, without_object, changed, change_seen, state_of as objects_after}
+use Rattle.kube_server.specs.Servers.{ServerState, meta_of, next_revision, reference_key, held_under, held, IsStep, IsAtMostStep, IsHeldAnd, IsPatched, with_version, removal, deletion, deleting, is_gone, patch_result, read_patched, patch_document, patch_change, IsPatchRefusal, IsOfHeld, RefusesAs}
 use Rattle.kube_final.specs.declared.life.LifeState.{LifeState}
-use Rattle.kube_final.specs.Finalizers.{names_data, list_path, patch_on}
+use Rattle.kube_final.specs.Finalizers.{names_data, list_path}
 use Rattle.kube_final.specs.Lives.{Decided, arrived, is_empty, patched_by, state_of}
-use Rattle.kube_final.specs.Playing.{object_key, plain_object, IsSeenAs, IsHeldAs, Serves, IsSendable, IsPatchOf}
-use Rattle.kube_final.proofs.Documents.{document, list_of, written, read-list}
-use Rattle.kube_final.proofs.Patching.{with, after, IsArrival, arrives, put-by}
+use Rattle.kube_final.specs.Playing.{object_key, plain_object, IsSeenAs, IsHeldAs, Serves, IsPatchOf}
+use Rattle.kube_final.proofs.Documents.{written, read-list}
+use Rattle.kube_final.proofs.Patching.{with, after, arrives, put-by}
 
 -- ---- what is held
 
@@ -94,11 +91,6 @@ removed-of : (made : Change DynamicObject) (o : ObjectData) → change_seen seen
 removed-of (Adds x) o e = absurd cc
 removed-of (Modifies x) o e = absurd cc
 removed-of (Removes x) o e = (x, refl, ap object_of e)
-
-added-of : (made : Change DynamicObject) (o : ObjectData) → change_seen seen_object made ≡ Adds o → (x : DynamicObject) × (made ≡ Adds x) × (seen_object x ≡ o)
-added-of (Adds x) o e = (x, refl, ap object_of e)
-added-of (Modifies x) o e = absurd cc
-added-of (Removes x) o e = absurd cc
 
 -- the server of a state, after the object was changed
 serves-modified : (old new : ServerState) (r : Reference) (state then : LifeState) (o : ObjectData) → Serves old r state → state.gone ≡ false → IsOfKey o → IsStep old new (Modifies o)

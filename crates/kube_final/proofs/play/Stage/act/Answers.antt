@@ -1,4 +1,4 @@
-use Rattle.std.proofs.Common.{◌≡◌, Some, None, slice_get, length, map, true, ap, sym, subst, ◌∙◌}
+use Rattle.std.proofs.Common.{◌≡◌, Some, None, slice_get, map, true, ap, sym, subst, ◌∙◌}
 use Rattle.kube_api.specs.Patches.{operation_of}
 use Rattle.kube_final.specs.Lives.{may_follow, state_after}
 use Rattle.kube_final.specs.Playing.{IsPatchOf, Serves, stage_reference}

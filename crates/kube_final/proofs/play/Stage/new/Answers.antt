@@ -1,4 +1,4 @@
-use Rattle.std.proofs.Common.{◌≡◌, ◌∷◌, [], ap, sym, subst, ◌∙◌}
+use Rattle.std.proofs.Common.{◌∷◌, [], ap, sym, subst, ◌∙◌}
 use Rattle.kube_meta.specs.Resources.{resource_type}
 use Rattle.kube_final.specs.Lives.{first_state}
 use Rattle.kube_final.specs.Playing.{AreMade, AreSent, AreSights}

@@ -1,4 +1,4 @@
-use Rattle.std.proofs.Common.{◌≡◌, ◌++◌, [], ap, sym, subst}
+use Rattle.std.proofs.Common.{◌++◌, [], ap, sym, subst}
 use Rattle.kube_final.specs.Lives.{decisions_after, sent_by, state_at, with_decision}
 use Rattle.kube_final.specs.Playing.{AreSent}
 use Rattle.kube_final.proofs.Sights.{on-ok, sent-decided}
