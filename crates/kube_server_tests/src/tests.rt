@@ -66,8 +66,8 @@ fn held(alloc: Global, name: &str) -> Result<ObjectMeta, NoMemory> {
     })
 }
 
-fn key(alloc: Global, server: &Server, name: &str) -> Result<ObjectRef<DynamicObject>, NoMemory> {
-    ObjectRef::new_with(alloc, name, server.resource().clone()?)
+fn key(alloc: Global, name: &str) -> Result<ObjectRef<DynamicObject>, NoMemory> {
+    ObjectRef::new_with(alloc, name, resource(alloc)?)
 }
 
 fn text(alloc: Global, text: &str) -> Result<Option<Text>, NoMemory> {
@@ -269,21 +269,21 @@ fn put(alloc: Global, server: &mut Server, metadata: ObjectMeta) -> Result<Strin
 fn remove(alloc: Global, server: &mut Server, name: &str) -> Result<String, NoMemory>
     ensures { IsLater server.old.changes server.new.changes server.old.compacted server.new.compacted }
 {
-    let key = key(alloc, server, name)?;
+    let key = key(alloc, name)?;
     answered(alloc, server.remove(alloc, &key))
 }
 
 fn delete(alloc: Global, server: &mut Server, name: &str, now: u64) -> Result<String, NoMemory>
     ensures { IsLater server.old.changes server.new.changes server.old.compacted server.new.compacted }
 {
-    let key = key(alloc, server, name)?;
+    let key = key(alloc, name)?;
     answered(alloc, server.request_delete(alloc, &key, Moment(now)))
 }
 
 fn patch(alloc: Global, server: &mut Server, name: &str, text: &str) -> Result<String, Fail>
     ensures { IsLater server.old.changes server.new.changes server.old.compacted server.new.compacted }
 {
-    let key = key(alloc, server, name)?;
+    let key = key(alloc, name)?;
     let patch = operations(alloc, text)?;
     if patch.len() > 9 {
         return Ok(String::new(alloc));

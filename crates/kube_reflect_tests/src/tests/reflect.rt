@@ -276,18 +276,25 @@ fn any_event(alloc: Global, state: u64) -> Result<Event<Object>, Fail> {
     Ok(event_of(alloc, &Apply(Named(name.as_str())))?)
 }
 
-/// A reflector is given so many events, each of which it gives.
+/// A script of so many events.
+fn events(alloc: Global, count: u32) -> Result<Script, Fail> {
+    let mut answers = VecDeque::new(alloc);
+    let mut state = 1;
+    for _event in 0..count {
+        state = next_number(state);
+        answers.push_back(Next::Item(Ok(any_event(alloc, state)?)))?;
+    }
+    Ok(Script { answers })
+}
+
+/// A reflector gives so many events.
 fn reflect_many(
     rt: &impl Abort,
     alloc: Global,
     reflected: &mut Reflected,
     count: u32,
 ) -> Result<(), Fail> {
-    let mut state = 1;
     for _event in 0..count {
-        state = next_number(state);
-        let event = any_event(alloc, state)?;
-        reflected.stream.answers.push_back(Next::Item(Ok(event)))?;
         let answer = reflected.poll_next(alloc, Moment(0), 1);
         assert!(rt; matches!(answer, Ok(Next::Item(Ok(_)))));
     }
@@ -315,7 +322,7 @@ fn are_different(objects: &[Object]) -> bool {
 #[test]
 fn no_name_is_stored_twice(rt: HostRuntime) -> Result<(), Fail> {
     let alloc = rt.alloc();
-    let mut reflected = reflector_of(alloc, 0, &[])?;
+    let mut reflected = reflector(writer_of(alloc, 0)?, events(alloc, 100_000)?);
     reflect_many(&rt, alloc, &mut reflected, 100_000)?;
     let objects = reflected.writer().cache().state(alloc)?;
     assert!(rt; are_different(objects.as_slice()));
