@@ -7,13 +7,14 @@ use Rattle.kube_meta.specs.Reference.{Reference, ObjectType}
 use Rattle.kube_meta.specs.declared.action.Action.{Action}
 use Rattle.kube_meta.specs.declared.resource.Resource as resource
 use Rattle.kube_model.specs.World.{World}
-use Rattle.kube_model.specs.History.{Taken, Turn, TurnRecord, Step, dated, exchanges}
+use Rattle.kube_model.specs.History.{Taken, Turn, TurnRecord, Step, dated, exchanges, exchanges_of}
 use Rattle.kube_model.specs.Named.{AreNamedTurns, RootIsNamed}
 use Rattle.kube_model.specs.Raw.{grown_by}
 use Rattle.kube_model.specs.Takes.{running}
 use Rattle.kube_model.specs.Traces.{IsRefusedAfter, IsTrace, IsValid, Refusal, has_ended, refusal, step, steps, unread}
 use Rattle.kube_streams.specs.declared.backoff.Backoff as backoff
 use Rattle.kube_reflect.specs.Cached.{Kept}
+use Rattle.kube_reflect.specs.Exchanged.{IsLeftBy}
 use Rattle.kube_core.specs.Cores.{Parts}
 use Rattle.kube_asks.specs.Asking.{Asking}
 use Rattle.kube_asks.specs.declared.asks.AskFault.{AskFault}
@@ -23,7 +24,7 @@ use Rattle.kube_asks.specs.declared.set.RelatedSet as related_set
 use Rattle.kube_turn.specs.declared.turn.Turn.{Turn as HeldTurn}
 use Rattle.kube_turn.specs.declared.record.TurnRecord.{TurnRecord as HeldRecord}
 use Rattle.kube_turn.specs.Records.{record_of, turn_of}
-use Rattle.kube_step.specs.Asked.{AllStand, AreEndedBy, NotAsked}
+use Rattle.kube_step.specs.Asked.{AllStand, AllStored, AreEndedBy, NotAsked}
 use Rattle.kube_step.specs.Calls.{ArePolled, dated_in}
 use Rattle.kube_step.specs.Finishes.{AreFinished}
 use Rattle.kube_step.specs.HandOvers.{handed, handed_by, taken_by}
@@ -102,20 +103,23 @@ module _ {R S B O D : Type 0} (root : root_source.Ghosts R O D) (related : relat
   }
 
   -- nothing was asked, and nothing handed over
-  pub nothing-lost : (h : List (Step O)) (t : Turn) (c : Con) (kept : Kept O) (had : Option (List (Reference × O))) → IsWatching root related delays object w h c
-      → IsBrokenOff root related delays object w faults.NoMemory h t c.asks.root c.asks.related kept c.asks.root c.asks.related had had
-  nothing-lost h t c kept had k = record {
+  pub nothing-lost : (h : List (Step O)) (t : Turn) (c : Con) (had : Option (List (Reference × O))) → IsWatching root related delays object w h c
+      → IsBrokenOff root related delays object w faults.NoMemory h t c.asks.root c.asks.related c.core.writer.kept c.asks.root c.asks.related had had
+  nothing-lost h t c had k = record {
     valid = tt;
-    ended = record {
-      made = [];
-      asked = tt;
-      each_named = tt;
-      reached_root = c.asks.root;
-      reached_related = c.asks.related;
-      polled = (refl, refl);
-      stand = subst (AllStand root related c.asks.root c.asks.related) (k.may.parts.joined ∙ sym (append-nil (exchanges h))) k.may.parts.asks_stand.sources;
-      rest = NotAsked refl refl;
-    };
+    ended = (
+      record {
+        made = [];
+        asked = tt;
+        each_named = tt;
+        reached_root = c.asks.root;
+        reached_related = c.asks.related;
+        polled = (refl, refl);
+        stand = subst (AllStand root related c.asks.root c.asks.related) (k.may.parts.joined ∙ sym (append-nil (exchanges h))) k.may.parts.asks_stand.sources;
+        rest = NotAsked refl refl;
+      },
+      AllStored (subst (λ ds. IsLeftBy w.key (exchanges_of 0 ds) c.core.writer.kept) (k.may.parts.agrees.answers ∙ sym (append-nil (exchanges h))) k.may.parts.core_stands.stored),
+    );
     taken = [];
     first = NoneTaken refl;
     handed = sym (grown-nil had);
