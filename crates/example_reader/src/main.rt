@@ -1,5 +1,5 @@
-//! One thread stores config maps, a batch at a time, and two threads read the store beside it, each by a handle of its own. A reader
-//! waits for no writer, and each read is of one published list.
+//! One thread stores config maps, a batch at a time, and two threads read the store beside it, each by a handle of
+//! its own. A reader waits for no writer, and each read is of one published list.
 #![tactic(auto)]
 
 use anyhow::{Result, bail};
