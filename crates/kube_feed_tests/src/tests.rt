@@ -1,0 +1,1 @@
+//! Controllers that are fed by streams, and appliers.
