@@ -66,21 +66,14 @@ impl<R: RootSource, S: RelatedSet<R::Object>, B: Backoff> FedController<R, S, B>
         // The answer is the trace of the turns, with what the error policy and the reader answered, and the controller stands for
         // the history with it: each turn is valid and was taken by the definitions, each exchange came with its names and is all
         // that was asked, and each look-up, reload and shown store, and each poll of whether the store is ready, is one read, in
-        // order, by a list that begins with that of the read before.
+        // order, by a list that begins with that of the read before. For each failed reconcile the action is what the error policy
+        // answered of the object that was handed over. After each turn no two equal references run, and at most as many as the
+        // limit allows. After shutdown nothing is taken, and no record follows one that has ended.
         ensures trace { (w : World R.Object B) (h : List (Step R.Object)) → StandsFor R.RootSource S.RelatedSet B.Backoff R.Object.Resource w h self.old
             → IfOk result (λ r. (ms : List (Made R.Object)) × (records_in ms ≡ records_of R.Object.type_of r.records) × AreReadIn R.Object.meta_of ms self.old.reader self.new.reader
             × HaveRun R.RootSource S.RelatedSet B.Backoff R.Object.Resource w h (turns_of R.Object.type_of turns.items) self.old ms self.new
-
-            // For each failed reconcile the action is what the error policy answered of the object that was handed over.
             × AreFinishedIn R.Object.type_of (Answers P.Fn error_policy.now (arc_value context)) h turns.items r.records ms
-
-            // After each turn no two equal references run, and at most as many as the limit allows. After shutdown nothing is
-            // taken, and no record follows one that has ended.
             × EachMayRun w (h ++ steps (turns_of R.Object.type_of turns.items) ms) × EachShutsDown w h (steps (turns_of R.Object.type_of turns.items) ms)) }
-
-        // Turns that are valid are never refused.
-        ensures complete { (w : World R.Object B) (h : List (Step R.Object)) → StandsFor R.RootSource S.RelatedSet B.Backoff R.Object.Resource w h self.old
-            → IfErr result (λ e. IfRefused e (λ turn why. (ms : List (Made R.Object)) × (AreValid h (turns_of R.Object.type_of turns.items) ms → ⊥))) }
 
         // Where the reconciler tells its list, it grew by what the trace started, in order.
         ensures handed { IfOk result (λ r. Rc.handed reconciler.new ≡ grown_by (Rc.handed reconciler.old) (handed_by (taken_by (records_of R.Object.type_of r.records)))) }
@@ -92,12 +85,13 @@ impl<R: RootSource, S: RelatedSet<R::Object>, B: Backoff> FedController<R, S, B>
         // The reader stays a handle of its writer, and reads no less.
         ensures reader { IsLater self.old.reader self.new.reader }
 
-        // A turn is refused exactly for its cause. It changed nothing and asked nothing: the turns before it were taken, and the
-        // controller goes on after them.
+        // A turn is refused exactly for its cause, and so where the turns are not valid. It changed nothing and asked nothing: the
+        // turns before it were taken, and the controller goes on after them.
         ensures refused { IfErr result (λ e. IfRefused e (λ turn why. (turn ≡ length (records_before e))
             × ((w : World R.Object B) (h : List (Step R.Object)) → StandsFor R.RootSource S.RelatedSet B.Backoff R.Object.Resource w h self.old
             → (ms : List (Made R.Object)) × (records_in ms ≡ records_of R.Object.type_of (records_before e)) × AreReadIn R.Object.meta_of ms self.old.reader self.new.reader
-            × WereRefused R.RootSource S.RelatedSet B.Backoff R.Object.Resource w h (turns_of R.Object.type_of turns.items) self.old ms why self.new))) }
+            × WereRefused R.RootSource S.RelatedSet B.Backoff R.Object.Resource w h (turns_of R.Object.type_of turns.items) self.old ms why self.new
+            × (AreValid h (turns_of R.Object.type_of turns.items) ms → ⊥)))) }
 
         // An object without a name came from its source, or its stream told of one, asked by the next call of the turn after
         // those that were taken.
