@@ -2,5 +2,7 @@
 pub mod Asking
 pub mod Finishing
 pub mod Keyed
+pub mod Queued
 pub mod Reading
 pub mod Taking
+pub mod Turned

@@ -1,19 +1,18 @@
 //! One turn.
 
-ghost use Rattle.std.specs.Prelude.{◌≡◌, ◌<◌, ◌+◌, ◌^◌, ◌++◌, ◌||◌, ◌==◌, ◌&&◌, not, [], List, length, map, IfOk, IfErr, OnOk, OnErr, None, true, false, is_some};
+ghost use Rattle.std.specs.Prelude.{◌≡◌, ◌<◌, ◌+◌, ◌^◌, ◌++◌, ◌∷◌, ◌||◌, ◌==◌, ◌&&◌, [], List, Option, length, map, IfOk, IfErr, OnOk, OnErr, None, true, false, is_some};
 ghost use Rattle.std.specs.Arc.{arc_value};
 ghost use Rattle.std.specs.List.{AllByRecursion, filter_map};
 ghost use Rattle.kube_meta.specs.Keys.{reference_of};
 ghost use Rattle.kube_model.specs.World.{World};
-ghost use Rattle.kube_model.specs.Reads.{Reads, failure_in};
-ghost use Rattle.kube_model.specs.History.{Message, Step, Taken as PlainTaken, Turn as PlainTurn, same_message};
-ghost use Rattle.kube_model.specs.Queue.{QueueEvent};
+ghost use Rattle.kube_model.specs.Reads.{Readiness, Reads, failure_in};
+ghost use Rattle.kube_model.specs.History.{Message, Step, Taken as PlainTaken, Turn as PlainTurn};
+ghost use Rattle.kube_model.specs.Queue.{QueueEvent, Settled};
 ghost use Rattle.kube_model.specs.Raw.{grown_by};
 ghost use Rattle.kube_model.specs.Shutdowns.{asks_shutdown, is_forced};
-ghost use Rattle.kube_model.specs.Stored.{was_ready};
 ghost use Rattle.kube_model.specs.Takes.{Running, running};
 ghost use Rattle.kube_model.specs.Traces.{IsValid};
-ghost use Rattle.kube_history.specs.CoreWorld.{CoreWorld, core_world};
+ghost use Rattle.kube_history.specs.CoreWorld.{CoreWorld};
 ghost use Rattle.kube_history.specs.TurnCalls.{with_requests};
 ghost use Rattle.kube_core.specs.Cores.{IsOfType};
 ghost use Rattle.kube_core.specs.Pendings.{Stands};
@@ -24,11 +23,11 @@ ghost use Rattle.kube_step.specs.Finishes.{AreFinished};
 ghost use Rattle.kube_step.specs.HandOvers.{handed_by};
 ghost use Rattle.kube_step.specs.Policies.{Answers};
 ghost use Rattle.kube_step.specs.Takes.{IsSomething};
-ghost use Rattle.kube_feed.specs.Asked.{AreEndedBy, MayAsk};
+ghost use Rattle.kube_feed.specs.Asked.{AreEndedBy};
 ghost use Rattle.kube_feed.specs.Fed.{PartsStand};
 ghost use Rattle.kube_feed.specs.Reads.{AreFound, AreListed, IsLater, IsReadIn};
 ghost use Rattle.kube_feed.specs.Requests.{bulk_requests, name_requests};
-ghost use Rattle.kube_feed.specs.Turns.{HasGoneOn, HaveTaken, IsTaken};
+ghost use Rattle.kube_feed.specs.Turns.{HasGoneOn, HaveReadAndTaken, HaveTaken, IsTaken, MayGoOn};
 
 use crate::finishes::finish_all;
 use crate::parts::Parts;
@@ -164,6 +163,12 @@ where
     W: Wait,
     Ctx: Drop,
     Rc: Reconciler<K, Ctx>,
+    ensures same { IsLater parts.old.reader parts.new.reader }
+    ensures shut { parts.new.shut ≡ parts.old.shut }
+    ensures taken { IfOk result (λ q. (core : CoreWorld K) (qs : List (QueueEvent Message)) (rs : List (Running K)) → Stands K.type_of core parts.old.pending qs rs
+        → (told : Option Readiness) × (q.1 ≡ failure_in told) × HaveReadAndTaken K.Resource core gave_up qs rs parts.old told (filter_map (taken_of K.type_of) q.0) parts.new) }
+    ensures handed { IfOk result (λ q. Rc.handed reconciler.new ≡ grown_by (Rc.handed reconciler.old) (handed_by (filter_map (taken_of K.type_of) q.0))) }
+    ensures something { IfOk result (λ q. AllByRecursion (IsSomething K.type_of) q.0) }
 {
     if gave_up {
         return Ok((List::new(alloc), None));
@@ -200,6 +205,16 @@ where
     ensures related { S.can_poll asks.new.related }
     ensures feeds { S.feeds asks.new.related ≡ S.feeds asks.old.related }
     ensures same { IsLater parts.old.reader parts.new.reader }
+    ensures gone_on { IfOk result (λ m. (w : World R.Object B) (h : List (Step R.Object)) (t : PlainTurn) (qs : List (QueueEvent Message)) → t.at ≡ at.0 → t.reload ≡ reload → t.on ≡ map (reference_of R.Object.type_of) on
+        → MayGoOn R.RootSource S.RelatedSet B.Backoff R.Object.Resource w h t qs asks.old parts.old
+        → (r : Reads R.Object) × IsReadIn R.Object.meta_of (filter_map (taken_of R.Object.type_of) m.taken) r parts.old.reader parts.new.reader × (r.shown ≡ None) × (m.runner ≡ failure_in r.readiness)
+        × HasGoneOn R.RootSource S.RelatedSet B.Backoff R.Object.Resource w h t qs asks.old r (map (exchange_of R.Object.type_of) m.exchanges) (filter_map (taken_of R.Object.type_of) m.taken) asks.new parts.new) }
+    ensures handed { IfOk result (λ m. Rc.handed reconciler.new ≡ grown_by (Rc.handed reconciler.old) (handed_by (filter_map (taken_of R.Object.type_of) m.taken))) }
+    ensures something { IfOk result (λ m. AllByRecursion (IsSomething R.Object.type_of) m.taken) }
+    ensures ended { IfErr result (λ f. (w : World R.Object B) (h : List (Step R.Object)) (t : PlainTurn) (qs : List (QueueEvent Message)) → t.at ≡ at.0 → t.reload ≡ reload → t.on ≡ map (reference_of R.Object.type_of) on
+        → MayGoOn R.RootSource S.RelatedSet B.Backoff R.Object.Resource w h t qs asks.old parts.old
+        → AreEndedBy R.RootSource S.RelatedSet w h t f [] asks.old.root asks.old.related asks.new.root asks.new.related) }
+    ensures starts_nothing { IfErr result (λ f. IfUnnamedAsk f (λ source. Rc.handed reconciler.new ≡ Rc.handed reconciler.old)) }
 {
     request_first(
         rt,
@@ -247,6 +262,17 @@ where
     ensures related { S.can_poll asks.new.related }
     ensures feeds { S.feeds asks.new.related ≡ S.feeds asks.old.related }
     ensures same { IsLater parts.old.reader parts.new.reader }
+    ensures closed { IfOk result (λ m. goes_on ≡ false → (m.exchanges ≡ []) × (m.taken ≡ []) × (m.runner ≡ None) × (asks.new ≡ asks.old) × (parts.new ≡ parts.old)) }
+    ensures gone_on { IfOk result (λ m. goes_on ≡ true → (w : World R.Object B) (h : List (Step R.Object)) (t : PlainTurn) (qs : List (QueueEvent Message)) → t.at ≡ at.0 → t.reload ≡ reload → t.on ≡ map (reference_of R.Object.type_of) on
+        → MayGoOn R.RootSource S.RelatedSet B.Backoff R.Object.Resource w h t qs asks.old parts.old
+        → (r : Reads R.Object) × IsReadIn R.Object.meta_of (filter_map (taken_of R.Object.type_of) m.taken) r parts.old.reader parts.new.reader × (r.shown ≡ None) × (m.runner ≡ failure_in r.readiness)
+        × HasGoneOn R.RootSource S.RelatedSet B.Backoff R.Object.Resource w h t qs asks.old r (map (exchange_of R.Object.type_of) m.exchanges) (filter_map (taken_of R.Object.type_of) m.taken) asks.new parts.new) }
+    ensures handed { IfOk result (λ m. Rc.handed reconciler.new ≡ grown_by (Rc.handed reconciler.old) (handed_by (filter_map (taken_of R.Object.type_of) m.taken))) }
+    ensures something { IfOk result (λ m. AllByRecursion (IsSomething R.Object.type_of) m.taken) }
+    ensures ended { IfErr result (λ f. (goes_on ≡ true) × ((w : World R.Object B) (h : List (Step R.Object)) (t : PlainTurn) (qs : List (QueueEvent Message)) → t.at ≡ at.0 → t.reload ≡ reload → t.on ≡ map (reference_of R.Object.type_of) on
+        → MayGoOn R.RootSource S.RelatedSet B.Backoff R.Object.Resource w h t qs asks.old parts.old
+        → AreEndedBy R.RootSource S.RelatedSet w h t f [] asks.old.root asks.old.related asks.new.root asks.new.related)) }
+    ensures starts_nothing { IfErr result (λ f. IfUnnamedAsk f (λ source. Rc.handed reconciler.new ≡ Rc.handed reconciler.old)) }
 {
     if !goes_on {
         return Ok(Made {
