@@ -1,6 +1,7 @@
 -- lemmas
 pub mod Asking
 pub mod Finishing
+pub mod Firsts
 pub mod Keyed
 pub mod Queued
 pub mod Reading

@@ -1,12 +1,13 @@
 //! One turn.
 
-ghost use Rattle.std.specs.Prelude.{◌≡◌, ◌<◌, ◌+◌, ◌^◌, ◌++◌, ◌∷◌, ◌||◌, ◌==◌, ◌&&◌, [], List, Option, length, map, IfOk, IfErr, OnOk, OnErr, None, true, false, is_some};
+ghost use Rattle.std.specs.Prelude.{◌≡◌, ◌<◌, ◌+◌, ◌^◌, ◌++◌, ◌∷◌, ◌||◌, ◌==◌, ◌&&◌, [], ℕ, List, Option, length, map, IfOk, IfErr, OnOk, OnErr, None, true, false, is_some};
 ghost use Rattle.std.specs.Arc.{arc_value};
 ghost use Rattle.std.specs.List.{AllByRecursion, filter_map};
 ghost use Rattle.kube_meta.specs.Keys.{reference_of};
 ghost use Rattle.kube_model.specs.World.{World};
 ghost use Rattle.kube_model.specs.Reads.{Readiness, Reads, failure_in};
-ghost use Rattle.kube_model.specs.History.{Message, Step, Taken as PlainTaken, Turn as PlainTurn};
+ghost use Rattle.kube_model.specs.History.{Dated, Message, Step, Taken as PlainTaken, Turn as PlainTurn};
+ghost use Rattle.kube_model.specs.Pause.{gave_up};
 ghost use Rattle.kube_model.specs.Queue.{QueueEvent, Settled};
 ghost use Rattle.kube_model.specs.Raw.{grown_by};
 ghost use Rattle.kube_model.specs.Shutdowns.{asks_shutdown, is_forced};
@@ -18,6 +19,7 @@ ghost use Rattle.kube_core.specs.Cores.{IsOfType};
 ghost use Rattle.kube_core.specs.Pendings.{Stands};
 ghost use Rattle.kube_turn.specs.Records.{record_of, turn_of};
 ghost use Rattle.kube_turn.specs.Views.{exchange_of, taken_of};
+ghost use Rattle.kube_step.specs.Controllers.{AsksStand};
 ghost use Rattle.kube_step.specs.Errors.{IfUnnamedAsk};
 ghost use Rattle.kube_step.specs.Finishes.{AreFinished};
 ghost use Rattle.kube_step.specs.HandOvers.{handed_by};
@@ -98,7 +100,7 @@ fn settle<R: RootSource, S: RelatedSet<R::Object>, B: Backoff>(
     parts: &mut Parts<R::Object>,
     at: Moment,
 ) -> bool
-    ensures gave_up { result ≡ asks.now.kept.pause.given_up }
+    ensures gave_up { (w : World R.Object B) (budget : List ℕ) (before mine : List (Dated R.Object)) → AsksStand R.RootSource S.RelatedSet B.Backoff R.Object.Resource w budget before mine asks.now → result ≡ gave_up w (before ++ mine) }
     ensures shut { parts.new.shut ≡ parts.old.shut || result }
     ensures reader { parts.new.reader ≡ parts.old.reader }
     ensures ready { parts.new.ready ≡ parts.old.ready }

@@ -1,9 +1,10 @@
 //! Controllers that are fed and have not run yet.
 
-ghost use Rattle.std.specs.Prelude.{◌≡◌, []};
-ghost use Rattle.kube_model.specs.World.{World};
+ghost use Rattle.std.specs.Prelude.{◌≡◌, [], false};
+ghost use Rattle.kube_model.specs.World.{World, is_watched};
 ghost use Rattle.kube_streams.specs.Backoffs.{ResetTimer, Exponential, default_backoff};
 ghost use Rattle.kube_fed.specs.declared.feeding.Standing.TheVariants.{Open};
+ghost use Rattle.kube_step.specs.Asked.{NamesObjects};
 ghost use Rattle.kube_step.specs.Controllers.{IsWorldOfAsks};
 ghost use Rattle.kube_feed.specs.Fed.{StandsFor};
 
@@ -27,7 +28,14 @@ pub(crate) fn fed<R: RootSource, B: Backoff>(
     reader: Store<R::Object>,
     backoff: B,
     config: Config,
-) -> FedController<R, NoRelated, B> {
+) -> FedController<R, NoRelated, B>
+    requires kind { reader.kind ≡ R.kind root }
+    ensures stands { (w : World R.Object B) → R.stands root [] → is_watched (R.feed root) ≡ false → NamesObjects R.RootSource ⟦<NoRelated as RelatedSet<R::Object>>⟧ w
+        → IsWorldOfAsks R.RootSource ⟦<NoRelated as RelatedSet<R::Object>>⟧ B.Backoff R.Object.Resource w result.asks → w.backoff ≡ backoff → w.limit ≡ config.concurrency → w.debounce ≡ config.debounce
+        → StandsFor R.RootSource ⟦<NoRelated as RelatedSet<R::Object>>⟧ B.Backoff R.Object.Resource w [] result }
+    ensures root { result.asks.root ≡ root }
+    ensures reader { result.reader ≡ reader }
+{
     FedController {
         asks: Asks::new(alloc, root, NoRelated, backoff),
         parts: Parts {
@@ -151,20 +159,12 @@ impl<R: RootSource, S: RelatedSet<R::Object>, B: Backoff> FedController<R, S, B>
     }
 }
 
-impl<K: Resource, St: EventStream<Item = Arc<K>>, S: RelatedSet<K>, B: Backoff> FedController<
-    StreamRoot<K, St>,
-    S,
-    B,
-> {
+impl<R: RootSource, S: RelatedSet<R::Object>, B: Backoff> FedController<R, S, B> {
     /// The same with another backoff (kube-runtime's `Controller::trigger_backoff`). It must not have run yet.
-    pub fn trigger_backoff<B2: Backoff>(
-        self,
-        alloc: Global,
-        b: B2,
-    ) -> FedController<StreamRoot<K, St>, S, B2>
-        ensures stands { (first : World K B) (w : World K B2) → StandsFor ⟦<StreamRoot<K, St> as RootSource>⟧ S.RelatedSet B.Backoff K.Resource first [] self
-            → IsWorldOfAsks ⟦<StreamRoot<K, St> as RootSource>⟧ S.RelatedSet B2.Backoff K.Resource w result.asks → w.backoff ≡ b → w.limit ≡ first.limit → w.debounce ≡ first.debounce
-            → StandsFor ⟦<StreamRoot<K, St> as RootSource>⟧ S.RelatedSet B2.Backoff K.Resource w [] result }
+    pub fn trigger_backoff<B2: Backoff>(self, alloc: Global, b: B2) -> FedController<R, S, B2>
+        ensures stands { (first : World R.Object B) (w : World R.Object B2) → StandsFor R.RootSource S.RelatedSet B.Backoff R.Object.Resource first [] self
+            → IsWorldOfAsks R.RootSource S.RelatedSet B2.Backoff R.Object.Resource w result.asks → w.backoff ≡ b → w.limit ≡ first.limit → w.debounce ≡ first.debounce
+            → StandsFor R.RootSource S.RelatedSet B2.Backoff R.Object.Resource w [] result }
         ensures root { result.asks.root ≡ self.asks.root }
         ensures related { result.asks.related ≡ self.asks.related }
         ensures reader { result.reader ≡ self.reader }
