@@ -5,5 +5,6 @@ pub mod Firsts
 pub mod Keyed
 pub mod Queued
 pub mod Reading
+pub mod Runs
 pub mod Taking
 pub mod Turned
