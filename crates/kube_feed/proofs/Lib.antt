@@ -6,5 +6,6 @@ pub mod Keyed
 pub mod Queued
 pub mod Reading
 pub mod Runs
+pub mod Stops
 pub mod Taking
 pub mod Turned
