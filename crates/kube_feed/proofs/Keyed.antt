@@ -1,13 +1,20 @@
 -- What is stored in what a handle reads is stored under its own references.
-use Rattle.std.proofs.Common.{◌≡◌, Bool, true, false, not, cond, List, [], ◌∷◌, map, if◌then◌else◌, refl, ap₂}
+use Rattle.std.proofs.Common.{◌≡◌, Bool, true, false, not, cond, List, [], ◌∷◌, map, if◌then◌else◌, refl, sym, ap, ap₂, ◌∙◌}
 use Rattle.std.specs.List.{fold}
+use Rattle.kube_meta.specs.declared.metadata.ObjectMeta.{ObjectMeta}
+use Rattle.kube_meta.specs.Keys.{key_of}
 use Rattle.kube_meta.specs.Reference.{Reference, same_reference}
+use Rattle.kube_history.specs.CoreWorld.{CoreWorld}
 use Rattle.kube_watch.specs.declared.event.Event.{Event}
 use Rattle.kube_watch.specs.declared.event.Event.TheVariants.{Apply, Delete, Init, InitApply, InitDone}
 use Rattle.kube_reflect.specs.Cached.{Kept, applied, keyed, put_under, drop_under, nothing}
 use Rattle.kube_reflect.specs.Entries.{after_entry, kept_by}
 use Rattle.kube_reflect.specs.declared.copies.law.Entry.{Entry}
 use Rattle.kube_reflect.specs.declared.copies.law.Entry.TheVariants.{Told, Shown, End}
+use Rattle.kube_reflect.specs.Published.{stored_in}
+use Rattle.kube_reflect.specs.Reads.{objects}
+use Rattle.kube_reflect.specs.Writers.{Reader}
+use Rattle.kube_core.specs.Cores.{IsOfType}
 
 module _ {O : Type 0} (key : O → Reference) where
   -- each stands beside its own reference
@@ -54,3 +61,9 @@ module _ {O : Type 0} (key : O → Reference) where
   -- so the references of what is stored are the objects' own
   pub stored-keys : (es : List (Entry O)) → map (λ (p : Reference × O). p.0) (kept_by key es).cache ≡ map key (map (λ (p : Reference × O). p.1) (kept_by key es).cache)
   stored-keys es = keys-own (kept_by key es).cache (all-own nothing es (tt, tt)).0
+
+-- the keys that a read gives are those of the objects that it finds
+pub keys-in : {K : Type 0} (meta : K → ObjectMeta) (old new : Reader K) (core : CoreWorld K) (keys : List Reference) → new.kind ≡ old.kind → IsOfType old.kind meta core → keys ≡ map (λ (e : Reference × K). e.0) (stored_in meta new)
+    → keys ≡ map core.key (objects (stored_in meta new))
+keys-in meta old new core keys kind is e =
+    e ∙ (stored-keys (λ o. key_of new.kind (meta o)) new.seen ∙ ap (λ (key : _ → Reference). map key (objects (stored_in meta new))) (ap (λ k o. key_of k (meta o)) kind ∙ sym is.key))

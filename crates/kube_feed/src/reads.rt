@@ -10,7 +10,7 @@ ghost use Rattle.kube_history.specs.TurnCalls.{with_requests};
 ghost use Rattle.kube_core.specs.Cores.{IsOfType};
 ghost use Rattle.kube_core.specs.Pendings.{Stands};
 ghost use Rattle.kube_turn.specs.Views.{shown_objects};
-ghost use Rattle.kube_feed.specs.Reads.{AreListed, IsLater, IsTold};
+ghost use Rattle.kube_feed.specs.Reads.{AreListed, IsLater, IsTold, told_by};
 ghost use Rattle.kube_feed.specs.Requests.{bulk_requests};
 
 use crate::parts::Parts;
@@ -18,7 +18,7 @@ use crate::requests::{bulk_requests, request_all};
 use kube_core::Pending;
 use kube_meta::{List, Moment, NoMemory, Polled, Resource};
 use kube_model::error::{RunnerError, WriterDropped};
-use kube_reflect::Store;
+use kube_reflect::{Store, WriterDropped as StoreDropped};
 use std::alloc::Global;
 use std::sync::{Arc, Wait};
 
@@ -64,6 +64,18 @@ pub fn reload_where<K: Resource, W: Wait>(
     reload(rt, alloc, reader, pending, at)
 }
 
+/// Whether a store told that it is ready, and the runner's error, where its writer ended before.
+fn told(answer: Polled<Result<(), StoreDropped>>) -> (bool, Option<RunnerError>)
+    ensures ready { result.0 ≡ is_told_ready (Some (told_by answer)) }
+    ensures failed { result.1 ≡ failure_in (Some (told_by answer)) }
+{
+    match answer {
+        Polled::Ready(Ok(())) => (true, None),
+        Polled::Ready(Err(_)) => (false, Some(RunnerError::Readiness(WriterDropped))),
+        Polled::NotReady => (false, None),
+    }
+}
+
 /// Polls whether the store is ready, in one read, until that was told. The runner's error, where the store's writer ended before.
 pub fn poll_ready<K: Resource, W: Wait>(rt: &W, parts: &mut Parts<K>) -> Option<RunnerError>
     ensures same { IsLater parts.old.reader parts.new.reader }
@@ -75,14 +87,10 @@ pub fn poll_ready<K: Resource, W: Wait>(rt: &W, parts: &mut Parts<K>) -> Option<
     if parts.ready {
         return None;
     }
-    match parts.reader.poll_ready(rt) {
-        Polled::Ready(Ok(())) => {
-            parts.ready = true;
-            None
-        }
-        Polled::Ready(Err(_)) => Some(RunnerError::Readiness(WriterDropped)),
-        Polled::NotReady => None,
-    }
+    let answer = parts.reader.poll_ready(rt);
+    let (is_ready, runner) = told(answer);
+    parts.ready = is_ready;
+    runner
 }
 
 /// The stored objects, in one read, where they are to be shown.

@@ -206,6 +206,7 @@ where
     ensures root { R.can_poll asks.new.root }
     ensures related { S.can_poll asks.new.related }
     ensures feeds { S.feeds asks.new.related ≡ S.feeds asks.old.related }
+    ensures kind { R.kind asks.new.root ≡ R.kind asks.old.root }
     ensures same { IsLater parts.old.reader parts.new.reader }
     ensures gone_on { IfOk result (λ m. (w : World R.Object B) (h : List (Step R.Object)) (t : PlainTurn) (qs : List (QueueEvent Message)) → t.at ≡ at.0 → t.reload ≡ reload → t.on ≡ map (reference_of R.Object.type_of) on
         → MayGoOn R.RootSource S.RelatedSet B.Backoff R.Object.Resource w h t qs asks.old parts.old
@@ -229,7 +230,8 @@ where
     )?;
     let exchanges = ask_all(asks, &mut parts.pending, alloc, at)?;
     let gave_up = settle(asks, parts, at);
-    let (taken, runner) = read_and_take(rt, alloc, parts, gave_up, reconciler, context)?;
+    let took = read_and_take(rt, alloc, parts, gave_up, reconciler, context)?;
+    let (taken, runner) = took;
     Ok(Made {
         exchanges,
         taken,
@@ -263,6 +265,7 @@ where
     ensures root { R.can_poll asks.new.root }
     ensures related { S.can_poll asks.new.related }
     ensures feeds { S.feeds asks.new.related ≡ S.feeds asks.old.related }
+    ensures kind { R.kind asks.new.root ≡ R.kind asks.old.root }
     ensures same { IsLater parts.old.reader parts.new.reader }
     ensures closed { IfOk result (λ m. goes_on ≡ false → (m.exchanges ≡ []) × (m.taken ≡ []) × (m.runner ≡ None) × (asks.new ≡ asks.old) × (parts.new ≡ parts.old)) }
     ensures gone_on { IfOk result (λ m. goes_on ≡ true → (w : World R.Object B) (h : List (Step R.Object)) (t : PlainTurn) (qs : List (QueueEvent Message)) → t.at ≡ at.0 → t.reload ≡ reload → t.on ≡ map (reference_of R.Object.type_of) on

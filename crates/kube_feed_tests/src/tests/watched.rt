@@ -5,10 +5,10 @@ ghost use Rattle.std.specs.Prelude.{◌≡◌, IfOk};
 
 use super::objects::{Maps, Named, Object, kind, object, writer};
 use super::shown::{all_taken, records};
-use super::turns::{Answered, Ask, Given, Row, run, turns};
+use super::turns::{Answered, Ask, Row, run, turns};
 use kube_api::{ApiError, Page, ResultPage, Sequence, SequenceStep, TestMode, WatchEvent};
 use kube_control::{Controller, WatchRoot};
-use kube_feed::{DefaultBackoff, FedController, NoRelated, Recorder, StreamRoot, Turn, TurnRecord};
+use kube_feed::{DefaultBackoff, FedController, NoRelated, Recorder, StreamRoot};
 use kube_meta::{Action, DynamicObject, Moment, Next, NoMemory};
 use kube_model::error::Error;
 use kube_streams::reflect::Reflect;
