@@ -1,6 +1,6 @@
 -- One more finish of a turn.
-use Rattle.std.proofs.Common.{◌≡◌, ℕ, Bool, true, false, not, ◌||◌, cond, List, [], ◌∷◌, ◌++◌, map, if◌then◌else◌, refl, sym, ap, ap₂, subst, ◌∙◌, append_assoc, append-nil}
-use Rattle.std.specs.List.{AllZip, filter, flat_map}
+use Rattle.std.proofs.Common.{◌≡◌, ℕ, Bool, true, false, not, ◌||◌, cond, List, [], ◌∷◌, ◌++◌, map, refl, sym, ap, subst, ◌∙◌, append_assoc, append-nil}
+use Rattle.std.specs.List.{AllZip, filter}
 use Rattle.std.proofs.lemmas.List.{map-append}
 use Rattle.std.proofs.lemmas.Grind.{flat_map-append}
 use Rattle.kube_meta.specs.declared.action.Action.{Action}
@@ -18,7 +18,7 @@ use Rattle.kube_history.proofs.FinishOrder.{finds-running}
 use Rattle.kube_history.proofs.TurnCalls.{requests-join}
 use Rattle.kube_turn.specs.declared.turn.Finish.{Finish}
 use Rattle.kube_turn.specs.declared.record.Finished.{Finished}
-use Rattle.kube_turn.specs.Records.{finish_of, finished_of}
+use Rattle.kube_turn.specs.Records.{finish_of}
 use Rattle.kube_step.specs.Finishes.{AreFinished, IsFinished, IsActionFor}
 use Rattle.kube_step.proofs.Ended.{handed-still}
 use Rattle.kube_feed.specs.Requests.{finish_requests}

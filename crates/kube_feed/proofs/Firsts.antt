@@ -1,9 +1,8 @@
 -- Controllers that are fed, before their first turn.
-use Rattle.std.proofs.Common.{◌≡◌, ℕ, zero, suc, ◌+◌, ◌-◌, ◌≤◌, ◌<◌, nat_lt, Bool, true, false, List, [], ◌∷◌, ◌++◌, length, IsTrue, refl, sym, ap, subst, ◌∙◌, arith}
+use Rattle.std.proofs.Common.{◌≡◌, ℕ, ◌+◌, ◌-◌, ◌<◌, nat_lt, Bool, true, false, List, [], ◌∷◌, ◌++◌, length, IsTrue, refl, sym, ap, subst, ◌∙◌, arith}
 use Rattle.std.proofs.lemmas.Bool.{ltb-true, ltb-false}
 use Rattle.std.proofs.lemmas.List.{length-append}
 use Rattle.std.specs.List.{AllByRecursion}
-use Rattle.kube_meta.specs.Keys.{key_of}
 use Rattle.kube_meta.specs.declared.resource.Resource as resource
 use Rattle.kube_model.specs.World.{World, Feed, is_watched, feed_of}
 use Rattle.kube_model.specs.History.{Dated}
@@ -11,7 +10,7 @@ use Rattle.kube_model.specs.Fits.{has_references}
 use Rattle.kube_model.specs.Owed.{mark}
 use Rattle.kube_model.specs.Pause.{Pause, pause_of}
 use Rattle.kube_watch.specs.Stands.{exchanges_in}
-use Rattle.kube_history.specs.CoreWorld.{CoreWorld, core_world}
+use Rattle.kube_history.specs.CoreWorld.{core_world}
 use Rattle.kube_streams.specs.declared.backoff.Backoff as backoff
 use Rattle.kube_core.specs.Pendings.{Parts as Pending, Stands as PendingStands}
 use Rattle.kube_asks.specs.Asking.{Asking, IsWorldOf, SourcesStand}

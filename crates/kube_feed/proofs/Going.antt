@@ -1,5 +1,5 @@
 -- How an open turn goes on after its finishes.
-use Rattle.std.proofs.Common.{◌≡◌, ℕ, Bool, true, false, not, ◌||◌, ◌&&◌, List, [], ◌∷◌, ◌++◌, map, Option, Some, None, Result, Ok, Err, IfOk, is_some, refl, sym, ap, ap₂, subst, ◌∙◌, append-nil}
+use Rattle.std.proofs.Common.{◌≡◌, ℕ, Bool, true, false, not, ◌||◌, ◌&&◌, List, [], ◌∷◌, ◌++◌, map, Option, None, Result, Ok, Err, IfOk, is_some, refl, sym, ap, ap₂, subst, ◌∙◌, append-nil}
 use Rattle.std.specs.List.{filter_map}
 use Rattle.std.proofs.lemmas.List.{map-append}
 use Rattle.kube_meta.specs.Reference.{Reference}
@@ -27,7 +27,7 @@ use Rattle.kube_feed.specs.declared.parts.Parts.{Parts}
 use Rattle.kube_feed.specs.Asked.{AreAsked, MayAsk}
 use Rattle.kube_feed.specs.Reads.{AreFound, IsTold}
 use Rattle.kube_feed.specs.Requests.{bulk_requests, by_name, name_requests}
-use Rattle.kube_feed.specs.Turns.{AreAllTaken, AreTakenWhere, HasGoneOn, HaveReadAndTaken, HaveTaken, MayGoOn, first_requests, queue_asked}
+use Rattle.kube_feed.specs.Turns.{AreAllTaken, AreTakenWhere, HasGoneOn, HaveReadAndTaken, HaveTaken, MayGoOn, queue_asked}
 
 pub both : {T E : Type 0} (r : Result T E) (P Q S : T → Type 0) → ((x : T) → P x → Q x → S x) → IfOk r P → IfOk r Q → IfOk r S
 both (Ok x) P Q S f p q = f x p q

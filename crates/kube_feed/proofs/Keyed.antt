@@ -5,9 +5,8 @@ use Rattle.kube_meta.specs.declared.metadata.ObjectMeta.{ObjectMeta}
 use Rattle.kube_meta.specs.Keys.{key_of}
 use Rattle.kube_meta.specs.Reference.{Reference, same_reference}
 use Rattle.kube_history.specs.CoreWorld.{CoreWorld}
-use Rattle.kube_watch.specs.declared.event.Event.{Event}
 use Rattle.kube_watch.specs.declared.event.Event.TheVariants.{Apply, Delete, Init, InitApply, InitDone}
-use Rattle.kube_reflect.specs.Cached.{Kept, applied, keyed, put_under, drop_under, nothing}
+use Rattle.kube_reflect.specs.Cached.{Kept, keyed, put_under, drop_under, nothing}
 use Rattle.kube_reflect.specs.Entries.{after_entry, kept_by}
 use Rattle.kube_reflect.specs.declared.copies.law.Entry.{Entry}
 use Rattle.kube_reflect.specs.declared.copies.law.Entry.TheVariants.{Told, Shown, End}

@@ -1,5 +1,5 @@
 -- One turn, by the calls that take it.
-use Rattle.std.proofs.Common.{◌≡◌, ℕ, Bool, true, false, not, ◌||◌, ◌&&◌, ◌==◌, List, [], ◌∷◌, ◌++◌, map, length, Option, Some, None, if◌then◌else◌, is_some, refl, sym, ap, ap₂, subst, ◌∙◌, append-nil}
+use Rattle.std.proofs.Common.{◌≡◌, ℕ, Bool, true, false, not, ◌||◌, ◌&&◌, ◌==◌, List, [], ◌++◌, length, Option, None, if◌then◌else◌, is_some, refl, sym, ap, ap₂, subst, ◌∙◌, append-nil}
 use Rattle.std.specs.List.{filter_map}
 use Rattle.kube_meta.specs.declared.resource.Resource as resource
 use Rattle.kube_model.specs.declared.error.RunnerError.{RunnerError}
@@ -12,10 +12,10 @@ use Rattle.kube_model.specs.Pause.{gave_up}
 use Rattle.kube_model.specs.Queue.{QueueEvent, waiting}
 use Rattle.kube_model.specs.Requests.{events_of, requested_and_settled, requests_of_turn, took, turn_events}
 use Rattle.kube_model.specs.Shutdowns.{asks_shutdown, is_closed, is_forced, is_over}
-use Rattle.kube_model.specs.Stored.{may_take, stored_in, was_ready}
+use Rattle.kube_model.specs.Stored.{stored_in, was_ready}
 use Rattle.kube_model.specs.Takes.{running, started}
-use Rattle.kube_model.specs.Turns.{next_source, record_with, running_in, was_asked}
-use Rattle.kube_model.specs.Traces.{AreFinishesOf, IsRecord, IsValid, Made, step}
+use Rattle.kube_model.specs.Turns.{record_with, running_in, was_asked}
+use Rattle.kube_model.specs.Traces.{AreFinishesOf, IsRecord, IsValid}
 use Rattle.kube_history.specs.CoreWorld.{core_world}
 use Rattle.kube_history.specs.TurnCalls.{ReaderAnswers, with_requests}
 use Rattle.kube_history.proofs.TurnParts.{none-next}

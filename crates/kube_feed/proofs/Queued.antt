@@ -1,11 +1,11 @@
 -- What the parts of a turn request, one after another, is what the turn requests.
-use Rattle.std.proofs.Common.{◌≡◌, ℕ, Bool, true, false, ◌||◌, List, [], ◌∷◌, ◌++◌, map, Option, Some, None, if◌then◌else◌, is_some, unwrap_or, refl, sym, ap, ap₂, ◌∙◌, append_assoc}
+use Rattle.std.proofs.Common.{◌≡◌, ℕ, Bool, false, ◌||◌, List, [], ◌∷◌, ◌++◌, map, Option, Some, None, if◌then◌else◌, is_some, unwrap_or, refl, sym, ap, ap₂, ◌∙◌, append_assoc}
 use Rattle.std.specs.List.{flat_map}
 use Rattle.kube_meta.specs.Reference.{Reference, reference_before}
 use Rattle.kube_model.specs.World.{World, Feed, Watched, Streamed, Queued, is_watched, feed_of}
 use Rattle.kube_model.specs.Reads.{Reads, told_ready, failure_in}
-use Rattle.kube_model.specs.History.{Exchange, Finished, Message, Turn, Step}
-use Rattle.kube_model.specs.Queue.{QueueEvent, Settled, sorted_by}
+use Rattle.kube_model.specs.History.{Exchange, Finished, Turn, Step}
+use Rattle.kube_model.specs.Queue.{Settled, sorted_by}
 use Rattle.kube_model.specs.Requests.{Timed, events_of, named_requests, reload_requests, requested_and_settled, requested_at, requests_of_exchanges, requests_of_finish, requests_of_turn, turn_events}
 use Rattle.kube_model.specs.Shutdowns.{is_closed}
 use Rattle.kube_model.specs.Stored.{stored_by, stored_in, was_ready}

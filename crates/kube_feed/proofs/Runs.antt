@@ -1,7 +1,6 @@
 -- One more turn of a run, and a run that ends early.
 use Rattle.std.proofs.Common.{◌≡◌, ◌≤◌, ℕ, ◌+◌, true, false, List, [], ◌∷◌, ◌++◌, map, take, length, slice_get, Option, Some, refl, sym, ap, ap₂, subst, ◌∙◌, append_assoc, append-nil, arith}
-use Rattle.std.specs.List.{flat_map}
-use Rattle.std.proofs.lemmas.List.{map-append, length-append, length-map}
+use Rattle.std.proofs.lemmas.List.{map-append}
 use Rattle.std.proofs.lemmas.Grind.{flat_map-append}
 use Rattle.kube_meta.specs.declared.metadata.ObjectMeta.{ObjectMeta}
 use Rattle.kube_meta.specs.Reference.{ObjectType}
@@ -22,7 +21,7 @@ use Rattle.kube_asks.specs.declared.root.RootSource as root_source
 use Rattle.kube_asks.specs.declared.set.RelatedSet as related_set
 use Rattle.kube_turn.specs.declared.turn.Turn.{Turn as HeldTurn}
 use Rattle.kube_turn.specs.declared.record.TurnRecord.{TurnRecord as HeldRecord}
-use Rattle.kube_turn.specs.Records.{record_of, turn_of}
+use Rattle.kube_turn.specs.Records.{turn_of}
 use Rattle.kube_step.specs.Asked.{AllStand, NotAsked}
 use Rattle.kube_step.specs.Calls.{ArePolled, dated_in}
 use Rattle.kube_step.specs.Finishes.{AreFinished}

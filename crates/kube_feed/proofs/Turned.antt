@@ -1,42 +1,39 @@
 -- A turn that was taken, by the calls that make it.
-use Rattle.std.proofs.Common.{◌≡◌, ℕ, Bool, true, false, not, ◌||◌, ◌&&◌, ◌==◌, List, [], ◌∷◌, ◌++◌, map, length, Option, Some, None, if◌then◌else◌, is_some, refl, sym, ap, ap₂, subst, ◌∙◌, append-nil}
+use Rattle.std.proofs.Common.{◌≡◌, Bool, true, false, ◌||◌, ◌&&◌, ◌==◌, List, [], ◌∷◌, ◌++◌, map, length, Option, None, if◌then◌else◌, is_some, refl, sym, ap, ap₂, subst, ◌∙◌, append-nil}
 use Rattle.std.specs.List.{filter_map, list_any, range_with_len}
 use Rattle.std.proofs.lemmas.Grind.{flat_map-append}
 use Rattle.kube_meta.specs.declared.resource.Resource as resource
 use Rattle.kube_model.specs.declared.turn.Stop.TheVariants as stops
 use Rattle.kube_model.specs.declared.error.RunnerError.{RunnerError}
 use Rattle.kube_model.specs.World.{World, Feed, Watched, Streamed, Queued, is_watched, feed_of}
-use Rattle.kube_model.specs.Reads.{Reads, nothing_read, told_ready, failure_in}
-use Rattle.kube_model.specs.History.{Dated, Exchange, Message, same_message, Turn, TurnRecord, Finished, Taken, Step, dated, exchanges, exchanges_with}
+use Rattle.kube_model.specs.Reads.{Reads, told_ready, failure_in}
+use Rattle.kube_model.specs.History.{Exchange, Message, Turn, TurnRecord, Finished, Taken, Step, dated, exchanges, exchanges_with}
 use Rattle.kube_model.specs.Asks.{is_quiet, has_budget, sources, stops_of}
 use Rattle.kube_model.specs.Pause.{gave_up}
-use Rattle.kube_model.specs.Queue.{QueueEvent, waiting}
+use Rattle.kube_model.specs.Queue.{QueueEvent}
 use Rattle.kube_model.specs.Requests.{events_of, turn_events, took, waiting_in}
 use Rattle.kube_model.specs.Shutdowns.{is_shut, asks_shutdown, is_closed, is_forced, is_over}
-use Rattle.kube_model.specs.Stored.{may_take, stored_in, was_ready}
-use Rattle.kube_model.specs.Takes.{Running, running, started, unfinished}
+use Rattle.kube_model.specs.Stored.{may_take, was_ready}
+use Rattle.kube_model.specs.Takes.{running, started, unfinished}
 use Rattle.kube_model.specs.Turns.{is_idle_after, next_source, record_with, running_in, taken_in, was_asked}
 use Rattle.kube_model.specs.Traces.{IsRecord, IsValid, AreFinishesOf, EachIsNext, Made, step}
-use Rattle.kube_model.specs.Named.{EachIsNamed, RootIsNamed}
 use Rattle.kube_model.proofs.Histories.{events-push, running-push}
 use Rattle.kube_history.specs.CoreWorld.{core_world}
 use Rattle.kube_history.specs.InTurn.{AreTaken, look_so}
-use Rattle.kube_history.specs.TurnCalls.{TakesBy, ReaderAnswers, ReadsBy, ReadsAndTakes, with_requests}
+use Rattle.kube_history.specs.TurnCalls.{TakesBy, ReaderAnswers, ReadsBy}
 use Rattle.kube_history.specs.TurnEvents.{was_over}
 use Rattle.kube_history.proofs.TurnCalls.{makes}
 use Rattle.kube_streams.specs.declared.backoff.Backoff as backoff
-use Rattle.kube_core.specs.Pendings.{Parts as Pending, Stands as PendingStands}
+use Rattle.kube_core.specs.Pendings.{Stands as PendingStands}
 use Rattle.kube_asks.specs.Asking.{Asking}
 use Rattle.kube_asks.specs.declared.root.RootSource as root_source
 use Rattle.kube_asks.specs.declared.set.RelatedSet as related_set
-use Rattle.kube_step.specs.Calls.{ArePolled}
 use Rattle.kube_step.specs.Controllers.{IsWorldOfAsks, AsksStand}
 use Rattle.kube_step.specs.Policies.{answered_in}
 use Rattle.kube_feed.specs.declared.parts.Parts.{Parts}
 use Rattle.kube_feed.specs.Fed.{PartsStand}
-use Rattle.kube_feed.specs.Requests.{finish_requests}
-use Rattle.kube_feed.specs.Turns.{AreTakenWhere, HasGoneOn, IsTaken, queue_asked}
-use Rattle.kube_feed.proofs.Queued.{ready-is, shown-is, failure-is, queue-is}
+use Rattle.kube_feed.specs.Turns.{AreTakenWhere}
+use Rattle.kube_feed.proofs.Queued.{shown-is, failure-is}
 
 or-none : (b : Bool) → (b || false) ≡ b
 or-none true = refl

@@ -1,5 +1,5 @@
 -- Asks of a turn, one after another, each of which requests. R is the type of a controller's root, S that of its related sources, B that of its backoff's states, O that of objects and D that of their dynamic types.
-use Rattle.std.specs.Prelude.{◌≡◌, ℕ, false, List, [], ◌∷◌, ◌++◌, map, Option, Some, None}
+use Rattle.std.specs.Prelude.{◌≡◌, false, List, [], ◌∷◌, ◌++◌, Option, Some, None}
 use Rattle.kube_meta.specs.declared.resource.Resource as resource
 use Rattle.kube_model.specs.World.{World}
 use Rattle.kube_model.specs.History.{Exchange, Message, Turn, Step, dated, exchanges, exchanges_with, exchanges_of}

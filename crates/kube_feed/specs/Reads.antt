@@ -1,5 +1,5 @@
 -- What a turn reads of its reader, and by which lists: each read is by one list of what the reader's writer told, which begins with that of the read before. O is the type of objects. (Crate: `Store::wait_until_ready`, `Store::state`, `Store::get`.)
-use Rattle.std.specs.Prelude.{◌≡◌, true, List, [], ◌∷◌, map, Option, Some, None, Result, Ok, Err}
+use Rattle.std.specs.Prelude.{◌≡◌, true, List, [], ◌∷◌, Option, Some, None, Result, Ok, Err}
 use mathlib.Core.List.{IsPrefix}
 use Rattle.kube_meta.specs.declared.metadata.ObjectMeta.{ObjectMeta}
 use Rattle.kube_meta.specs.declared.poll.Polled.{Polled}

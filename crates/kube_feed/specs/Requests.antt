@@ -1,5 +1,5 @@
 -- What the parts of a turn request, in the order in which they come. O is the type of objects.
-use Rattle.std.specs.Prelude.{ℕ, Bool, List, [], ◌++◌, map, Option, Some, None, if◌then◌else◌}
+use Rattle.std.specs.Prelude.{ℕ, Bool, List, [], map, Option, Some, None, if◌then◌else◌}
 use Rattle.std.specs.List.{flat_map}
 use Rattle.kube_meta.specs.Reference.{Reference, reference_before}
 use Rattle.kube_model.specs.Reason.{Unknown, BulkReconcile}

@@ -1,5 +1,5 @@
 -- Runs of a controller that reads a store: turns, one after another. R is the type of its root, S that of its related sources, B that of its backoff's states, O that of objects, D that of their dynamic types and E that of faults.
-use Rattle.std.specs.Prelude.{◌≡◌, false, List, [], ◌∷◌, ◌++◌, map, length, slice_get, take, Option, Some}
+use Rattle.std.specs.Prelude.{◌≡◌, false, List, [], ◌∷◌, ◌++◌, map, length, slice_get, take, Some}
 use Rattle.kube_meta.specs.declared.action.Action.{Action}
 use Rattle.kube_meta.specs.Reference.{ObjectType}
 use Rattle.kube_meta.specs.declared.resource.Resource as resource

@@ -4,7 +4,7 @@ use Rattle.std.specs.List.{filter_map}
 use Rattle.kube_meta.specs.Reference.{Reference}
 use Rattle.kube_meta.specs.declared.resource.Resource as resource
 use Rattle.kube_model.specs.World.{World}
-use Rattle.kube_model.specs.Reads.{Reads, Readiness, is_told_ready, told_ready, failure_in}
+use Rattle.kube_model.specs.Reads.{Reads, Readiness, is_told_ready, told_ready}
 use Rattle.kube_model.specs.History.{Exchange, Message, same_message, Taken, Turn, Step, dated, exchanges, exchanges_with}
 use Rattle.kube_model.specs.Named.{RootIsNamed, EachIsNamed}
 use Rattle.kube_model.specs.Pause.{gave_up}

@@ -1,6 +1,6 @@
 //! The reads of a turn: what a reload finds, whether the store is ready, and what the turn shows.
 
-ghost use Rattle.std.specs.Prelude.{◌≡◌, ◌||◌, not, [], List, Option, Some, None, IfOk, OnOk, is_some};
+ghost use Rattle.std.specs.Prelude.{◌≡◌, ◌||◌, not, List, Option, Some, None, IfOk, OnOk, is_some};
 ghost use Rattle.kube_model.specs.History.{Message};
 ghost use Rattle.kube_model.specs.Queue.{QueueEvent};
 ghost use Rattle.kube_model.specs.Reads.{Readiness, failure_in, is_told_ready};

@@ -1,7 +1,6 @@
 //! Which turns are refused.
 
-ghost use Rattle.std.specs.Prelude.{◌≡◌, [], List, None, length, map, option_map, IfOk, slice_set, true, false, ◌≤◌, ℕ};
-ghost use Rattle.kube_meta.specs.Keys.{reference_of};
+ghost use Rattle.std.specs.Prelude.{◌≡◌, [], List, None, length, map, option_map, IfOk, slice_set, true, false, ℕ};
 ghost use Rattle.kube_model.specs.History.{Message, Step};
 ghost use Rattle.kube_model.specs.Queue.{QueueEvent};
 ghost use Rattle.kube_model.specs.Takes.{Running, running};

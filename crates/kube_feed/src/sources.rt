@@ -12,7 +12,6 @@ ghost use Rattle.kube_history.specs.TurnCalls.{with_requests};
 ghost use Rattle.kube_core.specs.Pendings.{Stands};
 ghost use Rattle.kube_turn.specs.Views.{exchange_of};
 ghost use Rattle.kube_asks.specs.Kept.{total};
-ghost use Rattle.kube_step.specs.Errors.{IfUnnamedAsk};
 ghost use Rattle.kube_feed.specs.Asked.{AreAsked, AreEndedBy, IsAsked, MayAsk};
 
 use crate::requests::{copy_requests, request_all};

@@ -3,7 +3,6 @@ use Rattle.std.specs.Arc.{arc_value}
 use Rattle.std.proofs.lemmas.List.{map-append, map-id}
 use Rattle.std.proofs.lemmas.Iterator.Adapters.{YieldsList-from_vec}
 use Rattle.std.proofs.lemmas.Iterator.Consumers.{YieldsList-end}
-use Rattle.kube_meta.specs.Keys.{reference_of}
 use Rattle.kube_model.specs.Takes.{running, unfinished}
 use Rattle.kube_history.specs.TurnCalls.{with_requests}
 use Rattle.kube_core.specs.Pendings.{Stands}

@@ -1,5 +1,5 @@
 use Rattle.std.proofs.Common.{◌≡◌, Bool, true, false, not, ◌||◌, None, Some, refl, sym, ap, ◌∙◌}
-use Rattle.kube_model.specs.Reads.{is_told_ready, failure_in}
+use Rattle.kube_model.specs.Reads.{is_told_ready}
 use Rattle.kube_feed.specs.Reads.{told_by}
 use Rattle.kube_feed.proofs.Reading.{later-by, later-none, read-by}
 use Rattle.kube_feed.proofs.reads.poll_ready.Goals as goal

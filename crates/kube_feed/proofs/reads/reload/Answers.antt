@@ -1,7 +1,7 @@
-use Rattle.std.proofs.Common.{◌≡◌, List, map, refl, sym, ap, subst, ◌∙◌}
+use Rattle.std.proofs.Common.{map, refl, ap, subst, ◌∙◌}
 use Rattle.std.proofs.lemmas.Result.{on_ok_weaker}
 use Rattle.kube_meta.specs.Keys.{reference_of}
-use Rattle.kube_meta.specs.Reference.{Reference, reference_before}
+use Rattle.kube_meta.specs.Reference.{reference_before}
 use Rattle.kube_model.specs.Queue.{sorted_by}
 use Rattle.kube_model.specs.Requests.{requested_at}
 use Rattle.kube_history.specs.TurnCalls.{with_requests}

@@ -1,4 +1,4 @@
-use Rattle.std.proofs.Common.{◌≡◌, None, Some, refl, sym, subst, append-nil}
+use Rattle.std.proofs.Common.{None, Some, refl, sym, subst, append-nil}
 use Rattle.std.proofs.lemmas.Result.{on_ok_weaker}
 use Rattle.kube_core.specs.Pendings.{Stands}
 use Rattle.kube_feed.proofs.Reading.{later-none}

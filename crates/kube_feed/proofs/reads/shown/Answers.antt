@@ -1,4 +1,4 @@
-use Rattle.std.proofs.Common.{◌≡◌, map, refl, sym, ap, ◌∙◌}
+use Rattle.std.proofs.Common.{map, ap, ◌∙◌}
 use Rattle.std.specs.Arc.{arc_value}
 use Rattle.kube_feed.proofs.Reading.{later-by, later-none, read-by}
 use Rattle.kube_feed.proofs.reads.shown.Goals as goal

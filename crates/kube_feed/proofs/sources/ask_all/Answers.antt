@@ -4,7 +4,7 @@ use Rattle.std.proofs.lemmas.Result.{err_from_is_err_and}
 use Rattle.std.specs.Option.{option_map}
 use Rattle.kube_turn.specs.Views.{exchange_of}
 use Rattle.kube_feed.specs.Asked.{AreAsked, IsAsked}
-use Rattle.kube_feed.proofs.Asking.{asked-push, asked-end, asked-lost, asked-none, ended-more}
+use Rattle.kube_feed.proofs.Asking.{asked-push, asked-end, asked-lost, ended-more}
 use Rattle.kube_feed.proofs.sources.ask_all.Goals as goal
 
 pub loop-all-preserved : goal.loop-all-preserved

@@ -1,4 +1,4 @@
-use Rattle.std.proofs.Common.{◌++◌, [], map, sym, ap, subst, ◌∙◌, append-nil}
+use Rattle.std.proofs.Common.{map, sym, subst, ◌∙◌, append-nil}
 use Rattle.kube_model.specs.Requests.{requested_at}
 use Rattle.kube_history.specs.TurnCalls.{with_requests}
 use Rattle.kube_core.specs.Pendings.{Stands}

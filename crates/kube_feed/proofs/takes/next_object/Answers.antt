@@ -1,6 +1,5 @@
-use Rattle.std.proofs.Common.{◌≡◌, Some, None, option_map, option_copied, refl, sym, ap, ◌∙◌}
+use Rattle.std.proofs.Common.{option_map, option_copied, refl, sym, ap, ◌∙◌}
 use Rattle.kube_turn.specs.Views.{message_of}
-use Rattle.kube_history.specs.CoreEvents.{next_candidate}
 use Rattle.kube_feed.proofs.takes.next_object.Goals as goal
 
 pub returns-in_default-clause-looked_up : goal.returns-in_default-clause-looked_up

@@ -1,4 +1,4 @@
-use Rattle.std.proofs.Common.{◌≡◌, ◌++◌, ◌∷◌, ◌+◌, ◌≤◌, [], length, Option, is_some, refl, sym, ap, subst, ◌∙◌, append-nil, arith}
+use Rattle.std.proofs.Common.{◌≡◌, ◌++◌, ◌∷◌, ◌+◌, ◌≤◌, [], length, is_some, sym, ap, subst, ◌∙◌, arith}
 use Rattle.std.specs.List.{AllByRecursion, cons_option, filter_map}
 use Rattle.std.proofs.lemmas.List.{length-append}
 use Rattle.std.proofs.lemmas.Result.{err_from_is_err_and}
@@ -11,7 +11,6 @@ use Rattle.kube_turn.specs.Views.{taken_of}
 use Rattle.kube_step.specs.HandOvers.{handed_by}
 use Rattle.kube_step.specs.Takes.{IsSomething}
 use Rattle.kube_step.proofs.Taking.{none-of, some-of, grown-nil, all-push, kept-push, handed-more}
-use Rattle.kube_core.specs.Pendings.{Stands}
 use Rattle.kube_feed.specs.Reads.{AreFound}
 use Rattle.kube_feed.specs.Takes.{IsTake}
 use Rattle.kube_feed.proofs.Reading.{later-none, later-more}

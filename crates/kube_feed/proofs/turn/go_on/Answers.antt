@@ -1,7 +1,6 @@
-use Rattle.std.proofs.Common.{◌≡◌, ◌++◌, ◌∷◌, [], List, map, None, refl, sym, ap, subst, ◌∙◌}
+use Rattle.std.proofs.Common.{◌≡◌, ◌++◌, ◌∷◌, [], map, None, refl, sym, subst, ◌∙◌}
 use Rattle.std.specs.List.{filter_map}
 use Rattle.std.proofs.lemmas.Result.{err_from_is_err_and}
-use Rattle.kube_meta.specs.Keys.{reference_of}
 use Rattle.kube_model.specs.History.{dated, exchanges}
 use Rattle.kube_model.specs.Queue.{Settled}
 use Rattle.kube_model.specs.Requests.{requests_of_exchanges}

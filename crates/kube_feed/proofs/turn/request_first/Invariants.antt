@@ -1,4 +1,4 @@
-use Rattle.std.proofs.Common.{◌≡◌, List, map}
+use Rattle.std.proofs.Common.{List, map}
 use Rattle.kube_meta.specs.Keys.{reference_of}
 use Rattle.kube_model.specs.History.{Message}
 use Rattle.kube_model.specs.Queue.{QueueEvent}

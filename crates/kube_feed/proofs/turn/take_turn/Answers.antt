@@ -1,11 +1,11 @@
-use Rattle.std.proofs.Common.{◌≡◌, [], map, refl, sym, ap, subst, ◌∙◌}
+use Rattle.std.proofs.Common.{map, refl, sym, ap, subst, ◌∙◌}
 use Rattle.std.specs.Arc.{arc_value}
 use Rattle.std.specs.List.{filter_map}
 use Rattle.std.proofs.lemmas.Result.{err_from_is_err_and}
 use Rattle.kube_model.specs.Requests.{events_of}
 use Rattle.kube_model.specs.Takes.{running}
 use Rattle.kube_history.specs.CoreWorld.{core_world}
-use Rattle.kube_turn.specs.Records.{finished_of, record_of, turn_of}
+use Rattle.kube_turn.specs.Records.{finished_of, turn_of}
 use Rattle.kube_turn.specs.Views.{exchange_of, shown_objects, taken_of}
 use Rattle.kube_core.specs.Pendings.{Stands}
 use Rattle.kube_step.specs.Policies.{Answers}

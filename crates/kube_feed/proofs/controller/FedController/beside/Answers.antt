@@ -1,7 +1,7 @@
 use Rattle.std.proofs.Common.{◌-◌, nat_lt, [], ◌++◌, length, sym, ap, subst}
 use Rattle.kube_asks.specs.Places.{Either}
 use Rattle.kube_control.proofs.Histories.{none-yet}
-use Rattle.kube_feed.specs.Fed.{StandsFor, parts_of}
+use Rattle.kube_feed.specs.Fed.{StandsFor}
 use Rattle.kube_feed.proofs.Firsts.{added}
 use Rattle.kube_feed.proofs.controller.FedController.beside.Goals as goal
 

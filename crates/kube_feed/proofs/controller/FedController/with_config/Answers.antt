@@ -2,7 +2,7 @@ use Rattle.std.proofs.Common.{[], refl, sym, subst}
 use Rattle.kube_history.specs.CoreWorld.{core_world}
 use Rattle.kube_step.specs.Controllers.{IsWorldOfAsks}
 use Rattle.kube_control.proofs.Histories.{none-yet}
-use Rattle.kube_feed.specs.Fed.{Feeding, StandsFor, parts_of}
+use Rattle.kube_feed.specs.Fed.{Feeding, StandsFor}
 use Rattle.kube_feed.proofs.Firsts.{configured}
 use Rattle.kube_feed.proofs.controller.FedController.with_config.Goals as goal
 

@@ -1,4 +1,4 @@
-use Rattle.std.proofs.Common.{[], refl, sym, ap, ◌∙◌}
+use Rattle.std.proofs.Common.{refl}
 use Rattle.kube_history.specs.CoreWorld.{core_world}
 use Rattle.kube_control.proofs.Histories.{none-yet}
 use Rattle.kube_feed.proofs.Firsts.{started}

@@ -1,7 +1,6 @@
 use Rattle.std.proofs.Common.{◌++◌, ◌∷◌, [], ap, ◌∙◌}
 use Rattle.std.proofs.lemmas.Result.{err_from_is_err_and}
 use Rattle.kube_turn.specs.Records.{turn_of}
-use Rattle.kube_feed.proofs.Reading.{later-none}
 use Rattle.kube_feed.proofs.Runs.{nothing-lost}
 use Rattle.kube_feed.proofs.controller.turns.add_turn.Goals as goal
 

@@ -6,7 +6,7 @@ use Rattle.std.proofs.lemmas.Result.{err_from_is_err_and}
 use Rattle.std.proofs.lemmas.Iterator.Adapters.{YieldsList-from_vec}
 use Rattle.std.proofs.lemmas.Iterator.Consumers.{YieldsList-end, YieldsList-so_far, YieldsList-turn}
 use Rattle.kube_model.specs.Raw.{grown_by}
-use Rattle.kube_model.specs.Traces.{Made, steps}
+use Rattle.kube_model.specs.Traces.{steps}
 use Rattle.kube_turn.specs.Records.{record_of, turn_of}
 use Rattle.kube_turn.specs.declared.record.TurnRecord.{TurnRecord}
 use Rattle.kube_step.specs.HandOvers.{handed_by, taken_by}
@@ -15,8 +15,7 @@ use Rattle.kube_step.specs.Takes.{IsSomething}
 use Rattle.kube_step.proofs.Taking.{grown-nil}
 use Rattle.kube_control.proofs.Stops.{unnamed-map}
 use Rattle.kube_control.proofs.Turns.{split-turns}
-use Rattle.kube_feed.specs.Reads.{AreReadIn}
-use Rattle.kube_feed.specs.Runs.{AreFinishedIn, HaveRun, records_in}
+use Rattle.kube_feed.specs.Runs.{AreFinishedIn, HaveRun}
 use Rattle.kube_feed.proofs.Reading.{later-more, later-none}
 use Rattle.kube_feed.proofs.Runs.{run-none}
 use Rattle.kube_feed.proofs.Stops.{faulted-map, refused-map}

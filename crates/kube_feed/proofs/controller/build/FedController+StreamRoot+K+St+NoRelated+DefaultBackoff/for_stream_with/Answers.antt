@@ -1,6 +1,6 @@
 use Rattle.std.proofs.Common.{refl, sym, ap, ◌∙◌}
 use Rattle.std.specs.Arc.{arc_value}
-use Rattle.kube_model.specs.History.{exchanges_in}
+use Rattle.kube_watch.specs.Stands.{exchanges_in}
 use Rattle.kube_turn.specs.declared.config.Config.{Config}
 use Rattle.kube_watch.specs.Streams.{stream_answer}
 use Rattle.kube_asks.specs.Roots.{has_name}
