@@ -1,5 +1,5 @@
 -- One more finish of a turn.
-use Rattle.std.proofs.Common.{◌≡◌, ℕ, Bool, true, false, not, ◌||◌, cond, List, [], ◌∷◌, ◌++◌, map, refl, sym, ap, subst, ◌∙◌, append_assoc, append-nil}
+use Rattle.std.proofs.Common.{◌≡◌, ℕ, Bool, true, false, not, ◌||◌, cond, List, [], ◌∷◌, ◌++◌, map, Option, Some, None, Result, Ok, Err, is_ok, refl, sym, ap, subst, ◌∙◌, append_assoc, append-nil}
 use Rattle.std.specs.List.{AllZip, filter}
 use Rattle.std.proofs.lemmas.List.{map-append}
 use Rattle.std.proofs.lemmas.Grind.{flat_map-append}
@@ -8,20 +8,21 @@ use Rattle.kube_meta.specs.Reference.{ObjectType, Reference, same_reference}
 use Rattle.kube_meta.specs.ReferenceLaws.{same_reference_equiv}
 use Rattle.kube_meta.specs.Keys.{reference_of}
 use Rattle.kube_model.specs.History.{Finish as PlainFinish, Finished as PlainFinished, Message, Step, Turn}
-use Rattle.kube_model.specs.Queue.{QueueEvent}
-use Rattle.kube_model.specs.Requests.{requests_of_finish}
+use Rattle.kube_model.specs.Queue.{QueueEvent, plus}
+use Rattle.kube_model.specs.Requests.{requests_of_action, requests_of_finish, retry_reason}
 use Rattle.kube_model.specs.Takes.{Running, running, runs, unfinished}
 use Rattle.kube_model.specs.Traces.{IsValid, handed_over}
 use Rattle.kube_model.proofs.Histories.{unfinished-append}
+use Rattle.kube_history.specs.CoreEvents.{action_requests, retry_of}
 use Rattle.kube_history.specs.TurnCalls.{with_requests}
 use Rattle.kube_history.proofs.FinishOrder.{finds-running}
 use Rattle.kube_history.proofs.TurnCalls.{requests-join}
 use Rattle.kube_turn.specs.declared.turn.Finish.{Finish}
 use Rattle.kube_turn.specs.declared.record.Finished.{Finished}
-use Rattle.kube_turn.specs.Records.{finish_of}
+use Rattle.kube_turn.specs.Records.{finish_of, finished_of, outcome_of}
 use Rattle.kube_step.specs.Finishes.{AreFinished, IsFinished, IsActionFor}
 use Rattle.kube_step.proofs.Ended.{handed-still}
-use Rattle.kube_feed.specs.Requests.{finish_requests}
+use Rattle.kube_feed.specs.Requests.{ended_requests, finish_requests}
 
 zip-push : {A B : Type 0} (R : A → B → Type 0) (xs : List A) (ys : List B) (x : A) (y : B) → AllZip R xs ys → R x y → AllZip R (xs ++ x ∷ []) (ys ++ y ∷ [])
 zip-push R [] [] x y h r = (r, tt)
@@ -59,6 +60,20 @@ finish-more qs closed at fs f = requests-join qs at (finish_requests closed at f
     go : (b : Bool) → finish_requests b at fs ++ finish_requests b at (f ∷ []) ≡ finish_requests b at (fs ++ f ∷ [])
     go true = refl
     go false = sym (flat_map-append (requests_of_finish at) fs (f ∷ []))
+
+retry-is : {E : Type 0} (r : Result Action E) → retry_of (is_ok r) ≡ retry_reason (outcome_of r)
+retry-is (Ok action) = refl
+retry-is (Err fault) = refl
+
+-- what the end of a reconcile requests is what its finish requests
+pub ended-is : {K D E : Type 0} (type_of : D → ObjectType) (closed : Bool) (at : ℕ) (g : Finished K E D) (ok : Bool) → ok ≡ is_ok g.outcome
+    → ended_requests closed at (reference_of type_of g.reference) ok g.action ≡ finish_requests closed at (finished_of type_of g ∷ [])
+ended-is type_of true at g ok e = refl
+ended-is type_of false at g ok e = go g.action
+  where
+    go : (a : Option ℕ) → action_requests at (reference_of type_of g.reference) ok a ≡ requests_of_action at (finished_of type_of g) a ++ []
+    go None = refl
+    go (Some nanos) = ap (λ reason. record { message = record { reference = reference_of type_of g.reference; reason = reason }; run_at = plus at nanos } ∷ []) (ap retry_of e ∙ retry-is g.outcome)
 
 pub finish-none : (qs : List (QueueEvent Message)) (closed : Bool) (at : ℕ) → with_requests qs at (finish_requests closed at []) ≡ qs
 finish-none qs true at = append-nil qs
