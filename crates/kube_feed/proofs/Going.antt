@@ -112,23 +112,24 @@ module _ {R S B O D : Type 0} (root : root_source.Ghosts R O D) (related : relat
   waits-first = subst (λ es. PendingStands object.type_of (core_world w) p.pending es (running_in w h t)) (append-nil qs) may.asks.waits
 
   module _ (found : Option (List O)) (p1 : Pending O D) (stands : PendingStands object.type_of (core_world w) p1 (with_requests qs t.at (bulk_requests w.key t.at found ++ name_requests t.at t.on)) (running_in w h t)) where
-    abbrev pub first : List (QueueEvent Message)
+    -- the queue after a reload and the requests that name references
+    abbrev first : List (QueueEvent Message)
     first = with_requests qs t.at (bulk_requests w.key t.at found ++ name_requests t.at t.on)
 
-    pub may-first : MayAsk root related delays object w h t (with_requests qs t.at (bulk_requests w.key t.at found ++ name_requests t.at t.on)) [] a p1
+    pub may-first : MayAsk root related delays object w h t first [] a p1
     may-first = record {
       world = may.asks.world;
       asks_stand = may.asks.asks_stand;
       unspent = may.asks.unspent;
-      waits = subst (λ es. PendingStands object.type_of (core_world w) p1 es (running_in w h t)) (sym (append-nil (with_requests qs t.at (bulk_requests w.key t.at found ++ name_requests t.at t.on)))) stands;
+      waits = subst (λ es. PendingStands object.type_of (core_world w) p1 es (running_in w h t)) (sym (append-nil first)) stands;
       is_open = may.asks.is_open;
       names = may.asks.names;
     }
 
-    module _ (xs : List (Exchange O)) (a' : Asking R S B) (p2 : Pending O D) (asked : AreAsked root related delays object w h t (with_requests qs t.at (bulk_requests w.key t.at found ++ name_requests t.at t.on)) a xs a' p2)
+    module _ (xs : List (Exchange O)) (a' : Asking R S B) (p2 : Pending O D) (asked : AreAsked root related delays object w h t first a xs a' p2)
         (done : next_source w h t xs ≡ None) (reloaded : is_some found ≡ t.reload) (gave : Bool) (gives : gave ≡ gave_up w (exchanges_with h t xs)) where
       pub gone-on : (p3 : Parts O D) (told : Option Readiness) (ts : List (Taken O)) (p4 : Parts O D) → p3.ready ≡ p.ready → p4.shut ≡ (p.shut || gave)
-          → HaveReadAndTaken object (core_world w) gave (with_requests (with_requests qs t.at (bulk_requests w.key t.at found ++ name_requests t.at t.on)) t.at (requests_of_exchanges t.at xs) ++ Settled t.at ∷ []) (running_in w h t) p3 told ts p4
+          → HaveReadAndTaken object (core_world w) gave (with_requests first t.at (requests_of_exchanges t.at xs) ++ Settled t.at ∷ []) (running_in w h t) p3 told ts p4
           → HasGoneOn root related delays object w h t qs a (record { reloaded = found; readiness = told; looked_up = map (λ (u : Taken O). u.object) ts; shown = None }) xs ts a' p4
       gone-on p3 told ts p4 ready shut k =
           let same : p3.ready ≡ was_ready h = ready ∙ may.ready in record {

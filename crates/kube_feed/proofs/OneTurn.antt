@@ -110,22 +110,23 @@ module _ {R S B O D : Type 0} (root : root_source.Ghosts R O D) (related : relat
 
   -- over finishes
   module _ (fs : List Finished) (p1 : Pending O D) (waits : PendingStands object.type_of (core_world w) p1 (with_requests (events_of w h) t.at (finish_requests closed t.at fs)) (running_in w h t)) where
-    abbrev pub finished_queue : List (QueueEvent Message)
+    -- what they leave of the queue, where the turn is open
+    abbrev finished_queue : List (QueueEvent Message)
     finished_queue = with_requests (events_of w h) t.at (finish_requests false t.at fs)
 
-    waits-open : closed ≡ false → PendingStands object.type_of (core_world w) p1 (with_requests (events_of w h) t.at (finish_requests false t.at fs)) (running_in w h t)
+    waits-open : closed ≡ false → PendingStands object.type_of (core_world w) p1 finished_queue (running_in w h t)
     waits-open e = subst (λ b. PendingStands object.type_of (core_world w) p1 (with_requests (events_of w h) t.at (finish_requests b t.at fs)) (running_in w h t)) e waits
 
     pub may-go-on : closed ≡ false → (p2 : Parts O D) → p2.pending ≡ p1 → p2.reader ≡ p.reader → p2.ready ≡ p.ready → p2.shut ≡ closed
-        → MayGoOn root related delays object w h t (with_requests (events_of w h) t.at (finish_requests false t.at fs)) a1 p2
+        → MayGoOn root related delays object w h t finished_queue a1 p2
     may-go-on e p2 pending reader ready shut = record {
       asks = record {
         world = world-now;
         asks_stand = stands-now;
         unspent = unspent-now;
         waits =
-            subst (λ z. PendingStands object.type_of (core_world w) z (with_requests (events_of w h) t.at (finish_requests false t.at fs) ++ []) (running_in w h t)) (sym pending)
-            (subst (λ es. PendingStands object.type_of (core_world w) p1 es (running_in w h t)) (sym (append-nil (with_requests (events_of w h) t.at (finish_requests false t.at fs)))) (waits-open e));
+            subst (λ z. PendingStands object.type_of (core_world w) z (finished_queue ++ []) (running_in w h t)) (sym pending)
+            (subst (λ es. PendingStands object.type_of (core_world w) p1 es (running_in w h t)) (sym (append-nil finished_queue)) (waits-open e));
         is_open = closed-now ∙ e;
         names = may.names;
       };
@@ -137,13 +138,13 @@ module _ {R S B O D : Type 0} (root : root_source.Ghosts R O D) (related : relat
     -- what follows was done whole
     module _ (p2 : Parts O D) (pending : p2.pending ≡ p1) (reader : p2.reader ≡ p.reader) (ready : p2.ready ≡ p.ready) (shut : p2.shut ≡ closed) (runner : Option RunnerError) (xs : List (Exchange O)) (ts : List (Taken O)) (a' : Asking R S B) (p' : Parts O D)
         (stayed : not closed ≡ false → (xs ≡ []) × (ts ≡ []) × (runner ≡ None) × (a' ≡ a1) × (p' ≡ p2))
-        (gone : not closed ≡ true → MayGoOn root related delays object w h t (with_requests (events_of w h) t.at (finish_requests false t.at fs)) a1 p2
+        (gone : not closed ≡ true → MayGoOn root related delays object w h t finished_queue a1 p2
         → (r : Reads O) × IsReadIn object.meta_of ts r p2.reader p'.reader × (r.shown ≡ None) × (runner ≡ failure_in r.readiness)
-        × HasGoneOn root related delays object w h t (with_requests (events_of w h) t.at (finish_requests false t.at fs)) a1 r xs ts a' p') where
+        × HasGoneOn root related delays object w h t finished_queue a1 r xs ts a' p') where
       abbrev Gone : Type 0
       Gone =
           (r : Reads O) × IsReadIn object.meta_of ts r p2.reader p'.reader × (r.shown ≡ None) × (runner ≡ failure_in r.readiness)
-          × HasGoneOn root related delays object w h t (with_requests (events_of w h) t.at (finish_requests false t.at fs)) a1 r xs ts a' p'
+          × HasGoneOn root related delays object w h t finished_queue a1 r xs ts a' p'
 
       gone-now : closed ≡ false → Gone
       gone-now e = gone (ap not e) (may-go-on e p2 pending reader ready shut)
@@ -177,7 +178,7 @@ module _ {R S B O D : Type 0} (root : root_source.Ghosts R O D) (related : relat
         kind-now e = same-kind ∙ (may.kind ∙ (ap root.kind (sym same-root) ∙ sym e))
 
         -- an open turn
-        module _ (e : closed ≡ false) (r : Reads O) (g : HasGoneOn root related delays object w h t (with_requests (events_of w h) t.at (finish_requests false t.at fs)) a1 r xs ts a' p') (fails : runner ≡ failure_in r.readiness) where
+        module _ (e : closed ≡ false) (r : Reads O) (g : HasGoneOn root related delays object w h t finished_queue a1 r xs ts a' p') (fails : runner ≡ failure_in r.readiness) where
           open-now : is_closed w h t ≡ false
           open-now = closed-now ∙ e
 
@@ -195,7 +196,7 @@ module _ {R S B O D : Type 0} (root : root_source.Ghosts R O D) (related : relat
             shown = shows;
           }
 
-          queue : queue_asked w.key (with_requests (events_of w h) t.at (finish_requests false t.at fs)) t (with_shown r store) xs ≡ events_of w h ++ turn_events w h t (with_shown r store) fs xs
+          queue : queue_asked w.key finished_queue t (with_shown r store) xs ≡ events_of w h ++ turn_events w h t (with_shown r store) fs xs
           queue = queue-is w may.is_fed h t (with_shown r store) xs fs open-now g.reloaded
 
           made-now : IsRecord w (answered_in fs) h t (record_with w h t (with_shown r store) fs xs, with_shown r store) × (_ ≡ ts)
@@ -227,7 +228,7 @@ module _ {R S B O D : Type 0} (root : root_source.Ghosts R O D) (related : relat
           }
 
         -- a closed one reads what it shows, and no more
-        abbrev pub closed_reads : Reads O
+        abbrev closed_reads : Reads O
         closed_reads = record { reloaded = None; readiness = None; looked_up = []; shown = store }
 
         module _ (e : closed ≡ true) where
@@ -237,7 +238,7 @@ module _ {R S B O D : Type 0} (root : root_source.Ghosts R O D) (related : relat
           stay : (xs ≡ []) × (ts ≡ []) × (runner ≡ None) × (a' ≡ a1) × (p' ≡ p2)
           stay = stayed (ap not e)
 
-          no-answers : ReaderAnswers w h t (record { reloaded = None; readiness = None; looked_up = []; shown = store }) fs [] []
+          no-answers : ReaderAnswers w h t closed_reads fs [] []
           no-answers = record {
             polled = sym (ap (λ b. not (was_ready h) && not b) closed-is-over ∙ and-false (not (was_ready h)));
             reloaded = sym (ap (λ b. t.reload && not b) (closed-now ∙ e) ∙ and-false t.reload);
@@ -245,16 +246,16 @@ module _ {R S B O D : Type 0} (root : root_source.Ghosts R O D) (related : relat
             shown = shows;
           }
 
-          closed-made : IsRecord w (answered_in fs) h t (record_with w h t (record { reloaded = None; readiness = None; looked_up = []; shown = store }) fs [], record { reloaded = None; readiness = None; looked_up = []; shown = store }) × (_ ≡ [])
+          closed-made : IsRecord w (answered_in fs) h t (record_with w h t closed_reads fs [], closed_reads) × (_ ≡ [])
           closed-made =
-              made w may.is_fed h t (record { reloaded = None; readiness = None; looked_up = []; shown = store }) fs [] [] false v z tt (none-next w h t (closed-now ∙ e)) no-answers
-              (ap (λ b. (stored_in w h t (record { reloaded = None; readiness = None; looked_up = []; shown = store }) []).is_ready && not b) closed-is-over ∙ and-false ((stored_in w h t (record { reloaded = None; readiness = None; looked_up = []; shown = store }) []).is_ready))
+              made w may.is_fed h t closed_reads fs [] [] false v z tt (none-next w h t (closed-now ∙ e)) no-answers
+              (ap (λ b. (stored_in w h t closed_reads []).is_ready && not b) closed-is-over ∙ and-false ((stored_in w h t closed_reads []).is_ready))
               refl
 
-          nothing-happens : events_of w h ++ turn_events w h t (record { reloaded = None; readiness = None; looked_up = []; shown = store }) fs [] ≡ events_of w h ++ []
-          nothing-happens = ap (λ b. events_of w h ++ (if b then [] else requested_and_settled t.at (requests_of_turn w (stored_in w h t (record { reloaded = None; readiness = None; looked_up = []; shown = store }) []).reloaded t fs []))) (closed-now ∙ e)
+          nothing-happens : events_of w h ++ turn_events w h t closed_reads fs [] ≡ events_of w h ++ []
+          nothing-happens = ap (λ b. events_of w h ++ (if b then [] else requested_and_settled t.at (requests_of_turn w (stored_in w h t closed_reads []).reloaded t fs []))) (closed-now ∙ e)
 
-          closed-waits : PendingStands object.type_of (core_world w) p1 (events_of w h ++ turn_events w h t (record { reloaded = None; readiness = None; looked_up = []; shown = store }) fs [] ++ took {O = O} []) (running_in w h t ++ filter_map started [])
+          closed-waits : PendingStands object.type_of (core_world w) p1 (events_of w h ++ turn_events w h t closed_reads fs [] ++ took {O = O} []) (running_in w h t ++ filter_map started [])
           closed-waits =
               subst (λ es. PendingStands object.type_of (core_world w) p1 (es ++ []) (running_in w h t ++ [])) (sym nothing-happens)
               (subst (λ es. PendingStands object.type_of (core_world w) p1 es (running_in w h t ++ [])) (sym (append-nil (events_of w h ++ [])))
@@ -273,28 +274,28 @@ module _ {R S B O D : Type 0} (root : root_source.Ghosts R O D) (related : relat
           stands-stay : AsksStand root related delays object w t.budget (exchanges h) [] a'
           stands-stay = subst (AsksStand root related delays object w t.budget (exchanges h) []) (sym stay.3) stands-now
 
-          waits-stay : PendingStands object.type_of (core_world w) p'.pending (events_of w h ++ turn_events w h t (record { reloaded = None; readiness = None; looked_up = []; shown = store }) fs [] ++ took {O = O} []) (running_in w h t ++ filter_map started [])
-          waits-stay = subst (λ y. PendingStands object.type_of (core_world w) y (events_of w h ++ turn_events w h t (record { reloaded = None; readiness = None; looked_up = []; shown = store }) fs [] ++ []) (running_in w h t ++ [])) (sym held) closed-waits
+          waits-stay : PendingStands object.type_of (core_world w) p'.pending (events_of w h ++ turn_events w h t closed_reads fs [] ++ took {O = O} []) (running_in w h t ++ filter_map started [])
+          waits-stay = subst (λ y. PendingStands object.type_of (core_world w) y (events_of w h ++ turn_events w h t closed_reads fs [] ++ []) (running_in w h t ++ [])) (sym held) closed-waits
 
-          closed-record : q ≡ record_with w h t (record { reloaded = None; readiness = None; looked_up = []; shown = store }) fs []
+          closed-record : q ≡ record_with w h t closed_reads fs []
           closed-record =
-              record-is w may.is_fed h t q (record { reloaded = None; readiness = None; looked_up = []; shown = store }) fs [] [] closed p'.shut at finished (asked ∙ stay.0) (stopped t.budget (exchanges h) [] world-stays stands-stay)
+              record-is w may.is_fed h t q closed_reads fs [] [] closed p'.shut at finished (asked ∙ stay.0) (stopped t.budget (exchanges h) [] world-stays stands-stay)
               (ap (λ b. b || gave_up w (exchanges_with h t [])) e ∙ sym closed-is-over) (taken ∙ stay.1) closed-made.1 shown (runs ∙ stay.2)
               (subst (λ us. q.ended ≡ (is_forced t.shutdown || p'.shut && (length (running_in w h t ++ filter_map started us) == 0) || is_some q.runner)) stay.1
-              (ends _ (subst (λ us. PendingStands object.type_of (core_world w) p'.pending (events_of w h ++ turn_events w h t (record { reloaded = None; readiness = None; looked_up = []; shown = store }) fs [] ++ []) (running_in w h t ++ filter_map started us)) (sym stay.1) waits-stay)))
+              (ends _ (subst (λ us. PendingStands object.type_of (core_world w) p'.pending (events_of w h ++ turn_events w h t closed_reads fs [] ++ []) (running_in w h t ++ filter_map started us)) (sym stay.1) waits-stay)))
               shut-now
 
-          pub closed-turned : IsTaken root related delays object w h t a (q, record { reloaded = None; readiness = None; looked_up = []; shown = store }) a' last
+          pub closed-turned : IsTaken root related delays object w h t a (q, closed_reads) a' last
           closed-turned = record {
-            recorded = subst (λ (x : TurnRecord O). IsRecord w (answered_in x.finished) h t (x, record { reloaded = None; readiness = None; looked_up = []; shown = store })) (sym closed-record) closed-made.0;
+            recorded = subst (λ (x : TurnRecord O). IsRecord w (answered_in x.finished) h t (x, closed_reads)) (sym closed-record) closed-made.0;
             each_named = subst (EachIsNamed w (RootIsNamed w) h t []) (sym (asked ∙ stay.0)) tt;
             polled =
                 subst (λ ys. ArePolled root.polls related.polls (exchanges h) a.root a.related (dated t.at ys) a'.root a'.related) (sym (asked ∙ stay.0))
                 (subst (λ (y : Asking R S B). ArePolled root.polls related.polls (exchanges h) a.root a.related [] y.root y.related) (sym stay.3) (same-root, same-related));
             parts =
-                parts-after root related delays object w h t a p may v fs z a' last (record { reloaded = None; readiness = None; looked_up = []; shown = store }) [] [] q closed-record (taken ∙ stay.1) (asked ∙ stay.0) finished world-stays stands-stay
+                parts-after root related delays object w h t a p may v fs z a' last closed_reads [] [] q closed-record (taken ∙ stay.1) (asked ∙ stay.0) finished world-stays stands-stay
                 (ap (λ (y : Asking R S B). y.is_spent) stay.3 ∙ unspent-now) (kind-now (ap (λ (y : Asking R S B). root.kind y.root) stay.3))
-                (subst (λ y. PendingStands object.type_of (core_world w) y (events_of w h ++ turn_events w h t (record { reloaded = None; readiness = None; looked_up = []; shown = store }) fs [] ++ []) (running_in w h t ++ [])) (sym same-pending) waits-stay)
+                (subst (λ y. PendingStands object.type_of (core_world w) y (events_of w h ++ turn_events w h t closed_reads fs [] ++ []) (running_in w h t ++ [])) (sym same-pending) waits-stay)
                 (same-ready ∙ (ap (λ (y : Parts O D). y.ready) stay.4 ∙ (ready ∙ (may.ready ∙ sym (or-none (was_ready h)))))) (same-shut ∙ shut-now);
           }
 
@@ -323,8 +324,8 @@ module _ {R S B O D : Type 0} (root : root_source.Ghosts R O D) (related : relat
             go true e =
                 let s = stay e in
                 let from : p'.reader ≡ p.reader = ap (λ (y : Parts O D). y.reader) s.4 ∙ reader in (
-                  record { reloaded = None; readiness = None; looked_up = []; shown = store },
-                  subst (λ us. IsReadIn object.meta_of us (record { reloaded = None; readiness = None; looked_up = []; shown = store }) p.reader last.reader) (sym (taken ∙ s.1)) (record {
+                  closed_reads,
+                  subst (λ us. IsReadIn object.meta_of us closed_reads p.reader last.reader) (sym (taken ∙ s.1)) (record {
                     reloaded_by = p.reader;
                     told_at = p.reader;
                     found_by = p.reader;

@@ -6,7 +6,7 @@ use Rattle.kube_meta.specs.Reference.{Reference}
 use Rattle.kube_meta.specs.declared.action.Action.{Action}
 use Rattle.kube_meta.specs.declared.resource.Resource as resource
 use Rattle.kube_model.specs.World.{World}
-use Rattle.kube_model.specs.History.{Step, Turn}
+use Rattle.kube_model.specs.History.{Step}
 use Rattle.kube_model.specs.Raw.{grown_by}
 use Rattle.kube_model.specs.Reads.{Reads}
 use Rattle.kube_model.specs.Takes.{running}
@@ -38,12 +38,6 @@ get-front (y ∷ ys) x zs = get-front ys x zs
 
 module _ {R S B O D E : Type 0} (root : root_source.Ghosts R O D) (related : related_set.Ghosts S O D) (delays : backoff.Ghosts B) (object : resource.Ghosts O D) (policy : O → E → Action → Type 0)
     (t : HeldTurn O E D) (ys : List (HeldTurn O E D)) (rs : List (HeldRecord O E D)) (c c' c'' : Feeding R S B O D) (had had' had'' : Option (List (Reference × O))) where
-  abbrev pub turn-of : HeldTurn O E D → Turn
-  turn-of u = turn_of object.type_of u
-
-  abbrev record-of : List (HeldRecord O E D) → List _
-  record-of qs = map (record_of object.type_of) qs
-
   -- these turns ran, and have these records
   abbrev pub Done : World O B → List (Step O) → List (HeldTurn O E D) → List (HeldRecord O E D) → Feeding R S B O D → Type 0
   Done w h us qs d =
@@ -93,9 +87,6 @@ module _ {R S B O D E : Type 0} (root : root_source.Ghosts R O D) (related : rel
     pub done-more : (w : World O B) (h : List (Step O)) → length rs ≤ length ys → Done w h ys rs c' → Done w h (ys ++ t ∷ []) rs' c''
     done-more w h l k = go c'.has_ended refl
       where
-        ms : List (Made O)
-        ms = k.0
-
         turns : map (turn_of object.type_of) ys ++ turn_of object.type_of t ∷ [] ≡ map (turn_of object.type_of) (ys ++ t ∷ [])
         turns = sym (map-append (turn_of object.type_of) ys (t ∷ []))
 

@@ -1,4 +1,4 @@
-use Rattle.std.proofs.Common.{not, subst, ap}
+use Rattle.std.proofs.Common.{not, subst}
 use Rattle.std.specs.Arc.{arc_value}
 use Rattle.std.specs.List.{filter}
 use Rattle.kube_meta.specs.Keys.{reference_of}
