@@ -52,7 +52,10 @@ const ROWS: &[Row] = &[
     ((5, &[9], &[]), ""),
     ((10, &[9], &[Ask::Done("a")]), "a2, c4"),
     ((20, &[9], &[Ask::Again("b", 0)]), "no b retried"),
-    ((21, &[9], &[Ask::Reload, Ask::Done("c"), Ask::On("d")]), "c4 in bulk, no d named"),
+    (
+        (21, &[9], &[Ask::Reload, Ask::Done("c"), Ask::On("d")]),
+        "c4 in bulk, no d named",
+    ),
     ((22, &[9], &[Ask::Done("a"), Ask::Graceful]), ""),
 ];
 
@@ -173,18 +176,19 @@ fn fed<'a, R: Wait>(rt: &'a R, alloc: Global) -> Result<Fed<'a, R>, NoMemory> {
         fault: None,
     };
     let dyntype = kind(alloc, "ConfigMap")?;
-    Ok(FedController::for_stream_with(
-        alloc,
-        stream.settled_objects(alloc),
-        reader,
-        dyntype,
-    ))
+    Ok(FedController::for_stream_with(alloc, stream.settled_objects(alloc), reader, dyntype))
 }
 
 fn ran_fed<R: Wait>(rt: &R, alloc: Global) -> Result<Answered, NoMemory> {
     let mut controller = fed(rt, alloc)?;
     let mut recorder = Recorder::new(alloc);
-    run(rt, alloc, &mut controller, &mut recorder, turns(alloc, ROWS)?)
+    run(
+        rt,
+        alloc,
+        &mut controller,
+        &mut recorder,
+        turns(alloc, ROWS)?,
+    )
 }
 
 type Watched = Controller<WatchRoot<Api>, NoRelated, DefaultBackoff>;
