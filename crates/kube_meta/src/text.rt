@@ -16,7 +16,7 @@ use std::hash::{Hash, Hasher};
 use std::marker::Model;
 
 /// A text. Contracts see it as its bytes in UTF-8.
-#[derive(Debug, Drop)]
+#[derive(Drop)]
 pub struct Text {
     inner: String,
 }
@@ -120,6 +120,13 @@ impl Hash for Text {
 
     fn hash<H: Hasher>(&self, state: &mut H) {
         self.inner.as_str().hash(state);
+    }
+}
+
+/// As the text alone is shown, in quotation marks.
+impl fmt::Debug for Text {
+    fn fmt<W: fmt::Write>(&self, f: &mut fmt::Formatter<W>) -> fmt::Result {
+        fmt::Debug::fmt(&self.inner, f)
     }
 }
 

@@ -6,12 +6,13 @@ use crate::memory::NoMemory;
 use crate::text::Text;
 use std::alloc::Global;
 use std::collections::BTreeMap;
+use std::fmt;
 use std::marker::Model;
 
 /// A map from texts to texts, as Kubernetes has labels and annotations.
 ///
 /// Contracts see it as the list of its pairs in the order of their keys' bytes.
-#[derive(Debug, Drop)]
+#[derive(Drop)]
 pub struct TextMap {
     inner: BTreeMap<String, Text>,
 }
@@ -86,5 +87,12 @@ impl TextMap {
         Ok(TextMap {
             inner: self.inner.clone()?,
         })
+    }
+}
+
+/// As its texts are shown under their keys, in braces.
+impl fmt::Debug for TextMap {
+    fn fmt<W: fmt::Write>(&self, f: &mut fmt::Formatter<W>) -> fmt::Result {
+        fmt::Debug::fmt(&self.inner, f)
     }
 }

@@ -5,12 +5,13 @@ ghost use Rattle.std.specs.Prelude.{◌≡◌, IfOk, OnOk, OnErr, []};
 use crate::memory::NoMemory;
 use std::alloc::Global;
 use std::collections::BTreeSet;
+use std::fmt;
 use std::marker::Model;
 
 /// A set of texts.
 ///
 /// Contracts see it as the list of its texts in the order of their bytes.
-#[derive(Debug, Drop)]
+#[derive(Drop)]
 pub struct TextSet {
     inner: BTreeSet<String>,
 }
@@ -71,5 +72,12 @@ impl TextSet {
         Ok(TextSet {
             inner: self.inner.clone()?,
         })
+    }
+}
+
+/// As its texts are shown, in braces.
+impl fmt::Debug for TextSet {
+    fn fmt<W: fmt::Write>(&self, f: &mut fmt::Formatter<W>) -> fmt::Result {
+        fmt::Debug::fmt(&self.inner, f)
     }
 }
