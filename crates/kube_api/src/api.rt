@@ -11,18 +11,18 @@ use std::alloc::Global;
 /// The open watch lives in the value: a watch call that opens closes the old one. Want of memory takes nothing
 /// from what the API tells.
 pub trait ApiMode: Drop {
-    ghost use Rattle.std.specs.Prelude.{ℕ, List, Option, IfOk, OnErr, ⊤, ◌≡◌, ◌≤◌};
+    ghost use Rattle.std.specs.Prelude.{ℕ, List, Option, None, IfOk, OnErr, ⊤, ◌≡◌, ◌≤◌, ◌-◌, ◌^◌};
     ghost use Rattle.kube_model.specs.Raw.{Raw, grown, ListAsked, WatchAsked, NextAsked, Ends, FaultRose, IsNeverOpened, is_fault};
     ghost use Rattle.kube_api.specs.Answers.{list_answer, watch_answer, next_answer, is_watch_fault};
 
     /// The type of the objects.
     type Value: Resource;
 
-    /// The calls so far with their answers, where the API tells them.
-    ghost talk: { Self → Option (List (Raw Self.Value)) };
+    /// The calls so far with their answers, where the API tells them. Where it doesn't say so it tells none.
+    ghost talk: { Self → Option (List (Raw Self.Value)) } = { λ _. None };
 
-    /// How often a call failed.
-    ghost faults: { Self → ℕ };
+    /// How often a call failed. Where it doesn't say so the count stands at its end, at which it need not rise.
+    ghost faults: { Self → ℕ } = { λ _. 2 ^ 64 - 1 };
 
     /// What a call with its answer, at a moment in nanoseconds, makes of the API, where it says so: the API before it, the
     /// moment, the call with its answer, the API after it. Where it doesn't say so that may be anything.

@@ -31,7 +31,7 @@ pub enum DeleteAnswer<V: Drop> {
 ///
 /// Want of memory takes nothing from what the API tells.
 pub trait ObjectApi: Drop {
-    ghost use Rattle.std.specs.Prelude.{ℕ, ◌^◌, List, Option, length, map, IfOk, OnErr, ◌≡◌, ◌≤◌, ◌<◌};
+    ghost use Rattle.std.specs.Prelude.{ℕ, ◌^◌, ◌-◌, List, Option, None, length, map, IfOk, OnErr, ◌≡◌, ◌≤◌, ◌<◌};
     ghost use Rattle.serde_json.specs.Data.{Data};
     ghost use Rattle.kube_model.specs.Raw.{grown, FaultRose};
     ghost use Rattle.kube_api.specs.Patches.{operation_of};
@@ -40,14 +40,14 @@ pub trait ObjectApi: Drop {
     /// The type of the objects.
     type Value: Resource;
 
-    /// The object that is held under each name, as JSON, where the API tells it.
-    ghost held: { Self → Option (List ℕ → Option Data) };
+    /// The object that is held under each name, as JSON, where the API tells it. Where it doesn't say so it tells none.
+    ghost held: { Self → Option (List ℕ → Option Data) } = { λ _. None };
 
-    /// The calls so far with their answers, where the API tells them.
-    ghost talk: { Self → Option (List (ObjectRaw Self.Value)) };
+    /// The calls so far with their answers, where the API tells them. Where it doesn't say so it tells none.
+    ghost talk: { Self → Option (List (ObjectRaw Self.Value)) } = { λ _. None };
 
-    /// How often a call failed.
-    ghost faults: { Self → ℕ };
+    /// How often a call failed. Where it doesn't say so the count stands at its end, at which it need not rise.
+    ghost faults: { Self → ℕ } = { λ _. 2 ^ 64 - 1 };
 
     /// Patches the object of a name, all or none.
     ///

@@ -12,7 +12,7 @@ use Rattle.kube_sched.specs.Held.{messages, IsFirstAt}
 use Rattle.kube_sched.specs.declared.asks.Ending.{Ending}
 use Rattle.kube_sched.specs.declared.asks.Ending.TheVariants.{Filled, Waits, Ends}
 use Rattle.kube_sched.specs.Schedule.{Schedule, Stands, with_request, with_take, IsFirst, waiting_messages}
-use Rattle.kube_sched.specs.Polls.{Stream, Answer, requests_in, ends_by, ending_of, with_requests, Asked, ending_at, is_end, prepared, Prepared, Polled, CountedPoll, given}
+use Rattle.kube_sched.specs.Polls.{Stream, Answer, requests_in, ends_by, ending_of, with_requests, Asked, AskedInVain, ending_at, is_end, prepared, Prepared, Polled, CountedPoll, given}
 
 pub grown_by-nothing : {A : Type 0} (told : Option (List A)) → told ≡ grown_by told []
 grown_by-nothing None = refl
@@ -79,6 +79,28 @@ module _ {M R : Type 0} (same : M → M → Bool) (told : R → Option (List (An
     counts = (let e = length_push t.taken q in let k = t.counts in omega arith);
     stands = λ events h.
         subst (Stands same s'') (sym (with-more events t.taken q now)) (step (with_requests events t.taken now) (t.stands events h));
+  }
+
+  pub vain-none : (fuel count : ℕ) (s s' : Schedule M) (r r' r'' : R) → Taking s r s' r' count → count < fuel → told r'' ≡ told r' → AskedInVain same told now fuel s r s' r''
+  vain-none fuel count s s' r r' r'' t l same-told = record {
+    came = t.taken;
+    held = t.taken;
+    dropped = None;
+    all = sym (append-nil t.taken);
+    tells = same-told ∙ t.tells;
+    few = (let k = t.counts in omega arith);
+    stands = t.stands;
+  }
+
+  pub vain-last : (fuel count : ℕ) (s s' s'' : Schedule M) (r r' r'' : R) (q : ScheduleRequest M) → Taking s r s' r' count → count < fuel → told r'' ≡ grown (told r') (Item q) → s'' ≡ s' → AskedInVain same told now fuel s r s'' r''
+  vain-last fuel count s s' s'' r r' r'' q t l tells stays = record {
+    came = t.taken ++ q ∷ [];
+    held = t.taken;
+    dropped = Some q;
+    all = refl;
+    tells = tells ∙ ap (λ x. grown x (Item q)) t.tells ∙ grown-more (told r) (items t.taken) (Item q) ∙ ap (grown_by (told r)) (items-more t.taken q);
+    few = (let e = length_push t.taken q in let k = t.counts in omega arith);
+    stands = λ events h. subst (λ z. Stands same z (with_requests events t.taken now)) (sym stays) (t.stands events h);
   }
 
   pub asked-filled : (fuel : ℕ) (s s' : Schedule M) (r r' : R) → Taking s r s' r' fuel → Asked same told now fuel s r s' r' Filled 0

@@ -1,5 +1,6 @@
 -- What a poll of a scheduler over a stream of requests does. (Crate: `Scheduler`, `HoldUnless` and `Hold`, as streams.)
-use Rattle.std.specs.Prelude.{◌≡◌, ◌↔◌, ℕ, ◌+◌, length, zero, suc, Bool, true, false, List, [], ◌∷◌, Option, Some, None}
+use Rattle.std.specs.Prelude.{◌≡◌, ◌↔◌, ℕ, ◌+◌, ◌≤◌, length, map, zero, suc, Bool, true, false, List, [], ◌∷◌, ◌++◌, Option, Some, None}
+use Rattle.std.specs.List.{cons_option}
 use Rattle.kube_meta.specs.declared.moment.Moment.{Moment}
 use Rattle.kube_meta.specs.declared.poll.Next.{Next}
 use Rattle.kube_meta.specs.declared.poll.Next.TheVariants.{Item, NotReady, Spent, End}
@@ -60,6 +61,21 @@ pub record Asked {M R : Type 0} (same : M → M → Bool) (told : R → Option (
   pub ended : ending_of fuel answers ≡ Some ending
   pub counted : left + length (requests_in answers) ≡ fuel
   pub stands : (events : List (QueueEvent M)) → Stands same s events → Stands same s' (with_requests events (requests_in answers) now)
+
+-- memory was wanting: requests alone came, no more than may be taken, and what is held is what all of them left, or all but the last
+pub record AskedInVain {M R : Type 0} (same : M → M → Bool) (told : R → Option (List (Answer M))) (now : Moment) (fuel : ℕ)
+    (s : Schedule M) (r : R) (s' : Schedule M) (r' : R) : Type 0 where
+  pub came : List (ScheduleRequest M)
+  pub held : List (ScheduleRequest M)
+  pub dropped : Option (ScheduleRequest M)
+  pub all : came ≡ held ++ cons_option dropped []
+  pub tells : told r' ≡ grown_by (told r) (map Item came)
+  pub few : length came ≤ fuel
+  pub stands : (events : List (QueueEvent M)) → Stands same s events → Stands same s' (with_requests events held now)
+
+-- so of a schedule with its requests
+abbrev pub Lost : {M R : Type 0} → (M → M → Bool) → (R → Option (List (Answer M))) → Moment → ℕ → Stream M R → Stream M R → Type 0
+Lost same told now fuel s s' = AskedInVain same told now fuel s.schedule s.requests s'.schedule s'.requests
 
 -- no requests are asked for once they have ended
 abbrev pub ending_at : {M : Type 0} → Bool → ℕ → List (Answer M) → Option Ending

@@ -1,8 +1,8 @@
 //! How a scheduler takes requests.
 
-ghost use Rattle.std.specs.Prelude.{◌≡◌, ◌+◌, ◌≤◌, IfOk};
+ghost use Rattle.std.specs.Prelude.{◌≡◌, ◌+◌, ◌≤◌, IfOk, OnErr};
 ghost use Rattle.kube_sched.specs.Schedule.{held_len};
-ghost use Rattle.kube_sched.specs.Polls.{Asked};
+ghost use Rattle.kube_sched.specs.Polls.{Asked, AskedInVain};
 
 use crate::request::ScheduleRequest;
 use crate::requests::Requests;
@@ -24,6 +24,10 @@ pub enum Ending {
 
 /// Takes requests until none is ready, at most `fuel` of them. It answers how that ended, and how many more it might
 /// have taken.
+///
+/// # Errors
+///
+/// `NoMemory` where there was none for a request or where the requests answered so. What came before is held.
 pub fn take_requests<T: Eq + Hash + Drop, R: Requests<T>>(
     alloc: Global,
     scheduler: &mut Scheduler<T>,
@@ -34,6 +38,7 @@ pub fn take_requests<T: Eq + Hash + Drop, R: Requests<T>>(
     ensures asked { IfOk result (λ asks. Asked T.eq R.told now fuel scheduler.old requests.old scheduler.new requests.new asks.0 asks.1) }
     ensures held { IfOk result (λ asks. held_len scheduler.new + asks.1 ≤ held_len scheduler.old + fuel) }
     ensures debounce { scheduler.new.debounce ≡ scheduler.old.debounce }
+    ensures lost { OnErr result (AskedInVain T.eq R.told now fuel scheduler.old requests.old scheduler.new requests.new) }
 {
     for taken in 0..fuel {
         let left = fuel - taken;

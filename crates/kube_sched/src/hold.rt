@@ -1,9 +1,9 @@
 //! Views of a scheduler that hold messages back (kube-runtime's `HoldUnless` and `Hold`).
 
-ghost use Rattle.std.specs.Prelude.{◌≡◌, true, IfOk, OnErr, IsErr};
+ghost use Rattle.std.specs.Prelude.{◌≡◌, true, false, IfOk, OnErr, IsErr};
 ghost use Rattle.std.specs.Fn.{FnReturnsAt};
 ghost use Rattle.kube_sched.specs.Schedule.{passes_none};
-ghost use Rattle.kube_sched.specs.Polls.{Polled};
+ghost use Rattle.kube_sched.specs.Polls.{Lost, Polled};
 
 use crate::requests::Requests;
 use crate::scheduled::Scheduled;
@@ -57,6 +57,7 @@ impl<T: Eq + Hash + Drop, R: Requests<T>, C: Fn(&T) -> bool> HoldUnless<'_, T, R
         ensures polled { IfOk result (λ a. Polled T.eq (FnReturnsAt C.Fn self.old.can_take_message) R.told now fuel self.old.scheduled.now self.new.scheduled.now a) }
         ensures spent { OnErr result (self.new.scheduled.now.is_spent ≡ true) }
         ensures stays_spent { self.old.scheduled.now.is_spent ≡ true → IsErr result }
+        ensures lost { self.old.scheduled.now.is_spent ≡ false → OnErr result (Lost T.eq R.told now fuel self.old.scheduled.now self.new.scheduled.now) }
         ensures unchanged { self.old.scheduled.now.is_spent ≡ true → self.new.scheduled.now ≡ self.old.scheduled.now }
         ensures same_reference { self.new.scheduled.ghost_name ≡ self.old.scheduled.ghost_name }
         ensures passes { self.new.can_take_message ≡ self.old.can_take_message }
@@ -76,6 +77,7 @@ impl<T: Eq + Hash + Drop, R: Requests<T>> Hold<'_, T, R> {
         ensures polled { IfOk result (λ a. Polled T.eq passes_none R.told now fuel self.old.scheduled.now self.new.scheduled.now a) }
         ensures spent { OnErr result (self.new.scheduled.now.is_spent ≡ true) }
         ensures stays_spent { self.old.scheduled.now.is_spent ≡ true → IsErr result }
+        ensures lost { self.old.scheduled.now.is_spent ≡ false → OnErr result (Lost T.eq R.told now fuel self.old.scheduled.now self.new.scheduled.now) }
         ensures unchanged { self.old.scheduled.now.is_spent ≡ true → self.new.scheduled.now ≡ self.old.scheduled.now }
         ensures same_reference { self.new.scheduled.ghost_name ≡ self.old.scheduled.ghost_name }
     {

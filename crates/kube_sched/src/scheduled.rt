@@ -70,7 +70,7 @@ fn given<T>(first: Option<T>) -> Next<T>
 
 impl<T: Eq + Hash + Drop, R: Requests<T>> Scheduled<T, R> {
     ghost use Rattle.kube_sched.specs.Schedule.{Stands, passes_all, passes_none, held_len};
-    ghost use Rattle.kube_sched.specs.Polls.{Prepared, Polled, CountedPoll};
+    ghost use Rattle.kube_sched.specs.Polls.{Prepared, Polled, CountedPoll, Lost};
 
     // Takes requests until none is ready, and lets wait what is due.
     fn prepare(&mut self, alloc: Global, now: Moment, fuel: u32) -> Result<(Ending, u32), NoMemory>
@@ -78,6 +78,7 @@ impl<T: Eq + Hash + Drop, R: Requests<T>> Scheduled<T, R> {
         ensures held { IfOk result (λ asks. held_len self.new.schedule + asks.1 ≤ held_len self.old.schedule + fuel) }
         ensures spent { OnErr result (self.new.is_spent ≡ true) }
         ensures stays_spent { self.old.is_spent ≡ true → IsErr result }
+        ensures lost { self.old.is_spent ≡ false → OnErr result (Lost T.eq R.told now fuel self.old self.new) }
         ensures unchanged { self.old.is_spent ≡ true → self.new ≡ self.old }
     {
         if self.is_spent {
@@ -111,11 +112,13 @@ impl<T: Eq + Hash + Drop, R: Requests<T>> Scheduled<T, R> {
     ///
     /// # Errors
     ///
-    /// `NoMemory` where there was none for what the requests asked, and in each poll after that.
+    /// `NoMemory` where there was none for what the requests asked, and in each poll after that. Requests alone came then, `fuel` at
+    /// most, and what is held is what all of them left, or all but the last.
     pub fn poll_next(&mut self, alloc: Global, now: Moment, fuel: u32) -> Result<Next<T>, NoMemory>
         ensures polled { IfOk result (λ a. Polled T.eq passes_all R.told now fuel self.old self.new a) }
         ensures spent { OnErr result (self.new.is_spent ≡ true) }
         ensures stays_spent { self.old.is_spent ≡ true → IsErr result }
+        ensures lost { self.old.is_spent ≡ false → OnErr result (Lost T.eq R.told now fuel self.old self.new) }
         ensures unchanged { self.old.is_spent ≡ true → self.new ≡ self.old }
     {
         let passes = |_message: &T| -> bool
@@ -136,6 +139,7 @@ impl<T: Eq + Hash + Drop, R: Requests<T>> Scheduled<T, R> {
         ensures polled { IfOk result (λ a. Polled T.eq (FnReturnsAt C.Fn passes.now) R.told now fuel self.old self.new a) }
         ensures spent { OnErr result (self.new.is_spent ≡ true) }
         ensures stays_spent { self.old.is_spent ≡ true → IsErr result }
+        ensures lost { self.old.is_spent ≡ false → OnErr result (Lost T.eq R.told now fuel self.old self.new) }
         ensures unchanged { self.old.is_spent ≡ true → self.new ≡ self.old }
     {
         Ok(self.poll_counted(alloc, now, fuel, passes)?.0)
@@ -155,6 +159,7 @@ impl<T: Eq + Hash + Drop, R: Requests<T>> Scheduled<T, R> {
         ensures passes { IfOk result (λ c. (m : _) → c.0 ≡ Next.Item m → FnReturnsAt C.Fn passes.now m true) }
         ensures spent { OnErr result (self.new.is_spent ≡ true) }
         ensures stays_spent { self.old.is_spent ≡ true → IsErr result }
+        ensures lost { self.old.is_spent ≡ false → OnErr result (Lost T.eq R.told now fuel self.old self.new) }
         ensures unchanged { self.old.is_spent ≡ true → self.new ≡ self.old }
     {
         let (ending, left) = self.prepare(alloc, now, fuel)?;
@@ -175,6 +180,7 @@ impl<T: Eq + Hash + Drop, R: Requests<T>> Scheduled<T, R> {
         ensures polled { IfOk result (λ a. Polled T.eq passes_none R.told now fuel self.old self.new a) }
         ensures spent { OnErr result (self.new.is_spent ≡ true) }
         ensures stays_spent { self.old.is_spent ≡ true → IsErr result }
+        ensures lost { self.old.is_spent ≡ false → OnErr result (Lost T.eq R.told now fuel self.old self.new) }
         ensures unchanged { self.old.is_spent ≡ true → self.new ≡ self.old }
     {
         let passes = |_message: &T| -> bool

@@ -8,7 +8,7 @@ ghost use Rattle.kube_meta.specs.Resources.{resource_type};
 ghost use Rattle.kube_meta.specs.Reading.{seen_object};
 ghost use Rattle.kube_api.specs.Patches.{operation_of};
 ghost use Rattle.kube_api.specs.declared.patch.PatchRefusal.TheVariants.{NoMemory as patch_memory, NotFound as patch_missing};
-ghost use Rattle.kube_server.specs.History.{key_of, change_seen, object_at, state_of, IsNextChange, IsHistory, IsLater};
+ghost use Rattle.kube_server.specs.History.{key_of, change_seen, object_at, objects_of, state_of, IsNextChange, IsHistory, IsLater};
 ghost use Rattle.kube_server.specs.Servers.{ServerState, meta_of, newest, next_revision, reference_key, held_under, held, held_object, IsStep, IsAtMostStep, IsMade, IsHeldAnd, IsPatched, put_change, remove_change, deletion, patch_change, IsPatchRefusal, compacted_to, removal};
 ghost use Rattle.kube_server.specs.Stored.{change_of, key_at};
 
@@ -283,6 +283,16 @@ impl Server {
     {
         let place = place_named(alloc, key)?;
         Ok(self.stored(key, &place))
+    }
+
+    /// The objects that the newest revision has, in the order of references (by namespace, none first, then by name);
+    /// they are shared.
+    ///
+    /// Errors: `NoMemory`.
+    pub fn objects(&self, alloc: Global) -> Result<Vec<Arc<DynamicObject>>, NoMemory>
+        ensures { IfOk result (λ v. map arc_value v.items ≡ objects_of (state_of meta_of self.now.changes)) }
+    {
+        self.objects.all(alloc)
     }
 
     // The entries from the first on.

@@ -37,7 +37,7 @@ fn set_one_by_one(alloc: Global) -> Result<Config, NoMemory> {
 fn settings_are_made_one_by_one(rt: HostRuntime) -> Result<(), Fail> {
     let shown = shown(rt.alloc(), set_one_by_one(rt.alloc()))?;
     let wanted =
-        "Config { label_selector: Some(Text { inner: \"app=b\" }), field_selector: Some(Text { inner: \"metadata.name=a\" }), timeout: Some(30), list_semantic: Any, initial_list_strategy: StreamingList, page_size: Some(7), bookmarks: false }";
+        "Config { label_selector: Some(\"app=b\"), field_selector: Some(\"metadata.name=a\"), timeout: Some(30), list_semantic: Any, initial_list_strategy: StreamingList, page_size: Some(7), bookmarks: false }";
     assert_eq!(rt; shown.as_str(), wanted);
     Ok(())
 }
@@ -72,7 +72,7 @@ fn with_labels(alloc: Global) -> Result<Config, NoMemory> {
 fn a_selector_gives_its_text(rt: HostRuntime) -> Result<(), Fail> {
     let shown = shown(rt.alloc(), with_labels(rt.alloc()))?;
     let wanted =
-        "Config { label_selector: Some(Text { inner: \"app,!canary\" }), field_selector: None, timeout: None, list_semantic: MostRecent, initial_list_strategy: ListWatch, page_size: Some(500), bookmarks: true }";
+        "Config { label_selector: Some(\"app,!canary\"), field_selector: None, timeout: None, list_semantic: MostRecent, initial_list_strategy: ListWatch, page_size: Some(500), bookmarks: true }";
     assert_eq!(rt; shown.as_str(), wanted);
     Ok(())
 }

@@ -1,8 +1,9 @@
 use Rattle.std.proofs.Common.{◌≡◌, ◌-◌, [], ◌∷◌, ◌∙◌, ap, subst, arith}
+use Rattle.std.proofs.lemmas.Result.{err_from_is_err_and}
 use Rattle.kube_model.specs.Raw.{grown}
 use Rattle.kube_sched.specs.declared.asks.Ending.TheVariants.{Waits, Ends}
 use Rattle.kube_sched.specs.Polls.{Answer, requests_in, ends_by}
-use Rattle.kube_sched.proofs.Polls.{Taking, taking-more, asked-filled, asked-then}
+use Rattle.kube_sched.proofs.Polls.{Taking, taking-more, asked-filled, asked-then, vain-none, vain-last}
 use Rattle.kube_sched.proofs.asks.take_requests.Goals as goal
 
 pub returns-in-NotReady-clause-asked : goal.returns-in-NotReady-clause-asked
@@ -31,6 +32,19 @@ returns-clause-asked g c =
     let all : c.loop-taken.taken ≡ c.args.fuel = (let a = c.loop-taken.auto.taken-end in let b = c.loop-taken-test.false in omega arith) in
     asked-filled g.T.PartialEq.eq g.R.Requests.told c.args.now c.args.fuel c.args.scheduler.now c.loop-taken.scheduler c.args.requests.now c.loop-taken.requests
     (subst (Taking g.T.PartialEq.eq g.R.Requests.told c.args.now c.args.scheduler.now c.args.requests.now c.loop-taken.scheduler c.loop-taken.requests) all c.loop-taken.invariant.takes)
+
+pub returns-in_err-request-clause-lost : goal.returns-in_err-request-clause-lost
+returns-in_err-request-clause-lost g c =
+    let p = err_from_is_err_and c.from_residual.result c.from_residual.ensures.1 in
+    rw p.1 (vain-none g.T.PartialEq.eq g.R.Requests.told c.args.now c.args.fuel c.loop-taken.taken c.args.scheduler.now c.loop-taken.scheduler c.args.requests.now c.loop-taken.requests c.poll_request.new.self
+    c.loop-taken.invariant.takes c.loop-taken-test.true c.in_err-request.ensures.unchanged)
+
+pub returns-in_err-take_in-in-Item-clause-lost : goal.returns-in_err-take_in-in-Item-clause-lost
+returns-in_err-take_in-in-Item-clause-lost g c =
+    let p = err_from_is_err_and c.from_residual-in_err-take_in-in-Item.result c.from_residual-in_err-take_in-in-Item.ensures.1 in
+    rw p.1 (vain-last g.T.PartialEq.eq g.R.Requests.told c.args.now c.args.fuel c.loop-taken.taken c.args.scheduler.now c.loop-taken.scheduler c.take_in.new.self c.args.requests.now c.loop-taken.requests c.poll_request.new.self
+    c.in-Item.request c.loop-taken.invariant.takes c.loop-taken-test.true
+    (c.in_ok-request.ensures.grows ∙ ap (grown (g.R.Requests.told c.loop-taken.requests)) c.in-Item.is) c.in_err-take_in-in-Item.ensures.err)
 
 pub loop-taken-preserved : goal.loop-taken-preserved
 loop-taken-preserved g c = record {
