@@ -62,9 +62,9 @@ module _ {A V : Type 0} (meta : V → ObjectMeta) (own : List (Dated V)) (r : Ro
   requests-are source requests = (after-it source requests).asked
 
   -- the list under way, after whatever exchange has this call and answer
-  pub stands-now : (at source : ℕ) (requests : List Message) (r' : RootWatching A V) → settings_in r'.watcher ≡ settings_in r.watcher → r'.kind ≡ r.kind → r'.listing ≡ noted-of.listing
+  pub stands-now : (at source : ℕ) (requests : List Message) (r' : RootWatching A V) → settings_in r'.watcher ≡ settings_in r.watcher → r'.kind ≡ r.kind → r'.listing ≡ noted-of.listing → r'.fault ≡ None
       → StandsFor (own ++ dated_now at (made source requests) ∷ []) r'.watcher → RootStands meta (own ++ dated_now at (made source requests) ∷ []) r'
-  stands-now at source requests r' same kind listing stands = record {
+  stands-now at source requests r' same kind listing sound stands = record {
     watcher = stands;
     list =
         subst (λ t. IsListing (updated_of t meta) (settings_in r'.watcher) (exchanges_in (own ++ dated_now at (made source requests) ∷ [])) r'.listing) (sym kind)
@@ -72,6 +72,7 @@ module _ {A V : Type 0} (meta : V → ObjectMeta) (own : List (Dated V)) (r : Ro
         (subst (λ s. IsListing (updated_of r.kind meta) s (exchanges_in (own ++ dated_now at (made source requests) ∷ [])) noted-of.listing) (sym same)
         (subst (λ xs. IsListing (updated_of r.kind meta) (settings_in r.watcher) xs noted-of.listing) (sym (map-append (λ (d : Dated V). d.exchange) own (dated_now at (made source requests) ∷ [])))
         (after-it source requests).list)));
+    sound = sound;
   }
 
   pub next-now : (at : ℕ) (requests : List Message) → TextsFit answer

@@ -1,5 +1,5 @@
 -- What one source may exchange, told by its own exchanges alone. O is the type of the root's objects. (Crate: the streams that `trigger_with` merges.)
-use Rattle.std.specs.Prelude.{◌≡◌, ℕ, Bool, true, false, not, List, [], ◌∷◌, map, Option, Some, None, unwrap_or, slice_get, IsTrue}
+use Rattle.std.specs.Prelude.{◌≡◌, ℕ, Bool, true, false, not, List, [], ◌∷◌, map, Option, Some, None, Result, Ok, Err, unwrap_or, slice_get, IsTrue}
 use Rattle.kube_meta.specs.Reference.{ObjectType}
 use Rattle.kube_meta.specs.declared.metadata.ObjectMeta.{ObjectMeta}
 use Rattle.kube_meta.specs.Keys.{key_of, is_named}
@@ -9,7 +9,13 @@ use Rattle.kube_model.specs.World.{World, is_watched, Feed, Settings, Watched, S
 use Rattle.kube_model.specs.History.{Dated, Exchange}
 use Rattle.kube_model.specs.Owed.{owed, is_next}
 use Rattle.kube_model.specs.Fits.{idle_fits, is_window_over, silent_since, IsAnswered, IsOfRelated, IsOfRoot}
+use Rattle.kube_watch.specs.declared.stream.StreamFault.{StreamFault}
 use Rattle.kube_watch.specs.Stands.{exchanges_in}
+
+-- the fault that was answered, if any
+abbrev pub fault_answered : {X : Type 0} → Result X StreamFault → Option StreamFault
+fault_answered (Ok answer) = None
+fault_answered (Err fault) = Some fault
 
 abbrev pub is_stream : Call → Bool
 is_stream Stream = true

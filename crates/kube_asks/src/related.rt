@@ -10,13 +10,13 @@ use std::alloc::Global;
 /// What it stands for is told by its own exchanges alone. It doesn't know its number: what it stands for is the same
 /// whatever the source of an exchange.
 pub trait Related<K: Resource>: Drop {
-    ghost use Rattle.std.specs.Prelude.{ℕ, List, Option, ◌∷◌, [], ◌++◌, IfOk, IsErrOf, ◌≡◌, ⊤};
+    ghost use Rattle.std.specs.Prelude.{ℕ, List, Option, Some, Err, ◌∷◌, [], ◌++◌, IfOk, IsErrOf, ◌≡◌, ⊤};
     ghost use Rattle.kube_model.specs.World.{Settings};
     ghost use Rattle.kube_model.specs.History.{Dated, Exchange};
     ghost use Rattle.kube_watch.specs.Polls.{dated_now};
     ghost use Rattle.kube_watch.specs.declared.stream.StreamFault.{StreamFault};
     ghost use Rattle.kube_turn.specs.Views.{exchange_of};
-    ghost use Rattle.kube_asks.specs.Sources.{IsRelatedNext, IsSame, fed};
+    ghost use Rattle.kube_asks.specs.Sources.{IsRelatedNext, IsSame, fault_answered, fed};
 
     /// How it lists and watches, or none where it is a stream. No poll changes that.
     ghost settings: { Self → Option Settings };
@@ -30,6 +30,9 @@ pub trait Related<K: Resource>: Drop {
     /// The exchanges of its own of which it keeps what the definitions give.
     ghost stands: { Self → List (Dated K) → Type 0 };
 
+    /// The fault that it answered last, which is all that it answers from then on; none where there was no fault.
+    ghost fault: { Self → Option StreamFault };
+
     /// What an exchange after its own before, at a moment in nanoseconds, makes of it: the call of its API or the answer
     /// of its stream, and what its mapper answered. Where it doesn't say so that may be anything.
     ghost polls: { Self → List (Dated K) → ℕ → Exchange K → Self → Type 0 } = { λ _ _ _ _ _. ⊤ };
@@ -42,8 +45,8 @@ pub trait Related<K: Resource>: Drop {
 
     /// Makes the exchange that is next for it, at a moment.
     ///
-    /// Errors: `Unnamed` where an item of that exchange must become a reference and has no name; `NoMemory`. After one it
-    /// must not be polled any more.
+    /// Errors: `Unnamed` where an item of that exchange must become a reference and has no name; `NoMemory`. After one
+    /// only that, and nothing is asked.
     fn poll_unit(&mut self, alloc: Global, now: Moment) -> Result<SourceExchange<K>, StreamFault>
         requires may { can_poll self.old }
         ensures may { can_poll self.new }
@@ -54,5 +57,7 @@ pub trait Related<K: Resource>: Drop {
         ensures polls { IfOk result (λ x. (own : List (Dated K)) (y : Exchange K) → stands self.old own → IsSame (exchange_of K.type_of x) y
             → polls self.old own now.0 y self.new) }
         ensures unnamed { IsErrOf result StreamFault.Unnamed → breaks self.old now.0 self.new }
-        ensures lost { IsErrOf result StreamFault.NoMemory → loses self.old now.0 self.new };
+        ensures lost { IsErrOf result StreamFault.NoMemory → loses self.old now.0 self.new }
+        ensures fault { fault self.new ≡ fault_answered result }
+        ensures after { (f : StreamFault) → fault self.old ≡ Some f → (result ≡ Err f) × (self.new ≡ self.old) };
 }

@@ -1,5 +1,8 @@
 //! Related sources that list and watch.
 
+ghost use Rattle.std.specs.Prelude.{◌≡◌};
+ghost use Rattle.kube_asks.specs.Sources.{fault_answered};
+
 use crate::mapper::Mapper;
 use crate::mapping::map_unit;
 use crate::related::Related;
@@ -17,6 +20,18 @@ pub struct RelatedWatch<A: ApiMode, M> {
     watcher: Watcher<A>,
     dyntype: <A::Value as Resource>::DynamicType,
     mapper: M,
+    /// What it answered, and answers from then on.
+    fault: Option<StreamFault>,
+}
+
+/// The fault that was answered, if any.
+fn fault_in<T>(answer: &Result<T, StreamFault>) -> Option<StreamFault>
+    ensures { result ≡ fault_answered answer.now }
+{
+    match answer {
+        Ok(_) => None,
+        Err(fault) => Some(*fault),
+    }
 }
 
 impl<A: ApiMode, M> Model for RelatedWatch<A, M> {
@@ -24,11 +39,11 @@ impl<A: ApiMode, M> Model for RelatedWatch<A, M> {
 
     ghost Value = { MappedWatching A A.Value M };
 
-    ghost view = { λ r. record { watcher = r.watcher; kind = A.Value.type_of r.dyntype; mapper = r.mapper } };
+    ghost view = { λ r. record { watcher = r.watcher; kind = A.Value.type_of r.dyntype; mapper = r.mapper; fault = r.fault } };
 }
 
 impl<A: ApiMode, M> RelatedWatch<A, M> {
-    ghost use Rattle.std.specs.Prelude.{◌≡◌, []};
+    ghost use Rattle.std.specs.Prelude.{◌≡◌, [], None};
     ghost use Rattle.kube_watch.specs.Stands.{StandsFor, api_of, config_of};
 
     /// A source that has made no call, of objects of this type.
@@ -43,12 +58,13 @@ impl<A: ApiMode, M> RelatedWatch<A, M> {
         ensures config { config_of result.watcher ≡ config }
         ensures kind { result.kind ≡ A.Value.type_of dyntype }
         ensures mapper { result.mapper ≡ mapper }
-        ensures stands { StandsFor [] result.watcher }
+        ensures stands { StandsFor [] result.watcher × (result.fault ≡ None) }
     {
         RelatedWatch {
             watcher: watcher(alloc, api, config),
             dyntype,
             mapper,
+            fault: None,
         }
     }
 }
@@ -65,7 +81,9 @@ impl<K: Resource, A: ApiMode, M: Mapper<A::Value, K>> Related<K> for RelatedWatc
 
     ghost can_poll = { λ r. M.can_map r.mapper };
 
-    ghost stands = { λ r own. RelatedStands own r.watcher };
+    ghost stands = { λ r own. RelatedStands own r };
+
+    ghost fault = { λ r. r.fault };
 
     ghost alike = { λ a b. AreMappedAlike a b };
 
@@ -73,12 +91,19 @@ impl<K: Resource, A: ApiMode, M: Mapper<A::Value, K>> Related<K> for RelatedWatc
         (IsMappedTo old.kind A.Value.meta_of (M.answers old.mapper)) (λ o. is_named (A.Value.meta_of o)) own now old x new };
 
     ghost breaks = { λ old now new. IsRelatedBroken K (record { moves = A.moves; talk = A.talk; faults = A.faults; version = version_of A.Value.meta_of })
-        (λ o. is_named (A.Value.meta_of o)) now old.watcher new.watcher };
+        (λ o. is_named (A.Value.meta_of o)) now old new };
 
-    ghost loses = { λ old now new. IsRelatedLost K A.talk old.watcher new.watcher };
+    ghost loses = { λ old now new. IsRelatedLost K A.talk old new };
 
     fn poll_unit(&mut self, alloc: Global, now: Moment) -> Result<SourceExchange<K>, StreamFault> {
+        if let Some(fault) = self.fault {
+            return Err(fault);
+        }
+        // until all is well
+        self.fault = Some(StreamFault::NoMemory);
         let unit = self.watcher.poll_unit(alloc, now)?;
-        map_unit(alloc, &self.mapper, &self.dyntype, unit)
+        let answer = map_unit(alloc, &self.mapper, &self.dyntype, unit);
+        self.fault = fault_in(&answer);
+        answer
     }
 }

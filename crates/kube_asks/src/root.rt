@@ -7,14 +7,14 @@ use std::alloc::Global;
 
 /// A source of the objects that are reconciled (the main stream of kube-runtime's `Controller`).
 pub trait RootSource: Drop {
-    ghost use Rattle.std.specs.Prelude.{ℕ, List, ◌∷◌, [], ◌++◌, IfOk, IsErrOf, ◌≡◌, ⊤};
+    ghost use Rattle.std.specs.Prelude.{ℕ, List, Option, Some, Err, ◌∷◌, [], ◌++◌, IfOk, IsErrOf, ◌≡◌, ⊤};
     ghost use Rattle.kube_meta.specs.Reference.{ObjectType};
     ghost use Rattle.kube_model.specs.World.{Feed, is_queue};
     ghost use Rattle.kube_model.specs.History.{Dated, Exchange};
     ghost use Rattle.kube_watch.specs.Polls.{dated_now};
     ghost use Rattle.kube_watch.specs.declared.stream.StreamFault.{StreamFault};
     ghost use Rattle.kube_turn.specs.Views.{exchange_of};
-    ghost use Rattle.kube_asks.specs.Sources.{IsRootNext, IsSame};
+    ghost use Rattle.kube_asks.specs.Sources.{IsRootNext, IsSame, fault_answered};
 
     /// The type of its objects.
     type Object: Resource;
@@ -30,6 +30,9 @@ pub trait RootSource: Drop {
 
     /// The exchanges of its own of which it keeps what the definitions give.
     ghost stands: { Self → List (Dated Self.Object) → Type 0 };
+
+    /// The fault that it answered last, which is all that it answers from then on; none where there was no fault.
+    ghost fault: { Self → Option StreamFault };
 
     /// What an exchange after its own before, at a moment in nanoseconds, makes of it: the call of its API or the answer
     /// of its stream. Where it doesn't say so that may be anything.
@@ -51,8 +54,8 @@ pub trait RootSource: Drop {
 
     /// Makes the exchange that is next for it, at a moment. Its source is 0.
     ///
-    /// Errors: `Unnamed` where an item of that exchange must become a reference and has no name; `NoMemory`. After one it
-    /// must not be polled any more.
+    /// Errors: `Unnamed` where an item of that exchange must become a reference and has no name; `NoMemory`. After one
+    /// only that, and nothing is asked.
     fn poll_root(
         &mut self,
         alloc: Global,
@@ -68,5 +71,7 @@ pub trait RootSource: Drop {
             → stands self.new (own ++ dated_now now.0 y ∷ [])) }
         ensures polls { IfOk result (λ x. (own : List (Dated Self.Object)) → stands self.old own → polls self.old own now.0 (exchange_of Self.Object.type_of x) self.new) }
         ensures unnamed { IsErrOf result StreamFault.Unnamed → breaks self.old now.0 self.new }
-        ensures lost { IsErrOf result StreamFault.NoMemory → loses self.old now.0 self.new };
+        ensures lost { IsErrOf result StreamFault.NoMemory → loses self.old now.0 self.new }
+        ensures fault { fault self.new ≡ fault_answered result }
+        ensures after { (f : StreamFault) → fault self.old ≡ Some f → (result ≡ Err f) × (self.new ≡ self.old) };
 }

@@ -20,6 +20,8 @@ pub struct WatchRoot<A: ApiMode> {
     dyntype: <A::Value as Resource>::DynamicType,
     /// The requests of the list under way, as it came.
     listing: List<ReconcileRequest<A::Value>>,
+    /// What it answered, and answers from then on.
+    fault: Option<StreamFault>,
 }
 
 impl<A: ApiMode> Model for WatchRoot<A> {
@@ -33,6 +35,7 @@ impl<A: ApiMode> Model for WatchRoot<A> {
       watcher = r.watcher;
       kind = A.Value.type_of r.dyntype;
       listing = map (message_of A.Value.type_of) r.listing;
+      fault = r.fault;
     } };
 }
 
@@ -60,6 +63,7 @@ impl<A: ApiMode> WatchRoot<A> {
             watcher: watcher(alloc, api, config),
             dyntype,
             listing: List::new(alloc),
+            fault: None,
         }
     }
 
@@ -87,6 +91,8 @@ impl<A: ApiMode> RootSource for WatchRoot<A> {
 
     ghost stands = { λ r own. RootStands A.Value.meta_of own r };
 
+    ghost fault = { λ r. r.fault };
+
     ghost polls = { λ old own now x new. IsRootPoll A.Value.meta_of (record { moves = A.moves; talk = A.talk; faults = A.faults; version = version_of A.Value.meta_of }) own now old x new };
 
     ghost breaks = { λ old now new. IsRootBroken A.Value.meta_of (record { moves = A.moves; talk = A.talk; faults = A.faults; version = version_of A.Value.meta_of }) now old new };
@@ -106,14 +112,23 @@ impl<A: ApiMode> RootSource for WatchRoot<A> {
         alloc: Global,
         now: Moment,
     ) -> Result<SourceExchange<A::Value>, StreamFault> {
+        if let Some(fault) = self.fault {
+            return Err(fault);
+        }
+        // until all is well
+        self.fault = Some(StreamFault::NoMemory);
         let unit = self.watcher.poll_unit(alloc, now)?;
         let listing = std::mem::replace(&mut self.listing, List::new(alloc));
         match note_unit(alloc, &self.dyntype, listing, unit) {
             Ok((exchange, listing)) => {
                 self.listing = listing;
+                self.fault = None;
                 Ok(exchange)
             }
-            Err(fault) => Err(fault),
+            Err(fault) => {
+                self.fault = Some(fault);
+                Err(fault)
+            }
         }
     }
 }

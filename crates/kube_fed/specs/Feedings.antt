@@ -1,7 +1,8 @@
 -- How a stream that feeds a source is asked. S is the type of streams, I that of what they give. (Crate: the stream of `Controller::for_stream`, the queue of `applier`; futures: `StreamExt::fuse`.)
-use Rattle.std.specs.Prelude.{◌≡◌, ℕ, Bool, true, false, Ok, Err}
+use Rattle.std.specs.Prelude.{◌≡◌, ℕ, Bool, true, false, Option, Some, None, Ok, Err}
 use Rattle.kube_meta.specs.declared.poll.Next.TheVariants.{Item, NotReady, Spent, End}
 use Rattle.kube_watch.specs.Streams.{Answer}
+use Rattle.kube_watch.specs.declared.stream.StreamFault.{StreamFault}
 use Rattle.kube_watch.specs.declared.stream.StreamFault.TheVariants.{NoMemory, Unnamed}
 use Rattle.kube_fed.specs.declared.feeding.Standing.{Standing}
 use Rattle.kube_fed.specs.declared.feeding.Standing.TheVariants.{Open, Ended, Failed}
@@ -19,6 +20,12 @@ abbrev pub has_ended : Standing → Bool
 has_ended Open = false
 has_ended Ended = true
 has_ended (Failed fault) = false
+
+-- the fault that came of it, which is all that is answered from then on
+abbrev pub failed_in : Standing → Option StreamFault
+failed_in Open = None
+failed_in Ended = None
+failed_in (Failed fault) = Some fault
 
 module _ {S I : Type 0} (polls : S → ℕ → ℕ → Answer I → S → Type 0) where
   -- an open stream is polled once, with fuel 1; one that has ended tells not ready, and one of which a fault came answers that, and neither is polled

@@ -58,10 +58,11 @@ impl<St> Feeding<St> {
 }
 
 impl<St: EventStream> Feeding<St> {
-    ghost use Rattle.std.specs.Prelude.{IfErr};
-    ghost use Rattle.kube_watch.specs.Asking.{Said};
+    ghost use Rattle.std.specs.Prelude.{IfErr, Some, Err};
+    ghost use Rattle.kube_watch.specs.declared.stream.StreamFault.{StreamFault as fault_data};
+    ghost use Rattle.kube_watch.specs.Asking.{Said, fault_in};
     ghost use Rattle.kube_fed.specs.declared.feeding.Standing.TheVariants.{Failed};
-    ghost use Rattle.kube_fed.specs.Feedings.{IsAsked};
+    ghost use Rattle.kube_fed.specs.Feedings.{IsAsked, failed_in};
 
     /// What the stream answers a poll with fuel 1; `NotReady` without a poll where it has ended.
     ///
@@ -75,6 +76,8 @@ impl<St: EventStream> Feeding<St> {
         ensures may { St.can_poll self.new.stream }
         ensures asked { IsAsked (Said St.polls St.told) now.0 self.old result self.new }
         ensures fault { IfErr result (λ f. self.new.standing ≡ Failed f) }
+        ensures standing { failed_in self.new.standing ≡ fault_in result }
+        ensures after { (f : fault_data) → failed_in self.old.standing ≡ Some f → (result ≡ Err f) × (self.new ≡ self.old) }
     {
         match self.standing {
             Standing::Open => {

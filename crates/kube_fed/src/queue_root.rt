@@ -95,6 +95,7 @@ impl<K: Resource, St: EventStream<Item = ReconcileRequest<K>>> RootSource for Qu
     ghost use Rattle.kube_watch.specs.Asking.{Said};
     ghost use Rattle.kube_turn.specs.Views.{message_of};
     ghost use Rattle.kube_fed.specs.Fed.{FedStands, IsFedPoll, IsFedBroken, IsFedLost};
+    ghost use Rattle.kube_fed.specs.Feedings.{failed_in};
 
     type Object = K;
 
@@ -105,6 +106,8 @@ impl<K: Resource, St: EventStream<Item = ReconcileRequest<K>>> RootSource for Qu
     ghost can_poll = { λ r. St.can_poll r.feeding.stream };
 
     ghost stands = { λ r own. FedStands own r.feeding };
+
+    ghost fault = { λ r. failed_in r.feeding.standing };
 
     ghost polls = { λ old own now x new. IsFedPoll (Said St.polls St.told) (message_of K.type_of) (λ _. true) IsQueued now old.feeding x new.feeding };
 

@@ -161,12 +161,15 @@ impl<K: Resource, V: Resource, St: EventStream<Item = Arc<V>>, M: Mapper<V, K>> 
     ghost use Rattle.kube_watch.specs.Asking.{Said};
     ghost use Rattle.kube_asks.specs.Roots.{has_name};
     ghost use Rattle.kube_fed.specs.Fed.{FedStands, IsMappedPoll, IsFedBroken, IsFedLost};
+    ghost use Rattle.kube_fed.specs.Feedings.{failed_in};
 
     ghost settings = { λ _. None };
 
     ghost can_poll = { λ r. St.can_poll r.feeding.stream × M.can_map r.mapper };
 
     ghost stands = { λ r own. FedStands own r.feeding };
+
+    ghost fault = { λ r. failed_in r.feeding.standing };
 
     ghost polls = { λ old own now x new. IsMappedPoll (Said St.polls St.told) arc_value (has_name V.meta_of) (IsMappedTo old.kind V.meta_of (M.answers old.mapper)) now old x new };
 

@@ -120,6 +120,7 @@ impl<K: Resource, St: EventStream<Item = Arc<K>>> RootSource for StreamRoot<K, S
     ghost use Rattle.kube_watch.specs.Asking.{Said};
     ghost use Rattle.kube_asks.specs.Roots.{has_name};
     ghost use Rattle.kube_fed.specs.Fed.{FedStands, IsFedPoll, IsFedBroken, IsFedLost};
+    ghost use Rattle.kube_fed.specs.Feedings.{failed_in};
 
     type Object = K;
 
@@ -130,6 +131,8 @@ impl<K: Resource, St: EventStream<Item = Arc<K>>> RootSource for StreamRoot<K, S
     ghost can_poll = { λ r. St.can_poll r.feeding.stream };
 
     ghost stands = { λ r own. FedStands own r.feeding };
+
+    ghost fault = { λ r. failed_in r.feeding.standing };
 
     ghost polls = { λ old own now x new. IsFedPoll (Said St.polls St.told) arc_value (has_name K.meta_of) IsStreamed now old.feeding x new.feeding };
 

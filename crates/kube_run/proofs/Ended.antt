@@ -40,7 +40,7 @@ related_breaks s p now s' = Either (nat_lt p 0) (⊥ × (s'.rest ≡ s.rest)) (C
 
 -- the exchanges that they stand for
 abbrev pub related_stands : Sources → ℕ → List (Dated ObjectData) → Type 0
-related_stands s p own = Either (nat_lt p 0) ⊤ (HoldsAt (λ (t : Source). RelatedStands own t.watcher) (list_of s) (p - 0))
+related_stands s p own = Either (nat_lt p 0) ⊤ (HoldsAt (λ (t : Source). RelatedStands own t) (list_of s) (p - 0))
 
 abbrev pub root_stands : Root → List (Dated ObjectData) → Type 0
 root_stands r own = RootStands meta_of own r
@@ -60,21 +60,23 @@ record IsCall (s : Script) (a : Apis) (ds : List (Dated ObjectData)) (at source 
 
 call-at : (s : Script) (ds : List (Dated ObjectData)) (at : ℕ) (r r' : Root) (v v' : Sources) (source : ℕ) → AreOfScript s r v → SourcesStand (root_stands r) (related_stands v) (count_of v) ds
     → IsBrokenAt root_breaks related_breaks at r v r' v' source → IsCall s (apis_in r v) ds at source
-call-at s ds at r r' v v' zero k st b = record {
-  asked_api = api_of r.watcher;
-  is_asked = refl;
-  raw = b.0.raw;
-  after = api_of r'.watcher;
-  moved = b.0.moved;
-  owes = subst (λ z. IsOwedForm has_name version_of (Watched z) (exchanges_of 0 ds) (OfCall b.0.raw)) k.settings (b.0.owes (dated_of 0 ds) st.root);
-  unnamed = b.0.unnamed (dated_of 0 ds) st.root;
-}
+call-at s ds at r r' v v' zero k st b =
+    let made = b.0 (dated_of 0 ds) st.root in
+    record {
+      asked_api = api_of r.watcher;
+      is_asked = refl;
+      raw = made.raw;
+      after = api_of r'.watcher;
+      moved = made.moved;
+      owes = subst (λ z. IsOwedForm has_name version_of (Watched z) (exchanges_of 0 ds) (OfCall made.raw)) k.settings made.owes;
+      unnamed = made.unnamed;
+    }
 call-at s ds at r r' v v' (suc place) k st b =
     let own = dated_of (suc place) ds in
     let here = at-place (λ p. ChangesAt (λ t u. source_breaks t at u) p (list_of v) (list_of v') × (v'.first ≡ v.first)) (⊥ × (v'.rest ≡ v.rest)) place b.0 in
     let there = changed-there (λ t u. source_breaks t at u) place (list_of v) (list_of v') here.0 in
     let few : place < count_of v = let e = length-map (list_of v) (λ (t : Source). Some (settings_in t.watcher)) in omega (arith, there, e) in
-    let stands = at-place (λ p. HoldsAt (λ (t : Source). RelatedStands own t.watcher) (list_of v) p) ⊤ place (st.related place few) in
+    let stands = at-place (λ p. HoldsAt (λ (t : Source). RelatedStands own t) (list_of v) p) ⊤ place (st.related place few) in
     let made = unnamed-at (type_in s) s.related (list_of v) (list_of v') place own at k.rows stands here.0 in
     record {
       asked_api = made.asked_api;

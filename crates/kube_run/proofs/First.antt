@@ -34,7 +34,7 @@ module _ (root : ObjectType) where
   rows-fed (row ∷ rows) [] k = absurd k
   rows-fed (row ∷ rows) (t ∷ ts) k = ap₂ (λ f fs. f ∷ fs) (ap (λ (z : Settings). Watched z) (sym k.0.row_is.settings)) (rows-fed rows ts k.1)
 
-  pub all-stand : (rows : List Related) (ts : List Source) (place : ℕ) → AllZip (IsFirst root) rows ts → HoldsAt (λ (t : Source). RelatedStands {O = ObjectData} [] t.watcher) ts place
+  pub all-stand : (rows : List Related) (ts : List Source) (place : ℕ) → AllZip (IsFirst root) rows ts → HoldsAt (λ (t : Source). RelatedStands {O = ObjectData} [] t) ts place
   all-stand [] [] place k = tt
   all-stand [] (t ∷ ts) place k = absurd k
   all-stand (row ∷ rows) [] place k = absurd k

@@ -46,7 +46,7 @@ abbrev pub related_polls : Sources → ℕ → List (Dated ObjectData) → ℕ �
 related_polls s p own now x s' = Either (nat_lt p 0) (⊥ × (s'.rest ≡ s.rest)) (ChangesAt (λ t u. source_polls t own now x u) (p - 0) (list_of s) (list_of s') × (s'.first ≡ s.first))
 
 abbrev pub source_breaks : Source → ℕ → Source → Type 0
-source_breaks old now new = IsRelatedBroken ObjectData asked has_name now old.watcher new.watcher
+source_breaks old now new = IsRelatedBroken ObjectData asked has_name now old new
 
 -- no place is before the first
 pub at-place : (P : ℕ → Type 0) (Q : Type 0) (p : ℕ) → Either (nat_lt p 0) Q (P (p - 0)) → P p
@@ -110,23 +110,25 @@ module _ (root : ObjectType) where
     pub owes : IsOwedForm has_name version_of (Watched row.source.watcher) (exchanges_in own) (OfCall raw)
     pub unnamed : has_names has_name version_of (exchanges_in own) (OfCall raw) ≡ false
 
-  pub unnamed-at : (rows : List Related) (ts us : List Source) (place : ℕ) (own : List (Dated ObjectData)) (at : ℕ) → AllZip (IsOfRow root) rows ts → HoldsAt (λ (t : Source). RelatedStands own t.watcher) ts place
+  pub unnamed-at : (rows : List Related) (ts us : List Source) (place : ℕ) (own : List (Dated ObjectData)) (at : ℕ) → AllZip (IsOfRow root) rows ts → HoldsAt (λ (t : Source). RelatedStands own t) ts place
       → ChangesAt (λ t u. source_breaks t at u) place ts us → IsUnnamedAtPlace rows place own at ts
   unnamed-at [] [] us place own at k s f = absurd f
   unnamed-at [] (t ∷ ts) us place own at k s f = absurd k
   unnamed-at (row ∷ rows) [] us place own at k s f = absurd k
   unnamed-at (row ∷ rows) (t ∷ ts) [] place own at k s f = absurd f
-  unnamed-at (row ∷ rows) (t ∷ ts) (u ∷ us) zero own at k s f = record {
-    row = row;
-    there = refl;
-    asked_api = api_of t.watcher;
-    is_asked = refl;
-    raw = f.0.raw;
-    after = api_of u.watcher;
-    moved = f.0.moved;
-    owes = subst (λ z. IsOwedForm has_name version_of (Watched z) (exchanges_in own) (OfCall f.0.raw)) k.0.settings (f.0.owes own s);
-    unnamed = f.0.unnamed own s;
-  }
+  unnamed-at (row ∷ rows) (t ∷ ts) (u ∷ us) zero own at k s f =
+      let made = f.0 own s in
+      record {
+        row = row;
+        there = refl;
+        asked_api = api_of t.watcher;
+        is_asked = refl;
+        raw = made.raw;
+        after = api_of u.watcher;
+        moved = made.moved;
+        owes = subst (λ z. IsOwedForm has_name version_of (Watched z) (exchanges_in own) (OfCall made.raw)) k.0.settings made.owes;
+        unnamed = made.unnamed;
+      }
   unnamed-at (row ∷ rows) (t ∷ ts) (u ∷ us) (suc place) own at k s f =
       let rest = unnamed-at rows ts us place own at k.1 s f.1 in
       record {

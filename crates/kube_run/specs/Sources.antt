@@ -1,5 +1,5 @@
 -- The sources of a script's controller.
-use Rattle.std.specs.Prelude.{◌≡◌, List, [], map}
+use Rattle.std.specs.Prelude.{◌≡◌, List, [], map, None}
 use Rattle.std.specs.List.{AllZip}
 use Rattle.kube_meta.specs.Reading.{ObjectData}
 use Rattle.kube_meta.specs.Reference.{ObjectType}
@@ -30,7 +30,7 @@ pub record IsOfRow (root : ObjectType) (row : Related) (t : Source) : Type 0 whe
 pub record IsFirst (root : ObjectType) (row : Related) (t : Source) : Type 0 where
   pub row_is : IsOfRow root row t
   pub api : api_of t.watcher ≡ api_at_first row.source
-  pub stands : StandsFor [] t.watcher
+  pub stands : StandsFor [] t.watcher × (t.fault ≡ None)
 
 -- a root and related sources, of which none was asked yet, whose APIs answer as these rows tell; the root's objects are of this type
 pub record AreAtFirst (kind : ObjectType) (row : source_row) (rows : List Related) (r : RootWatching Api ObjectData) (t : Beside NoRelated (RelatedList Source)) : Type 0 where

@@ -213,6 +213,7 @@ pub struct Ticks {
     pub ticks: &'static [Tick],
     pub next: usize,
     pub dyntype: Arc<ApiResource>,
+    pub fault: Option<StreamFault>,
 }
 
 impl Ticks {
@@ -264,18 +265,26 @@ impl Related<DynamicObject> for Ticks {
     // it stands for no exchanges: what it gives is any table's
     ghost stands = { λ _ _. ⊥ };
 
+    ghost fault = { λ t. t.fault };
+
     fn poll_unit(
         &mut self,
         alloc: Global,
         _now: Moment,
     ) -> Result<SourceExchange<DynamicObject>, StreamFault> {
+        if let Some(fault) = self.fault {
+            return Err(fault);
+        }
         let tick = self.tick();
+        self.fault = Some(StreamFault::NoMemory);
+        let requests = requests(alloc, &self.dyntype, tick)?;
+        self.fault = None;
         Ok(SourceExchange {
             source: 0,
             call: Call::Stream,
             answer: answer(tick),
             items: List::new(alloc),
-            requests: requests(alloc, &self.dyntype, tick)?,
+            requests,
             error: error(tick),
         })
     }

@@ -85,6 +85,7 @@ fn labelled(
 
 fn ticks(dyntype: Arc<ApiResource>, ticks: &'static [Tick]) -> Ticks {
     Ticks {
+        fault: None,
         ticks,
         next: 0,
         dyntype,

@@ -1,4 +1,4 @@
-use Rattle.std.proofs.Common.{◌≡◌, Some, inr, map, [], ◌∷◌, ◌++◌, refl, sym, ap, subst, ◌∙◌}
+use Rattle.std.proofs.Common.{◌≡◌, Some, None, inr, map, [], ◌∷◌, ◌++◌, refl, sym, ap, subst, ◌∙◌}
 use Rattle.std.specs.List.{fold, flat_map}
 use Rattle.std.specs.Arc.{arc_value}
 use Rattle.kube_model.specs.World.{Watched}
@@ -10,6 +10,7 @@ use Rattle.kube_watch.specs.Configs.{settings_of}
 use Rattle.kube_watch.specs.Polls.{Api, dated_now}
 use Rattle.kube_watch.specs.Stands.{exchanges_in, settings_in}
 use Rattle.kube_watch.specs.Units.{events_of}
+use Rattle.kube_watch.specs.declared.stream.StreamFault.TheVariants.{NoMemory}
 use Rattle.kube_asks.specs.Asking.{of_source}
 use Rattle.kube_asks.specs.Sources.{IsRootNext}
 use Rattle.kube_asks.specs.Noting.{noted, after_event, updated_of}
@@ -25,7 +26,7 @@ returns-in-Ok-clause-next g c own =
     let message = message_of g.A.Value.Resource.type_of in
     let inside = c.self.inside in
     let t = g.A.Value.Resource.type_of inside.dyntype in
-    let r : RootWatching g.row.A.Denot g.row.A-Value.Denot = record { watcher = inside.watcher; kind = t; listing = map message inside.listing } in
+    let r : RootWatching g.row.A.Denot g.row.A-Value.Denot = record { watcher = inside.watcher; kind = t; listing = map message inside.listing; fault = inside.fault } in
     let u = c.in_ok-unit.unit in
     let e = c.in_ok-unit.ensures in
     let n = c.in-Ok.ensures.noted ∙ ap (λ l. fold (after_event (updated_of t meta)) (noted (map message l) []) (events_of u)) c.replace-listing.ensures.value in
@@ -45,8 +46,8 @@ returns-in-Ok-clause-stands g c own y h same =
     let message = message_of g.A.Value.Resource.type_of in
     let inside = c.self.inside in
     let t = g.A.Value.Resource.type_of inside.dyntype in
-    let r : RootWatching g.row.A.Denot g.row.A-Value.Denot = record { watcher = inside.watcher; kind = t; listing = map message inside.listing } in
-    let after : RootWatching g.row.A.Denot g.row.A-Value.Denot = record { watcher = c.poll_unit.new.self; kind = t; listing = map message c.in-Ok.listing } in
+    let r : RootWatching g.row.A.Denot g.row.A-Value.Denot = record { watcher = inside.watcher; kind = t; listing = map message inside.listing; fault = inside.fault } in
+    let after : RootWatching g.row.A.Denot g.row.A-Value.Denot = record { watcher = c.poll_unit.new.self; kind = t; listing = map message c.in-Ok.listing; fault = None } in
     let u = c.in_ok-unit.unit in
     let e = c.in_ok-unit.ensures in
     let n = c.in-Ok.ensures.noted ∙ ap (λ l. fold (after_event (updated_of t meta)) (noted (map message l) []) (events_of u)) c.replace-listing.ensures.value in
@@ -54,7 +55,7 @@ returns-in-Ok-clause-stands g c own y h same =
     let was : RootStands meta own r = subst (RootStands meta own) (sym c.self.view_is) h in
     subst (λ z. RootStands meta (own ++ dated_now c.args.now.0 z ∷ []) after) (sym (same ∙ ap (of_source y.source) c.in-Ok.ensures.exchange))
     (stands-now meta own r was u.call u.answer (map arc_value u.items) u.error (e.owed own was.watcher) e.asks e.answered (events_of u) (e.events own was.watcher)
-    c.args.now.0 y.source requests after (ap settings_of e.config) refl (ap (λ m. m.listing) n)
+    c.args.now.0 y.source requests after (ap settings_of e.config) refl (ap (λ m. m.listing) n) refl
     (e.stands own (record { source = y.source; call = u.call; answer = u.answer; items = map arc_value u.items; requests = requests; error = u.error }) was.watcher refl refl))
 
 pub returns-in-Ok-clause-polls : goal.returns-in-Ok-clause-polls
@@ -63,8 +64,8 @@ returns-in-Ok-clause-polls g c own =
     let message = message_of g.A.Value.Resource.type_of in
     let inside = c.self.inside in
     let t = g.A.Value.Resource.type_of inside.dyntype in
-    let r : RootWatching g.row.A.Denot g.row.A-Value.Denot = record { watcher = inside.watcher; kind = t; listing = map message inside.listing } in
-    let after : RootWatching g.row.A.Denot g.row.A-Value.Denot = record { watcher = c.poll_unit.new.self; kind = t; listing = map message c.in-Ok.listing } in
+    let r : RootWatching g.row.A.Denot g.row.A-Value.Denot = record { watcher = inside.watcher; kind = t; listing = map message inside.listing; fault = inside.fault } in
+    let after : RootWatching g.row.A.Denot g.row.A-Value.Denot = record { watcher = c.poll_unit.new.self; kind = t; listing = map message c.in-Ok.listing; fault = None } in
     let api : Api g.row.A.Denot g.row.A-Value.Denot = record { moves = g.A.ApiMode.moves; talk = g.A.ApiMode.talk; faults = g.A.ApiMode.faults; version = version_of meta } in
     let u = c.in_ok-unit.unit in
     let e = c.in_ok-unit.ensures in
@@ -91,19 +92,19 @@ returns-in-Err-clause-unnamed g c fault =
     let message = message_of g.A.Value.Resource.type_of in
     let inside = c.self.inside in
     let t = g.A.Value.Resource.type_of inside.dyntype in
-    let r : RootWatching g.row.A.Denot g.row.A-Value.Denot = record { watcher = inside.watcher; kind = t; listing = map message inside.listing } in
-    let after : RootWatching g.row.A.Denot g.row.A-Value.Denot = record { watcher = c.poll_unit.new.self; kind = t; listing = [] } in
+    let r : RootWatching g.row.A.Denot g.row.A-Value.Denot = record { watcher = inside.watcher; kind = t; listing = map message inside.listing; fault = inside.fault } in
+    let after : RootWatching g.row.A.Denot g.row.A-Value.Denot = record { watcher = c.poll_unit.new.self; kind = t; listing = []; fault = Some c.in-Err.fault } in
     let api : Api g.row.A.Denot g.row.A-Value.Denot = record { moves = g.A.ApiMode.moves; talk = g.A.ApiMode.talk; faults = g.A.ApiMode.faults; version = version_of meta } in
     let u = c.in_ok-unit.unit in
     let e = c.in_ok-unit.ensures in
     subst (λ (a : RootWatching g.row.A.Denot g.row.A-Value.Denot). IsRootBroken meta api c.args.now.0 a after) c.self.view_is
-    (record {
+    (λ own h. record {
       raw = e.talk.0;
       told = e.talk.2;
       moved = e.talk.3;
       rose = rose-came (version_of meta) e.talk.0 u.answer _ _ e.talk.1.answer e.faults;
-      owes = λ own h. owed-form (has_name meta) (version_of meta) (settings_in inside.watcher) (exchanges_in own) u.call u.answer e.talk.0 (e.owed own h.watcher) e.answered e.talk.1.call e.talk.1.answer;
-      unnamed = λ own h.
+      owes = owed-form (has_name meta) (version_of meta) (settings_in inside.watcher) (exchanges_in own) u.call u.answer e.talk.0 (e.owed own h.watcher) e.answered e.talk.1.call e.talk.1.answer;
+      unnamed =
           unnamed-now meta (exchanges_in own) u.call u.answer (map arc_value u.items) u.error (settings_in inside.watcher) e.talk.0 e.talk.1
           (flat_map objects_of (events_of u)) (e.objects own h.watcher) (c.in-Err.ensures.unnamed (same-fault _ _ fault));
     })
@@ -113,7 +114,7 @@ returns-in-Err-clause-lost g c fault =
     let meta = g.A.Value.Resource.meta_of in
     let inside = c.self.inside in
     let settings = settings_in inside.watcher in
-    let after : RootWatching g.row.A.Denot g.row.A-Value.Denot = record { watcher = c.poll_unit.new.self; kind = g.A.Value.Resource.type_of inside.dyntype; listing = [] } in
+    let after : RootWatching g.row.A.Denot g.row.A-Value.Denot = record { watcher = c.poll_unit.new.self; kind = g.A.Value.Resource.type_of inside.dyntype; listing = []; fault = Some c.in-Err.fault } in
     let e = c.in_ok-unit.ensures in
     subst (λ (a : RootWatching g.row.A.Denot g.row.A-Value.Denot). IsRootLost meta g.A.ApiMode.talk a after) c.self.view_is
     (λ own h. inr (e.talk.0, subst (λ k. raw_call settings k ≡ Some e.talk.0.call) (e.owed own h.watcher) e.talk.1.call, e.talk.2))
@@ -122,6 +123,6 @@ pub returns-in_err-unit-clause-lost : goal.returns-in_err-unit-clause-lost
 returns-in_err-unit-clause-lost g c fault =
     let inside = c.self.inside in
     let after : RootWatching g.row.A.Denot g.row.A-Value.Denot =
-    record { watcher = c.poll_unit.new.self; kind = g.A.Value.Resource.type_of inside.dyntype; listing = map (message_of g.A.Value.Resource.type_of) inside.listing } in
+    record { watcher = c.poll_unit.new.self; kind = g.A.Value.Resource.type_of inside.dyntype; listing = map (message_of g.A.Value.Resource.type_of) inside.listing; fault = Some NoMemory } in
     subst (λ (a : RootWatching g.row.A.Denot g.row.A-Value.Denot). IsRootLost g.A.Value.Resource.meta_of g.A.ApiMode.talk a after) c.self.view_is
     (λ own h. c.in_err-unit.ensures.lost own h.watcher)
