@@ -1,5 +1,6 @@
 -- What decides in a controller, and the events of its history that it stands for. K is the type of objects, D that of their dynamic types.
-use Rattle.std.specs.Prelude.{◌≡◌, ◌==◌, ℕ, Bool, List, [], ◌∷◌, if◌then◌else◌}
+use Rattle.std.specs.Prelude.{◌≡◌, ◌==◌, ℕ, Bool, true, List, [], ◌∷◌, if◌then◌else◌}
+use Rattle.std.specs.List.{list_all}
 use Rattle.kube_meta.specs.declared.metadata.ObjectMeta.{ObjectMeta}
 use Rattle.kube_meta.specs.declared.moment.Moment.{Moment}
 use Rattle.kube_meta.specs.Reference.{ObjectType, Reference}
@@ -8,6 +9,9 @@ use Rattle.kube_model.specs.Reason.{BulkReconcile}
 use Rattle.kube_model.specs.History.{Exchange, Message, Taken}
 use Rattle.kube_model.specs.Owed.{is_initial}
 use Rattle.kube_model.specs.Store.{found}
+use Rattle.kube_model.specs.World.{Settings}
+use Rattle.kube_watch.specs.Table.{table}
+use Rattle.kube_reflect.specs.Cached.{has_name}
 use Rattle.kube_reflect.specs.Writers.{Writing}
 use Rattle.kube_reflect.specs.Exchanged.{IsLeftBy}
 use Rattle.kube_history.specs.CoreWorld.{CoreWorld}
@@ -22,6 +26,10 @@ pub record Parts (K D : Type 0) : Type 0 where
   pub initial : Bool
   pub clock : Moment
   pub is_shut : Bool
+
+-- an exchange is not one of the root, or each object of which it tells has a name; a look belongs to a watch that sends what is there first, or not
+abbrev pub TellsNamed : {O : Type 0} → (O → ObjectMeta) → Bool → Exchange O → Type 0
+TellsNamed meta initial x = x.source ≡ 0 → (settings : Settings) (version : List ℕ) → list_all (has_name meta) (table settings version initial x.call x.answer x.items).events ≡ true
 
 -- handles that were given before are handles of this writer as well, as many may still be given, and nothing more was
 -- published

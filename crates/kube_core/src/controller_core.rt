@@ -19,7 +19,7 @@ ghost use Rattle.kube_history.specs.Legal.{MayBeAnswered};
 ghost use Rattle.kube_history.specs.TurnCalls.{with_requests};
 ghost use Rattle.kube_turn.specs.Views.{exchange_of, message_of, taken_of};
 ghost use Rattle.kube_core.specs.Pendings.{Stands, handed_over, place_of};
-ghost use Rattle.kube_core.specs.Cores.{HasSameHandles, IsOfType, StandsFor, of_root, with_room};
+ghost use Rattle.kube_core.specs.Cores.{HasSameHandles, IsOfType, StandsFor, TellsNamed, of_root, with_room};
 
 use crate::pending::Pending;
 use crate::requests::{bulk_requests, copy_requests, request_each, requeue};
@@ -139,6 +139,7 @@ impl<K: Resource> Core<K> {
             → (exchange.now.source ≡ 0 → MayFollow own (exchange_of K.type_of exchange.now))
             → IsLeftBy core.key (own ++ of_root (exchange_of K.type_of exchange.now)) self.new.writer.kept) }
         ensures initial { OnOk result ((own : List (Exchange K)) → self.old.initial ≡ is_initial own → self.new.initial ≡ is_initial (own ++ of_root (exchange_of K.type_of exchange.now))) }
+        ensures named { OnOk result (TellsNamed K.meta_of self.old.initial (exchange_of K.type_of exchange.now)) }
         ensures kind { self.new.writer.kind ≡ self.old.writer.kind }
         ensures handles { HasSameHandles self.old.writer self.new.writer }
         ensures rest { self.new ≡ record self.old { writer = self.new.writer; initial = self.new.initial } }
@@ -160,7 +161,8 @@ impl<K: Resource> Core<K> {
     ///
     /// # Errors
     ///
-    /// `NoMemory` where there is none for it; all but the room for requests is then as before.
+    /// `NoMemory` where there is none for it, and where an object of which the root tells has no name; all but the room for
+    /// requests is then as before.
     pub fn answer(
         &mut self,
         alloc: Global,
@@ -170,6 +172,7 @@ impl<K: Resource> Core<K> {
         requires { self.old.clock.0 ≤ now.0 }
         ensures stands { OnOk result ((core : CoreWorld K) (es : List (CoreEvent K)) → StandsFor K.type_of K.meta_of core es self.old → MayBeAnswered core (answers_in es) (exchange_of K.type_of exchange.now)
             → StandsFor K.type_of K.meta_of core (es ++ Answered now.0 (exchange_of K.type_of exchange.now) ∷ []) self.new) }
+        ensures named { OnOk result (TellsNamed K.meta_of self.old.initial (exchange_of K.type_of exchange.now)) }
         ensures clock { OnOk result (self.new.clock ≡ now) }
         ensures handles { HasSameHandles self.old.writer self.new.writer }
         ensures err { OnErr result (self.new ≡ with_room self.old self.new.pending.schedule.spare) }

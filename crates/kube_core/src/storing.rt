@@ -1,13 +1,14 @@
 //! What an exchange of the root leaves in a writer.
 
-ghost use Rattle.std.specs.Prelude.{◌≡◌, ◌++◌, ◌∷◌, [], List, ℕ, map, OnOk, OnErr};
+ghost use Rattle.std.specs.Prelude.{◌≡◌, ◌++◌, ◌∷◌, [], true, List, ℕ, map, OnOk, OnErr};
 ghost use Rattle.std.specs.Arc.{arc_value};
-ghost use Rattle.std.specs.List.{fold};
+ghost use Rattle.std.specs.List.{fold, list_all};
 ghost use Rattle.kube_meta.specs.Keys.{key_of};
 ghost use Rattle.kube_model.specs.World.{Settings};
 ghost use Rattle.kube_model.specs.SecondForms.{initial_after};
+ghost use Rattle.kube_watch.specs.Events.{event_map};
 ghost use Rattle.kube_watch.specs.Table.{table};
-ghost use Rattle.kube_reflect.specs.Cached.{applied};
+ghost use Rattle.kube_reflect.specs.Cached.{applied, has_name};
 ghost use Rattle.kube_reflect.specs.Writers.{with_event};
 ghost use Rattle.kube_turn.specs.Views.{exchange_of};
 ghost use Rattle.kube_core.specs.Cores.{HasSameHandles};
@@ -42,6 +43,7 @@ fn apply_told<K: Resource>(
     events: &[Event<Arc<K>>],
 ) -> Result<(), WriteError>
     ensures applied { OnOk result (writer.new ≡ fold (with_event arc_value K.meta_of) writer.old events.now) }
+    ensures named { OnOk result (list_all (λ e. has_name K.meta_of (event_map arc_value e)) events.now ≡ true) }
     ensures err { OnErr result (writer.new ≡ writer.old) }
 {
     match events {
@@ -64,6 +66,8 @@ pub fn store_told<K: Resource>(
 ) -> Result<(), NoMemory>
     ensures kept { OnOk result ((settings : Settings) (version : List ℕ)
         → writer.new.kept ≡ fold (applied (λ o. key_of writer.old.kind (K.meta_of o))) writer.old.kept (table settings version initial exchange.now.call exchange.now.answer (map arc_value exchange.now.items)).events) }
+    ensures named { OnOk result ((settings : Settings) (version : List ℕ)
+        → list_all (has_name K.meta_of) (table settings version initial exchange.now.call exchange.now.answer (map arc_value exchange.now.items)).events ≡ true) }
     ensures kind { writer.new.kind ≡ writer.old.kind }
     ensures handles { HasSameHandles writer.old writer.new }
     ensures err { OnErr result (writer.new ≡ writer.old) }

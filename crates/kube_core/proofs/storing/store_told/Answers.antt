@@ -1,11 +1,12 @@
 use Rattle.std.proofs.Common.{map, sym, ap, subst, ◌∙◌}
-use Rattle.std.specs.List.{fold}
+use Rattle.std.specs.List.{fold, list_all}
+use Rattle.std.proofs.lemmas.List.Folds.{list_all-map}
 use Rattle.std.specs.Arc.{arc_value}
 use Rattle.std.specs.declared.alloc.Global.{Global}
 use Rattle.kube_meta.specs.Keys.{key_of}
 use Rattle.kube_watch.specs.Events.{event_map}
 use Rattle.kube_watch.specs.Table.{table}
-use Rattle.kube_reflect.specs.Cached.{applied}
+use Rattle.kube_reflect.specs.Cached.{applied, has_name}
 use Rattle.kube_core.specs.Cores.{HasSameHandles}
 use Rattle.kube_core.proofs.StoredSteps.{kept-all, kind-all, handles-all}
 use Rattle.kube_core.proofs.storing.store_told.Goals as goal
@@ -21,6 +22,15 @@ returns-clause-kept g c settings version =
     ∙ ap (fold (applied (λ o. key_of w.kind (meta o))) w.kept)
     (ap (map (event_map value)) c.as_slice-2.ensures
     ∙ (c.in_ok-events.ensures settings version ∙ ap (λ xs. (table settings version c.args.initial x.call x.answer (map value xs)).events) c.as_slice.ensures)))
+
+pub returns-clause-named : goal.returns-clause-named
+returns-clause-named g c settings version =
+    let meta = g.K.Resource.meta_of in
+    let value = arc_value {X = g.row.K.Denot} {Z = Global} in
+    let x = c.args.exchange.now in
+    let told = ap (map (event_map value)) c.as_slice-2.ensures
+    ∙ (c.in_ok-events.ensures settings version ∙ ap (λ xs. (table settings version c.args.initial x.call x.answer (map value xs)).events) c.as_slice.ensures) in
+    sym (ap (list_all (has_name meta)) told) ∙ (list_all-map (has_name meta) (event_map value) c.as_slice-2.result.now ∙ c.in-Ok.ensures.named)
 
 pub returns-clause-kind : goal.returns-clause-kind
 returns-clause-kind g c =

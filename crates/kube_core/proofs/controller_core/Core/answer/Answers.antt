@@ -1,6 +1,6 @@
 use Rattle.std.proofs.Common.{map, sym, subst, ap, ◌∙◌, ◌≤◌}
 use Rattle.kube_history.specs.CoreEvents.{queue_of, running_of}
-use Rattle.kube_core.specs.Cores.{Parts, StandsFor}
+use Rattle.kube_core.specs.Cores.{Parts, StandsFor, TellsNamed}
 use Rattle.kube_model.specs.Requests.{requested_at}
 use Rattle.kube_reflect.specs.Exchanged.{IsLeftBy}
 use Rattle.kube_turn.specs.Views.{exchange_of, message_of}
@@ -39,3 +39,8 @@ returns-clause-stands g c core es s may =
     (λ o. subst (λ p. Stands type_of core p qs rs) (sym (c.request_now.ensures.shut (ap (λ p. p.is_shut) stored ∙ o))) reserved)
     (λ o. subst (λ ms. Stands type_of core c.request_now.new.self.pending (with_requests qs c.args.now.0 (map (requested_at c.args.now.0) ms)) rs) messages
     (c.request_now.ensures.opened (ap (λ p. p.is_shut) stored ∙ o) core qs rs reserved))
+
+pub returns-clause-named : goal.returns-clause-named
+returns-clause-named g c =
+    subst (λ (p : Parts g.row.K.Denot g.row.K-DynamicType.Denot). TellsNamed g.K.Resource.meta_of p.initial (exchange_of g.K.Resource.type_of c.args.exchange.now)) c.self.view_is
+    c.in_ok-store.ensures.named

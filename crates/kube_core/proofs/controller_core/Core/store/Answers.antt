@@ -2,7 +2,7 @@ use Rattle.std.proofs.Common.{◌≡◌, ◌==◌, sym, subst, ap, rules}
 use Rattle.kube_model.specs.Owed.{is_initial}
 use Rattle.kube_reflect.specs.Exchanged.{IsLeftBy}
 use Rattle.kube_turn.specs.Views.{exchange_of}
-use Rattle.kube_core.specs.Cores.{Parts, IsOfType}
+use Rattle.kube_core.specs.Cores.{Parts, IsOfType, TellsNamed}
 use Rattle.kube_core.proofs.StoredSteps.{root-stored, root-initial}
 use Rattle.kube_core.proofs.controller_core.Core.store.Goals as goal
 
@@ -24,3 +24,8 @@ returns-clause-initial g c own i =
     (ap (λ n. n == 0) zero)
     (subst (λ (p : Parts g.row.K.Denot g.row.K-DynamicType.Denot). p.initial ≡ is_initial own) (sym c.self.view_is) i)
     c.initial_after-self-inside.ensures
+
+pub returns-clause-named : goal.returns-clause-named
+returns-clause-named g c =
+    subst (λ (p : Parts g.row.K.Denot g.row.K-DynamicType.Denot). TellsNamed g.K.Resource.meta_of p.initial (exchange_of g.K.Resource.type_of c.args.exchange.now)) c.self.view_is
+    (λ root. c.in_ok-store_told.ensures.named)
