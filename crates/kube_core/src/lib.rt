@@ -4,9 +4,9 @@
 pub mod controller_core;
 pub mod laws;
 pub mod pending;
-mod requests;
+pub mod requests;
 mod storing;
-mod taking;
+pub mod taking;
 
 pub use controller_core::Core;
 pub use pending::Pending;

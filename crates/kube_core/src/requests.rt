@@ -88,14 +88,32 @@ fn request_keys<K: Resource>(
     Ok(requests)
 }
 
+/// A request for each of these references, by namespace, none first, and then by name.
+///
+/// # Errors
+///
+/// `NoMemory`; the references are dropped.
+pub fn requests_in_bulk<K: Resource>(
+    alloc: Global,
+    keys: Vec<ObjectRef<K>>,
+) -> Result<Vec<ReconcileRequest<K>>, NoMemory>
+    ensures { IfOk result (λ v. map (message_of K.type_of) v.items ≡ map in_bulk (sorted_by reference_before (map (reference_of K.type_of) keys.items))) }
+{
+    request_keys(alloc, sort_keys(alloc, keys)?)
+}
+
 /// A request for each stored object, by namespace, none first, and then by name.
+///
+/// # Errors
+///
+/// `NoMemory`.
 pub fn bulk_requests<K: Resource>(
     alloc: Global,
     cache: &Cache<K>,
 ) -> Result<Vec<ReconcileRequest<K>>, NoMemory>
     ensures { IfOk result (λ v. map (message_of K.type_of) v.items ≡ map in_bulk (sorted_by reference_before (map (λ p. p.0) cache.now))) }
 {
-    request_keys(alloc, sort_keys(alloc, cache.keys(alloc)?)?)
+    requests_in_bulk(alloc, cache.keys(alloc)?)
 }
 
 /// Requests these, each for now, at places that are kept. It takes no memory.

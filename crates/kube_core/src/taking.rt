@@ -47,7 +47,7 @@ fn next_object<K: Resource>(
 }
 
 /// Takes the first candidate, for which nothing is stored. It takes no memory.
-fn take_missing<K: Resource>(pending: &mut Pending<K>) -> Taken<K>
+pub fn take_missing<K: Resource>(pending: &mut Pending<K>) -> Taken<K>
     ensures first { (core : CoreWorld K) (qs : List (QueueEvent Message)) (rs : List (Running K)) → Stands K.type_of core pending.old qs rs
         → taken_of K.type_of result ≡ option_map (λ m. record { message = m; object = None }) (next_candidate core qs rs) }
     ensures stands { (core : CoreWorld K) (qs : List (QueueEvent Message)) (rs : List (Running K)) → Stands K.type_of core pending.old qs rs
@@ -64,7 +64,11 @@ fn take_missing<K: Resource>(pending: &mut Pending<K>) -> Taken<K>
 }
 
 /// Takes the first candidate, and lets it run with what is stored for it.
-fn take_found<K: Resource>(
+///
+/// # Errors
+///
+/// `NoMemory`, and all is as before.
+pub fn take_found<K: Resource>(
     alloc: Global,
     pending: &mut Pending<K>,
     object: Arc<K>,

@@ -154,6 +154,13 @@ impl<K: Resource> Store<K> {
         Store { handle }
     }
 
+    /// The type of its objects. Nothing is read for it.
+    pub fn dyntype(&self) -> &K::DynamicType
+        ensures { K.type_of result.now ≡ self.now.kind }
+    {
+        self.handle.dyntype()
+    }
+
     /// Takes in what a publish of this handle's writer made readable: no later read is of an older list. The note stays as
     /// it is.
     pub fn learn(&mut self, note: &mut Published<K>)

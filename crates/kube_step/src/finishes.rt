@@ -22,7 +22,11 @@ use std::alloc::Global;
 use std::sync::Arc;
 
 /// What the error policy answers for an object that was handed over, whose reconcile failed.
-fn ask_policy<K: Drop, P, Ctx: Drop, E>(
+///
+/// # Errors
+///
+/// `NoMemory`, and the policy was not asked.
+pub fn ask_policy<K: Drop, P, Ctx: Drop, E>(
     error_policy: &P,
     context: &Arc<Ctx>,
     object: &Arc<K>,
@@ -40,7 +44,11 @@ where
 
 /// The action after a reconcile ended: its own, or what the error policy answers. One that failed and doesn't run is not
 /// asked for again.
-fn action_of<K: Resource, P, Ctx: Drop, E: Drop>(
+///
+/// # Errors
+///
+/// `NoMemory`, and the policy was not asked.
+pub fn action_of<K: Resource, P, Ctx: Drop, E: Drop>(
     error_policy: &P,
     context: &Arc<Ctx>,
     object: Option<&Arc<K>>,

@@ -37,7 +37,11 @@ pub enum BadTurn {
 }
 
 /// As many marks, none of which is set.
-fn no_marks(alloc: Global, count: usize) -> Result<Vec<bool>, NoMemory>
+///
+/// # Errors
+///
+/// `NoMemory`.
+pub fn no_marks(alloc: Global, count: usize) -> Result<Vec<bool>, NoMemory>
     ensures long { IfOk result (λ v. length v.items ≡ count) }
     ensures none { IfOk result (λ v. (place : ℕ) → is_marked v.items place ≡ false) }
 {
@@ -49,7 +53,7 @@ fn no_marks(alloc: Global, count: usize) -> Result<Vec<bool>, NoMemory>
 }
 
 /// Whether a place is marked.
-fn is_marked(marks: &[bool], place: usize) -> bool
+pub fn is_marked(marks: &[bool], place: usize) -> bool
     ensures { result ≡ is_marked marks.now place }
 {
     match marks.get(place) {
@@ -59,7 +63,7 @@ fn is_marked(marks: &[bool], place: usize) -> bool
 }
 
 /// Marks a place.
-fn mark(marks: &mut Vec<bool>, place: usize)
+pub fn mark(marks: &mut Vec<bool>, place: usize)
     ensures { marks.new.items ≡ slice_set marks.old.items place true }
 {
     if place < marks.len() {

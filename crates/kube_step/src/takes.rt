@@ -21,14 +21,18 @@ use std::alloc::Global;
 use std::sync::Arc;
 
 /// Whether nothing was taken.
-fn is_nothing<K: Resource>(taken: &Taken<K>) -> bool
+pub fn is_nothing<K: Resource>(taken: &Taken<K>) -> bool
     ensures { result ≡ not (is_some (taken_of K.type_of taken.now)) }
 {
     matches!(taken, Taken::Nothing)
 }
 
 /// Hands what was taken to the reconciler, where it was found.
-fn hand_over<K: Resource, Ctx: Drop, Rc: Reconciler<K, Ctx>>(
+///
+/// # Errors
+///
+/// `NoMemory`, also where the reconciler answers so; it tells nothing of it then.
+pub fn hand_over<K: Resource, Ctx: Drop, Rc: Reconciler<K, Ctx>>(
     reconciler: &mut Rc,
     alloc: Global,
     context: &Arc<Ctx>,

@@ -120,6 +120,13 @@ pub(crate) fn newer<K>(mark: &Mark<K>, found: &Mark<K>) -> Option<Mark<K>>
 }
 
 impl<K: Resource> Handle<K> {
+    // The type of its objects.
+    pub(crate) fn dyntype(&self) -> &K::DynamicType
+        ensures { result.now ≡ self.now.home.dyntype }
+    {
+        &*self.origin.dyntype
+    }
+
     // A handle that has read nothing.
     pub(crate) fn new(place: Place<K>) -> Handle<K>
         ensures { (result.home ≡ place.home) × (result.seen ≡ []) }
