@@ -24,6 +24,10 @@ use kube_turn::ReconcileRequest;
 use std::alloc::Global;
 
 /// The same requests in memory of their own.
+///
+/// # Errors
+///
+/// `NoMemory`.
 pub fn copy_requests<K: Resource>(
     alloc: Global,
     requests: &[ReconcileRequest<K>],
