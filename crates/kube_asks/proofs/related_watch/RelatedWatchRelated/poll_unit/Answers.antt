@@ -53,9 +53,11 @@ returns-clause-stands g c =
     let e = c.in_ok-unit.ensures in
     ok3-on c.map_unit.result
     (λ x mapped is none own y h same.
-    let was : StandsFor (dated_shapes own) inside.watcher = subst (λ (a : MappedWatching g.row.A.Denot g.row.A-Value.Denot g.row.M.Denot). StandsFor (dated_shapes own) a.watcher) (sym c.self.view_is) h.0 in
-    (subst (λ ds. StandsFor ds c.poll_unit.new.self) (sym (map-append (λ (d : Dated g.row.K.Denot). record { at = d.at; exchange = shape {V = g.row.A-Value.Denot} d.exchange }) own (dated_now c.args.now.0 y ∷ [])))
-    (e.stands (dated_shapes own) (shape y) was (ap (λ z. z.call) same ∙ ap (λ z. z.call) is) (ap (λ z. z.answer) same ∙ ap (λ z. z.answer) is)), none))
+    let was : StandsFor (dated_shapes own) inside.watcher = subst (λ (a : MappedWatching g.row.A.Denot g.row.A-Value.Denot g.row.M.Denot). StandsFor (dated_shapes own) a.watcher) (sym c.self.view_is) h.0 in (
+      subst (λ ds. StandsFor ds c.poll_unit.new.self) (sym (map-append (λ (d : Dated g.row.K.Denot). record { at = d.at; exchange = shape {V = g.row.A-Value.Denot} d.exchange }) own (dated_now c.args.now.0 y ∷ [])))
+          (e.stands (dated_shapes own) (shape y) was (ap (λ z. z.call) same ∙ ap (λ z. z.call) is) (ap (λ z. z.answer) same ∙ ap (λ z. z.answer) is)),
+      none,
+    ))
     c.map_unit.ensures.mapped c.map_unit.ensures.exchange (none-on c.map_unit.result c.fault_in.result c.fault_in.ensures)
 
 pub returns-clause-polls : goal.returns-clause-polls
