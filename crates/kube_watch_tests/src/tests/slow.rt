@@ -62,13 +62,7 @@ fn too_old(alloc: Global) -> Result<ApiError, NoMemory> {
 }
 
 impl ApiMode for Slow {
-    ghost use Rattle.std.specs.Prelude.{None, ◌^◌, ◌-◌};
-
     type Value = Metadata;
-
-    ghost talk = { λ _. None };
-
-    ghost faults = { λ _. 2 ^ 64 - 1 };
 
     fn list(
         &mut self,
