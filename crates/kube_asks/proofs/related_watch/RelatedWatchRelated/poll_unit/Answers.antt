@@ -37,7 +37,7 @@ returns-clause-next g c =
     let t = g.A.Value.Resource.type_of inside.dyntype in
     let u = c.in_ok-unit.unit in
     let e = c.in_ok-unit.ensures in
-    ok2 c.map_unit.result
+    ok2 c.map_unit-answer.result
     (λ x mapped is own. subst (λ (a : MappedWatching g.row.A.Denot g.row.A-Value.Denot g.row.M.Denot). RelatedStands own a
     → IsRelatedNext (Watched (settings_in a.watcher)) own c.args.now.0 (exchange_of g.K.Resource.type_of x))
     c.self.view_is
@@ -45,20 +45,20 @@ returns-clause-next g c =
     subst (IsRelatedNext (Watched (settings_in inside.watcher)) own c.args.now.0) (sym is)
     (next-too t meta own (settings_in inside.watcher) u.call u.answer (map arc_value u.items) u.error (flat_map objects_of (events_of u)) (e.objects shapes h.0)
     (g.M.Mapper.answers inside.mapper) (map (message_of g.K.Resource.type_of) x.requests) mapped c.args.now.0 0 (e.owed shapes h.0) e.asks e.answered e.texts (e.idle shapes h.0) (e.fails shapes h.0))))
-    c.map_unit.ensures.mapped c.map_unit.ensures.exchange
+    c.map_unit-answer.ensures.mapped c.map_unit-answer.ensures.exchange
 
 pub returns-clause-stands : goal.returns-clause-stands
 returns-clause-stands g c =
     let inside = c.self.inside in
     let e = c.in_ok-unit.ensures in
-    ok3-on c.map_unit.result
+    ok3-on c.map_unit-answer.result
     (λ x mapped is none own y h same.
     let was : StandsFor (dated_shapes own) inside.watcher = subst (λ (a : MappedWatching g.row.A.Denot g.row.A-Value.Denot g.row.M.Denot). StandsFor (dated_shapes own) a.watcher) (sym c.self.view_is) h.0 in (
       subst (λ ds. StandsFor ds c.poll_unit.new.self) (sym (map-append (λ (d : Dated g.row.K.Denot). record { at = d.at; exchange = shape {V = g.row.A-Value.Denot} d.exchange }) own (dated_now c.args.now.0 y ∷ [])))
           (e.stands (dated_shapes own) (shape y) was (ap (λ z. z.call) same ∙ ap (λ z. z.call) is) (ap (λ z. z.answer) same ∙ ap (λ z. z.answer) is)),
       none,
     ))
-    c.map_unit.ensures.mapped c.map_unit.ensures.exchange (none-on c.map_unit.result c.fault_in.result c.fault_in.ensures)
+    c.map_unit-answer.ensures.mapped c.map_unit-answer.ensures.exchange (none-on c.map_unit-answer.result c.fault_in-self-inside.result c.fault_in-self-inside.ensures)
 
 pub returns-clause-polls : goal.returns-clause-polls
 returns-clause-polls g c =
@@ -68,10 +68,10 @@ returns-clause-polls g c =
     let api : Api g.row.A.Denot g.row.A-Value.Denot = record { moves = g.A.ApiMode.moves; talk = g.A.ApiMode.talk; faults = g.A.ApiMode.faults; version = version_of meta } in
     let u = c.in_ok-unit.unit in
     let e = c.in_ok-unit.ensures in
-    ok3-on c.map_unit.result
+    ok3-on c.map_unit-answer.result
     (λ x mapped is named own y h same.
     let requests = map (message_of g.K.Resource.type_of) x.requests in
-    let after : MappedWatching g.row.A.Denot g.row.A-Value.Denot g.row.M.Denot = record { watcher = c.poll_unit.new.self; kind = t; mapper = inside.mapper; fault = c.fault_in.result } in
+    let after : MappedWatching g.row.A.Denot g.row.A-Value.Denot g.row.M.Denot = record { watcher = c.poll_unit.new.self; kind = t; mapper = inside.mapper; fault = c.fault_in-self-inside.result } in
     subst (λ (a : MappedWatching g.row.A.Denot g.row.A-Value.Denot g.row.M.Denot). RelatedStands own a
     → IsMappedPoll api (IsMappedTo a.kind meta (g.M.Mapper.answers a.mapper)) (λ o. is_named (meta o)) own c.args.now.0 a y after)
     c.self.view_is
@@ -94,14 +94,14 @@ returns-clause-polls g c =
       mapper = refl;
     }))
     h)
-    c.map_unit.ensures.mapped c.map_unit.ensures.exchange c.map_unit.ensures.named
+    c.map_unit-answer.ensures.mapped c.map_unit-answer.ensures.exchange c.map_unit-answer.ensures.named
 
 pub returns-clause-unnamed : goal.returns-clause-unnamed
 returns-clause-unnamed g c fault =
     let meta = g.A.Value.Resource.meta_of in
     let inside = c.self.inside in
     let t = g.A.Value.Resource.type_of inside.dyntype in
-    let after : MappedWatching g.row.A.Denot g.row.A-Value.Denot g.row.M.Denot = record { watcher = c.poll_unit.new.self; kind = t; mapper = inside.mapper; fault = c.fault_in.result } in
+    let after : MappedWatching g.row.A.Denot g.row.A-Value.Denot g.row.M.Denot = record { watcher = c.poll_unit.new.self; kind = t; mapper = inside.mapper; fault = c.fault_in-self-inside.result } in
     let api : Api g.row.A.Denot g.row.A-Value.Denot = record { moves = g.A.ApiMode.moves; talk = g.A.ApiMode.talk; faults = g.A.ApiMode.faults; version = version_of meta } in
     let u = c.in_ok-unit.unit in
     let e = c.in_ok-unit.ensures in
@@ -116,7 +116,7 @@ returns-clause-unnamed g c fault =
       unnamed =
           unnamed-now meta (exchanges_in own) u.call u.answer (map arc_value u.items) u.error (settings_in inside.watcher) e.talk.0 e.talk.1 (flat_map objects_of (events_of u))
           (objects-same t meta own (settings_in inside.watcher) u.call u.answer (map arc_value u.items) u.error (flat_map objects_of (events_of u)) (e.objects (dated_shapes own) h.0))
-          (c.map_unit.ensures.unnamed fault);
+          (c.map_unit-answer.ensures.unnamed fault);
     })
 
 pub returns-clause-lost : goal.returns-clause-lost
@@ -124,7 +124,7 @@ returns-clause-lost g c fault =
     let inside = c.self.inside in
     let settings = settings_in inside.watcher in
     let after : MappedWatching g.row.A.Denot g.row.A-Value.Denot g.row.M.Denot =
-    record { watcher = c.poll_unit.new.self; kind = g.A.Value.Resource.type_of inside.dyntype; mapper = inside.mapper; fault = c.fault_in.result } in
+    record { watcher = c.poll_unit.new.self; kind = g.A.Value.Resource.type_of inside.dyntype; mapper = inside.mapper; fault = c.fault_in-self-inside.result } in
     let e = c.in_ok-unit.ensures in
     subst (λ (a : MappedWatching g.row.A.Denot g.row.A-Value.Denot g.row.M.Denot). IsRelatedLost g.row.K.Denot g.A.ApiMode.talk a after) c.self.view_is
     (λ own h. inr (
