@@ -12,14 +12,14 @@ use std::sync::Arc;
 ///
 /// The reconcile itself ends in a later turn, by a finish.
 pub trait Reconciler<K: Resource, Ctx: Drop>: Drop {
-    ghost use Rattle.std.specs.Prelude.{List, Option, OnOk, OnErr, ◌≡◌};
+    ghost use Rattle.std.specs.Prelude.{List, Option, None, OnOk, OnErr, ◌≡◌};
     ghost use Rattle.std.specs.Arc.{arc_value};
     ghost use Rattle.kube_meta.specs.Reference.{Reference};
     ghost use Rattle.kube_meta.specs.Keys.{reference_of};
     ghost use Rattle.kube_model.specs.Raw.{grown};
 
-    /// What was handed over, in order, where the reconciler tells it.
-    ghost handed: { Self → Option (List (Reference × K)) };
+    /// What was handed over, in order, where the reconciler tells it. Where it doesn't say so it tells nothing.
+    ghost handed: { Self → Option (List (Reference × K)) } = { λ _. None };
 
     /// Starts the reconcile of an object under a reference by which it was found.
     fn start(
