@@ -1,0 +1,13 @@
+use Rattle.std.proofs.Common.{refl, ap}
+use Rattle.kube_fed.specs.Fed.{RootFeeding}
+use Rattle.kube_fed.specs.Feedings.{has_ended}
+use Rattle.kube_turn.specs.Views.{message_of}
+use Rattle.kube_watch.specs.Streams.{stream_answer}
+use Rattle.kube_feed.proofs.Named.{queued-named}
+use Rattle.kube_feed.proofs.applier.applier_with.Goals as goal
+
+pub returns-clause-stands : goal.returns-clause-stands
+returns-clause-stands g c w is limit debounce =
+    c.fed.ensures.stands w (ap (λ (r : RootFeeding _). has_ended r.feeding.standing) c.new.ensures) refl
+    (λ own at x r r' p. queued-named w own x (stream_answer (message_of g.K.Resource.type_of) p.answer) p.recorded)
+    is refl limit debounce

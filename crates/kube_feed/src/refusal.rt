@@ -1,0 +1,94 @@
+//! Which turns are refused.
+
+ghost use Rattle.std.specs.Prelude.{◌≡◌, [], List, None, length, map, option_map, IfOk, slice_set, true, false, ℕ};
+ghost use Rattle.kube_model.specs.History.{Message, Step};
+ghost use Rattle.kube_model.specs.Queue.{QueueEvent};
+ghost use Rattle.kube_model.specs.Takes.{Running, running};
+ghost use Rattle.kube_model.specs.Traces.{last_moment, refusal, refused_finish};
+ghost use Rattle.kube_history.specs.CoreWorld.{CoreWorld};
+ghost use Rattle.kube_core.specs.Pendings.{Stands};
+ghost use Rattle.kube_turn.specs.Records.{finish_of, turn_of};
+ghost use Rattle.kube_step.specs.Errors.{refusal_of};
+ghost use Rattle.kube_step.specs.Marks.{is_marked};
+
+use kube_core::Pending;
+use kube_meta::{Moment, NoMemory, Resource};
+use kube_step::BadTurn;
+use kube_turn::{Finish, Turn};
+use std::alloc::Global;
+
+/// Moments are below this one.
+const MOMENT_END: u64 = 9_223_372_036_854_775_808;
+
+/// As many marks, none of which is set.
+fn no_marks(alloc: Global, count: usize) -> Result<Vec<bool>, NoMemory>
+    ensures long { IfOk result (λ v. length v.items ≡ count) }
+    ensures none { IfOk result (λ v. (place : ℕ) → is_marked v.items place ≡ false) }
+{
+    let mut marks = Vec::new(alloc);
+    for _place in 0..count {
+        marks.push(false)?;
+    }
+    Ok(marks)
+}
+
+/// Whether a place is marked.
+fn is_marked(marks: &[bool], place: usize) -> bool
+    ensures { result ≡ is_marked marks.now place }
+{
+    match marks.get(place) {
+        Some(mark) => *mark,
+        None => false,
+    }
+}
+
+/// Marks a place.
+fn mark(marks: &mut Vec<bool>, place: usize)
+    ensures { marks.new.items ≡ slice_set marks.old.items place true }
+{
+    if place < marks.len() {
+        marks[place] = true;
+    }
+}
+
+/// Why the first of these finishes that is refused is.
+fn refused_finish<K: Resource, E: Drop>(
+    alloc: Global,
+    pending: &Pending<K>,
+    finishes: &[Finish<K, E>],
+) -> Result<Option<BadTurn>, NoMemory>
+    ensures { IfOk result (λ o. (core : CoreWorld K) (qs : List (QueueEvent Message)) (rs : List (Running K)) → Stands K.type_of core pending.now qs rs
+        → option_map refusal_of o ≡ refused_finish rs [] 0 (map (finish_of K.type_of) finishes.now)) }
+{
+    let mut marks = no_marks(alloc, pending.running_len())?;
+    for (finish, ended) in finishes.iter().enumerate() {
+        let Some(place) = pending.running_place(&ended.reference) else {
+            return Ok(Some(BadTurn::NotRunning { finish }));
+        };
+        if is_marked(marks.as_slice(), place) {
+            return Ok(Some(BadTurn::Twice { finish }));
+        }
+        mark(&mut marks, place);
+    }
+    Ok(None)
+}
+
+/// Why a turn is refused, if it is. `last` is the moment of the last turn.
+///
+/// # Errors
+///
+/// `NoMemory` where there is none for a mark of each reference that runs.
+pub fn refused<K: Resource, E: Drop>(
+    alloc: Global,
+    pending: &Pending<K>,
+    last: Moment,
+    turn: &Turn<K, E>,
+) -> Result<Option<BadTurn>, NoMemory>
+    ensures { IfOk result (λ o. (core : CoreWorld K) (qs : List (QueueEvent Message)) (h : List (Step K)) → Stands K.type_of core pending.now qs (running h) → last.0 ≡ last_moment h
+        → option_map refusal_of o ≡ refusal h (turn_of K.type_of turn.now)) }
+{
+    if turn.at.0 >= MOMENT_END || turn.at < last {
+        return Ok(Some(BadTurn::Moment { at: turn.at, last }));
+    }
+    refused_finish(alloc, pending, turn.finishes.as_slice())
+}
