@@ -2,16 +2,14 @@
 use Rattle.std.specs.Prelude.{ℕ, Bool, List, [], map, Option, Some, None, if◌then◌else◌}
 use Rattle.std.specs.List.{flat_map}
 use Rattle.kube_meta.specs.Reference.{Reference, reference_before}
-use Rattle.kube_model.specs.Reason.{Unknown, BulkReconcile}
+use Rattle.kube_model.specs.Reason.{Unknown}
 use Rattle.kube_model.specs.History.{Message, Finished}
 use Rattle.kube_model.specs.Queue.{sorted_by}
 use Rattle.kube_model.specs.Requests.{Timed, requested_at, requests_of_finish}
 use Rattle.kube_history.specs.CoreEvents.{action_requests}
+use Rattle.kube_core.specs.Cores.{in_bulk}
 
--- a message of a reload, and one that names a reference
-abbrev pub in_bulk : Reference → Message
-in_bulk r = record { reference = r; reason = BulkReconcile }
-
+-- a message that names a reference
 abbrev pub by_name : Reference → Message
 by_name r = record { reference = r; reason = Unknown }
 

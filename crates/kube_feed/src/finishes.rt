@@ -17,49 +17,13 @@ ghost use Rattle.kube_step.specs.Finishes.{AreFinished, IsActionFor};
 ghost use Rattle.kube_step.specs.Policies.{Answers};
 ghost use Rattle.kube_feed.specs.Requests.{ended_requests, finish_requests};
 
-use crate::requests::requeue;
 use kube_core::Pending;
+use kube_core::requests::requeue;
 use kube_meta::{Action, List, Moment, NoMemory, ObjectRef, Resource};
+use kube_step::finishes::action_of;
 use kube_turn::{Finish, Finished};
 use std::alloc::Global;
 use std::sync::Arc;
-
-/// What the error policy answers for an object that was handed over, whose reconcile failed.
-fn ask_policy<K: Drop, P, Ctx: Drop, E>(
-    error_policy: &P,
-    context: &Arc<Ctx>,
-    object: &Arc<K>,
-    fault: &E,
-) -> Result<Action, NoMemory>
-where
-    P: Fn(Arc<K>, &E, Arc<Ctx>) -> Action,
-    requires { P.IsAlwaysCallable error_policy.now }
-    ensures { IfOk result (λ a. Answers P.Fn error_policy.now (arc_value context.now) (arc_value object.now) fault.now a) }
-{
-    let object = Arc::try_clone(object)?;
-    let context = Arc::try_clone(context)?;
-    Ok(error_policy(object, fault, context))
-}
-
-/// The action after a reconcile ended: its own, or what the error policy answers. One that failed and doesn't run is not
-/// asked for again.
-fn action_of<K: Resource, P, Ctx: Drop, E: Drop>(
-    error_policy: &P,
-    context: &Arc<Ctx>,
-    object: Option<&Arc<K>>,
-    outcome: &Result<Action, E>,
-) -> Result<Action, NoMemory>
-where
-    P: Fn(Arc<K>, &E, Arc<Ctx>) -> Action,
-    requires { P.IsAlwaysCallable error_policy.now }
-    ensures { IfOk result (λ a. IsActionFor (Answers P.Fn error_policy.now (arc_value context.now)) (option_map arc_value (option_copied object.entry)) outcome.now a) }
-{
-    match (outcome, object) {
-        (Ok(action), _) => Ok(*action),
-        (Err(fault), Some(object)) => ask_policy(error_policy, context, object, fault),
-        (Err(_), None) => Ok(Action::await_change()),
-    }
-}
 
 /// Lets a reference run no more, and requests it again where the action asks for it, unless the turn is closed. It takes no
 /// memory.

@@ -1,10 +1,10 @@
 //! Controllers that are fed by streams and read a store, and appliers.
 #![tactic(auto)]
 
-pub mod applier;
 pub mod controller;
 mod finishes;
 mod parts;
+pub mod queued;
 mod reads;
 mod refusal;
 mod requests;
@@ -13,7 +13,7 @@ mod stopped;
 mod takes;
 mod turn;
 
-pub use applier::{Applier, NoBackoff, applier, applier_with};
+pub use queued::{Applier, NoBackoff, applier};
 pub use controller::FedController;
 pub use kube_asks::{
     Backoff, Beside, ByFunction, ByLabel, Mapper, NoRelated, One, Owners, Related, RelatedList,

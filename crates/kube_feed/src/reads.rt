@@ -14,8 +14,9 @@ ghost use Rattle.kube_feed.specs.Reads.{AreListed, IsLater, IsTold, told_by};
 ghost use Rattle.kube_feed.specs.Requests.{bulk_requests};
 
 use crate::parts::Parts;
-use crate::requests::{bulk_requests, request_all};
+use crate::requests::request_all;
 use kube_core::Pending;
+use kube_core::requests::requests_in_bulk;
 use kube_meta::{List, Moment, NoMemory, Polled, Resource};
 use kube_model::error::{RunnerError, WriterDropped};
 use kube_reflect::{Store, WriterDropped as StoreDropped};
@@ -36,7 +37,7 @@ fn reload<K: Resource, W: Wait>(
         → Stands K.type_of core pending.new (with_requests qs at.0 (bulk_requests core.key at.0 (Some found))) rs)) }
 {
     let keys = reader.keys(rt, alloc)?;
-    let requests = bulk_requests(alloc, keys)?;
+    let requests = requests_in_bulk(alloc, keys)?;
     request_all(alloc, pending, requests, at)
 }
 

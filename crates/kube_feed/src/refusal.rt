@@ -1,6 +1,6 @@
 //! Which turns are refused.
 
-ghost use Rattle.std.specs.Prelude.{◌≡◌, [], List, None, length, map, option_map, IfOk, slice_set, true, false, ℕ};
+ghost use Rattle.std.specs.Prelude.{◌≡◌, [], List, map, option_map, IfOk};
 ghost use Rattle.kube_model.specs.History.{Message, Step};
 ghost use Rattle.kube_model.specs.Queue.{QueueEvent};
 ghost use Rattle.kube_model.specs.Takes.{Running, running};
@@ -9,47 +9,16 @@ ghost use Rattle.kube_history.specs.CoreWorld.{CoreWorld};
 ghost use Rattle.kube_core.specs.Pendings.{Stands};
 ghost use Rattle.kube_turn.specs.Records.{finish_of, turn_of};
 ghost use Rattle.kube_step.specs.Errors.{refusal_of};
-ghost use Rattle.kube_step.specs.Marks.{is_marked};
 
 use kube_core::Pending;
 use kube_meta::{Moment, NoMemory, Resource};
 use kube_step::BadTurn;
+use kube_step::refusal::{is_marked, mark, no_marks};
 use kube_turn::{Finish, Turn};
 use std::alloc::Global;
 
 /// Moments are below this one.
 const MOMENT_END: u64 = 9_223_372_036_854_775_808;
-
-/// As many marks, none of which is set.
-fn no_marks(alloc: Global, count: usize) -> Result<Vec<bool>, NoMemory>
-    ensures long { IfOk result (λ v. length v.items ≡ count) }
-    ensures none { IfOk result (λ v. (place : ℕ) → is_marked v.items place ≡ false) }
-{
-    let mut marks = Vec::new(alloc);
-    for _place in 0..count {
-        marks.push(false)?;
-    }
-    Ok(marks)
-}
-
-/// Whether a place is marked.
-fn is_marked(marks: &[bool], place: usize) -> bool
-    ensures { result ≡ is_marked marks.now place }
-{
-    match marks.get(place) {
-        Some(mark) => *mark,
-        None => false,
-    }
-}
-
-/// Marks a place.
-fn mark(marks: &mut Vec<bool>, place: usize)
-    ensures { marks.new.items ≡ slice_set marks.old.items place true }
-{
-    if place < marks.len() {
-        marks[place] = true;
-    }
-}
 
 /// Why the first of these finishes that is refused is.
 fn refused_finish<K: Resource, E: Drop>(

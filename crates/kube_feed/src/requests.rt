@@ -1,116 +1,20 @@
-//! Requests that are made together: those of exchanges, of reloads and of finishes.
+//! Requests that are made together.
 
-ghost use Rattle.std.specs.Prelude.{◌≡◌, ◌+◌, ◌≤◌, List, IfOk, OnOk, map, length};
-ghost use Rattle.std.specs.List.{prefix_len};
-ghost use Rattle.kube_meta.specs.Keys.{reference_of};
-ghost use Rattle.kube_meta.specs.Reference.{reference_before};
-ghost use Rattle.kube_model.specs.Queue.{QueueEvent, insert_by, sorted_by};
+ghost use Rattle.std.specs.Prelude.{◌≡◌, List, OnOk, map};
+ghost use Rattle.kube_model.specs.Queue.{QueueEvent};
 ghost use Rattle.kube_model.specs.History.{Message};
 ghost use Rattle.kube_model.specs.Requests.{requested_at};
 ghost use Rattle.kube_model.specs.Takes.{Running};
 ghost use Rattle.kube_history.specs.CoreWorld.{CoreWorld};
-ghost use Rattle.kube_history.specs.CoreEvents.{action_requests, retry_of};
 ghost use Rattle.kube_history.specs.TurnCalls.{with_requests};
-ghost use Rattle.kube_model.specs.ReasonView.{reason_of};
 ghost use Rattle.kube_turn.specs.Views.{message_of};
 ghost use Rattle.kube_core.specs.Pendings.{Stands};
-ghost use Rattle.kube_feed.specs.Requests.{in_bulk};
 
 use kube_core::Pending;
-use kube_meta::{Action, Moment, NoMemory, ObjectRef, Resource};
-use kube_model::reason::ReconcileReason;
+use kube_core::requests::request_each;
+use kube_meta::{Moment, NoMemory, Resource};
 use kube_turn::ReconcileRequest;
 use std::alloc::Global;
-
-/// The same requests in memory of their own.
-pub fn copy_requests<K: Resource>(
-    alloc: Global,
-    requests: &[ReconcileRequest<K>],
-) -> Result<Vec<ReconcileRequest<K>>, NoMemory>
-    ensures { IfOk result (λ v. map (message_of K.type_of) v.items ≡ map (message_of K.type_of) requests.now) }
-{
-    let mut copies = Vec::new(alloc);
-    for request in requests {
-        copies.push(request.copy(alloc)?)?;
-    }
-    Ok(copies)
-}
-
-/// How many references come before another, of those that are in order.
-fn count_before<K: Resource>(keys: &[ObjectRef<K>], key: &ObjectRef<K>) -> usize
-    ensures count { result ≡ prefix_len (λ other. reference_before (reference_of K.type_of other) (reference_of K.type_of key.now)) keys.now }
-    ensures within { result ≤ length keys.now }
-{
-    keys.iter()
-        .take_while(|other| other.cmp_by_name(key).is_lt())
-        .count()
-}
-
-/// Puts a reference into its place among others that are in order, before its equals.
-fn insert_key<K: Resource>(keys: &mut Vec<ObjectRef<K>>, key: ObjectRef<K>) -> Result<(), NoMemory>
-    ensures { OnOk result (map (reference_of K.type_of) keys.new.items ≡ insert_by reference_before (reference_of K.type_of key) (map (reference_of K.type_of) keys.old.items)) }
-{
-    let place = count_before(keys, &key);
-    keys.insert(place, key)?;
-    Ok(())
-}
-
-/// The references by namespace, none first, and then by name.
-fn sort_keys<K: Resource>(
-    alloc: Global,
-    keys: Vec<ObjectRef<K>>,
-) -> Result<Vec<ObjectRef<K>>, NoMemory>
-    ensures { IfOk result (λ v. map (reference_of K.type_of) v.items ≡ sorted_by reference_before (map (reference_of K.type_of) keys.items)) }
-{
-    let mut left = keys;
-    let mut sorted = Vec::new(alloc);
-    while let Some(key) = left.pop() {
-        insert_key(&mut sorted, key)?;
-    }
-    Ok(sorted)
-}
-
-/// A request for each, in bulk.
-fn request_keys<K: Resource>(
-    alloc: Global,
-    keys: Vec<ObjectRef<K>>,
-) -> Result<Vec<ReconcileRequest<K>>, NoMemory>
-    ensures { IfOk result (λ v. map (message_of K.type_of) v.items ≡ map in_bulk (map (reference_of K.type_of) keys.items)) }
-{
-    let mut requests = Vec::new(alloc);
-    for key in keys {
-        requests.push(ReconcileRequest {
-            obj_ref: key,
-            reason: ReconcileReason::BulkReconcile,
-        })?;
-    }
-    Ok(requests)
-}
-
-/// A request for each of these references, by namespace, none first, and then by name.
-pub fn bulk_requests<K: Resource>(
-    alloc: Global,
-    keys: Vec<ObjectRef<K>>,
-) -> Result<Vec<ReconcileRequest<K>>, NoMemory>
-    ensures { IfOk result (λ v. map (message_of K.type_of) v.items ≡ map in_bulk (sorted_by reference_before (map (reference_of K.type_of) keys.items))) }
-{
-    request_keys(alloc, sort_keys(alloc, keys)?)
-}
-
-/// Requests these, each for now, at places that are kept. It takes no memory.
-fn request_each<K: Resource>(
-    pending: &mut Pending<K>,
-    requests: Vec<ReconcileRequest<K>>,
-    now: Moment,
-)
-    requires { length pending.old.running + length requests.items ≤ pending.old.schedule.spare }
-    ensures stands { (core : CoreWorld K) (qs : List (QueueEvent Message)) (rs : List (Running K)) → Stands K.type_of core pending.old qs rs
-        → Stands K.type_of core pending.new (with_requests qs now.0 (map (requested_at now.0) (map (message_of K.type_of) requests.items))) rs }
-{
-    for request in requests {
-        pending.request_again(request, now, now);
-    }
-}
 
 /// Requests these, each for now.
 ///
@@ -129,37 +33,4 @@ pub fn request_all<K: Resource>(
     pending.reserve(alloc, requests.len())?;
     request_each(pending, requests, now);
     Ok(())
-}
-
-/// Why a reference comes again after its reconcile: the reconcile or the error policy asked for it.
-fn retry_reason(ok: bool) -> ReconcileReason
-    ensures { reason_of result ≡ retry_of ok }
-{
-    if ok {
-        ReconcileReason::ReconcilerRequestedRetry
-    } else {
-        ReconcileReason::ErrorPolicyRequestedRetry
-    }
-}
-
-/// Requests a reference again where an action asks for it, at a place that is kept. It takes no memory.
-pub fn requeue<K: Resource>(
-    pending: &mut Pending<K>,
-    reference: ObjectRef<K>,
-    ok: bool,
-    action: Action,
-    now: Moment,
-)
-    requires { length pending.old.running + 1 ≤ pending.old.schedule.spare }
-    ensures { (core : CoreWorld K) (qs : List (QueueEvent Message)) (rs : List (Running K)) → Stands K.type_of core pending.old qs rs
-        → Stands K.type_of core pending.new (with_requests qs now.0 (action_requests now.0 (reference_of K.type_of reference) ok action)) rs }
-{
-    let Some(nanos) = action.requeue_after() else {
-        return;
-    };
-    let request = ReconcileRequest {
-        obj_ref: reference,
-        reason: retry_reason(ok),
-    };
-    pending.request_again(request, now.plus(nanos), now);
 }

@@ -14,9 +14,10 @@ ghost use Rattle.kube_turn.specs.Views.{exchange_of};
 ghost use Rattle.kube_asks.specs.Kept.{total};
 ghost use Rattle.kube_feed.specs.Asked.{AreAsked, AreEndedBy, IsAsked, MayAsk};
 
-use crate::requests::{copy_requests, request_all};
+use crate::requests::request_all;
 use kube_asks::{AskFault, Asks, Backoff, RelatedSet, RootSource};
 use kube_core::Pending;
+use kube_core::requests::copy_requests;
 use kube_meta::{List, Moment, NoMemory, Resource};
 use kube_turn::SourceExchange;
 use std::alloc::Global;

@@ -20,19 +20,14 @@ ghost use Rattle.kube_feed.specs.Takes.{IsLookedUp, IsTake};
 ghost use Rattle.kube_feed.specs.Turns.{AreAllTaken};
 
 use kube_core::Pending;
+use kube_core::taking::{take_found, take_missing};
 use kube_meta::{List, NoMemory, Resource};
 use kube_reflect::Store;
 use kube_step::Reconciler;
-use kube_turn::{ReconcileRequest, Taken};
+use kube_step::takes::{hand_over, is_nothing};
+use kube_turn::Taken;
 use std::alloc::Global;
 use std::sync::{Arc, Wait};
-
-/// The same object.
-fn share<K: Drop>(object: &Arc<K>) -> Result<Arc<K>, NoMemory>
-    ensures { IfOk result (λ o. arc_value o ≡ arc_value object.now) }
-{
-    Ok(Arc::try_clone(object)?)
-}
 
 /// What is stored for the first candidate, in one read, where there is one.
 fn next_object<K: Resource, W: Wait>(
@@ -50,45 +45,6 @@ fn next_object<K: Resource, W: Wait>(
     };
     let found = reader.get(rt, alloc, &request.obj_ref)?;
     Ok(Some(found))
-}
-
-/// Takes the first candidate, for which nothing is stored. It takes no memory.
-fn take_missing<K: Resource>(pending: &mut Pending<K>) -> Taken<K>
-    ensures first { (core : CoreWorld K) (qs : List (QueueEvent Message)) (rs : List (Running K)) → Stands K.type_of core pending.old qs rs
-        → taken_of K.type_of result ≡ option_map (λ m. record { message = m; object = None }) (next_candidate core qs rs) }
-    ensures stands { (core : CoreWorld K) (qs : List (QueueEvent Message)) (rs : List (Running K)) → Stands K.type_of core pending.old qs rs
-        → Stands K.type_of core pending.new (qs ++ queue_with core (Took 0 (taken_of K.type_of result))) (running_with rs (Took 0 (taken_of K.type_of result))) }
-{
-    let Some(request) = pending.take_candidate() else {
-        return Taken::Nothing;
-    };
-    let ReconcileRequest { obj_ref, reason } = request;
-    Taken::NotFound {
-        reference: obj_ref,
-        reason,
-    }
-}
-
-/// Takes the first candidate, and lets it run with what is stored for it.
-fn take_found<K: Resource>(
-    alloc: Global,
-    pending: &mut Pending<K>,
-    object: Arc<K>,
-) -> Result<Taken<K>, NoMemory>
-    ensures first { IfOk result (λ t. (core : CoreWorld K) (qs : List (QueueEvent Message)) (rs : List (Running K)) → Stands K.type_of core pending.old qs rs
-        → taken_of K.type_of t ≡ option_map (λ m. record { message = m; object = Some (arc_value object) }) (next_candidate core qs rs)) }
-    ensures stands { IfOk result (λ t. (core : CoreWorld K) (qs : List (QueueEvent Message)) (rs : List (Running K)) → Stands K.type_of core pending.old qs rs
-        → Stands K.type_of core pending.new (qs ++ queue_with core (Took 0 (taken_of K.type_of t))) (running_with rs (Took 0 (taken_of K.type_of t)))) }
-{
-    let Some(request) = pending.start_candidate(alloc, share(&object)?)? else {
-        return Ok(Taken::Nothing);
-    };
-    let ReconcileRequest { obj_ref, reason } = request;
-    Ok(Taken::Started {
-        reference: obj_ref,
-        reason,
-        object,
-    })
 }
 
 /// Takes the first candidate with what is stored for it, which then runs.
@@ -109,38 +65,6 @@ fn take_one<K: Resource, W: Wait>(
         return Ok(take_missing(pending));
     };
     take_found(alloc, pending, object)
-}
-
-/// Whether nothing was taken.
-fn is_nothing<K: Resource>(taken: &Taken<K>) -> bool
-    ensures { result ≡ not (is_some (taken_of K.type_of taken.now)) }
-{
-    matches!(taken, Taken::Nothing)
-}
-
-/// Hands what was taken to the reconciler, where it was found.
-fn hand_over<K: Resource, Ctx: Drop, Rc: Reconciler<K, Ctx>>(
-    reconciler: &mut Rc,
-    alloc: Global,
-    context: &Arc<Ctx>,
-    taken: &Taken<K>,
-) -> Result<(), NoMemory>
-    ensures handed { OnOk result (Rc.handed reconciler.new ≡ grown_by (Rc.handed reconciler.old) (handed_by (cons_option (taken_of K.type_of taken.now) []))) }
-    ensures err { OnErr result (Rc.handed reconciler.new ≡ Rc.handed reconciler.old) }
-{
-    match taken {
-        Taken::Started {
-            reference,
-            object,
-            ..
-        } => {
-            let object = Arc::try_clone(object)?;
-            let context = Arc::try_clone(context)?;
-            reconciler.start(alloc, reference, object, context)
-        }
-        Taken::NotFound { .. } => Ok(()),
-        Taken::Nothing => Ok(()),
-    }
 }
 
 /// Takes the first that is due and held back by nothing, if there is one, and hands it over, where it is found.

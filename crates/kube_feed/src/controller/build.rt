@@ -110,13 +110,14 @@ impl<K: Resource<DynamicType = ()>, St: EventStream<Item = Arc<K>>> FedControlle
         trigger: St,
         reader: Store<K>,
     ) -> FedController<StreamRoot<K, St>, NoRelated, DefaultBackoff>
-        requires kind { reader.kind ≡ K.type_of tt }
         ensures stands { (w : World K (ResetTimer Exponential)) → IsWorldOfAsks ⟦<StreamRoot<K, St> as RootSource>⟧ ⟦<NoRelated as RelatedSet<K>>⟧ ⟦<DefaultBackoff as Backoff>⟧ K.Resource w result.asks
             → w.backoff ≡ default_backoff → w.limit ≡ 0 → w.debounce ≡ 0
             → StandsFor ⟦<StreamRoot<K, St> as RootSource>⟧ ⟦<NoRelated as RelatedSet<K>>⟧ ⟦<DefaultBackoff as Backoff>⟧ K.Resource w [] result }
         ensures root { result.asks.root ≡ record { feeding = record { stream = trigger; standing = Open }; kind = K.type_of tt } }
         ensures reader { result.reader ≡ reader }
     {
+        // (there is one such type, which is the handle's)
+        let _type = reader.dyntype();
         FedController::for_stream_with(alloc, trigger, reader, ())
     }
 
@@ -126,13 +127,14 @@ impl<K: Resource<DynamicType = ()>, St: EventStream<Item = Arc<K>>> FedControlle
         trigger: St,
         reader: Store<K>,
     ) -> FedController<StreamRoot<K, St>, NoRelated, DefaultBackoff>
-        requires kind { reader.kind ≡ K.type_of tt }
         ensures stands { (w : World K (ResetTimer Exponential)) → IsWorldOfAsks ⟦<StreamRoot<K, St> as RootSource>⟧ ⟦<NoRelated as RelatedSet<K>>⟧ ⟦<DefaultBackoff as Backoff>⟧ K.Resource w result.asks
             → w.backoff ≡ default_backoff → w.limit ≡ 0 → w.debounce ≡ 0
             → StandsFor ⟦<StreamRoot<K, St> as RootSource>⟧ ⟦<NoRelated as RelatedSet<K>>⟧ ⟦<DefaultBackoff as Backoff>⟧ K.Resource w [] result }
         ensures root { result.asks.root ≡ record { feeding = record { stream = trigger; standing = Open }; kind = K.type_of tt } }
         ensures reader { result.reader ≡ reader }
     {
+        // (there is one such type, which is the handle's)
+        let _type = reader.dyntype();
         FedController::for_stream_with(alloc, trigger, reader, ())
     }
 }

@@ -6,7 +6,7 @@ use super::objects::{Maps, Named, Reads, Stored, kind, object, stored, writer};
 use super::scripted::{Request, Said, Scripted};
 use super::shown::{records, told};
 use super::turns::{Answered, Ask, Row, bare_turn, run, turns};
-use kube_feed::{Applier, Config, Finish, Recorder, Taken, Turn, TurnRecord, applier_with};
+use kube_feed::{Applier, Config, Finish, Recorder, Taken, Turn, TurnRecord, applier};
 use kube_meta::{Action, DynamicObject, Moment, Next, NoMemory, ObjectRef};
 use kube_model::error::Error;
 use kube_reflect::WriteError;
@@ -166,9 +166,8 @@ fn make(
     concurrency: u16,
     script: &'static [Said],
 ) -> Result<Tested, NoMemory> {
-    let dyntype = kind(alloc, "ConfigMap")?;
     let config = Config::default().concurrency(concurrency);
-    Ok(applier_with(alloc, store, Scripted::new(script), dyntype, config))
+    applier(alloc, store, Scripted::new(script), config)
 }
 
 /// What the records of a run over these turns tell, and how it ended.
@@ -303,12 +302,11 @@ fn many<R: Wait>(rt: &R, alloc: Global) -> Result<(Applier<DynamicObject, Many>,
     };
     list_many(alloc, &mut writer)?;
     writer.publish(rt, alloc)?;
-    let dyntype = kind(alloc, "ConfigMap")?;
     let queue = Many {
         next: 0,
         fault: None,
     };
-    let applier = applier_with(alloc, reader, queue, dyntype, Config::default());
+    let applier = applier(alloc, reader, queue, Config::default())?;
     Ok((applier, writer))
 }
 

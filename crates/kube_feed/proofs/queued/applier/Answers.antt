@@ -4,7 +4,7 @@ use Rattle.kube_fed.specs.Feedings.{has_ended}
 use Rattle.kube_turn.specs.Views.{message_of}
 use Rattle.kube_watch.specs.Streams.{stream_answer}
 use Rattle.kube_feed.proofs.Named.{queued-named}
-use Rattle.kube_feed.proofs.applier.applier_with.Goals as goal
+use Rattle.kube_feed.proofs.queued.applier.Goals as goal
 
 pub returns-clause-stands : goal.returns-clause-stands
 returns-clause-stands g c w is limit debounce =
