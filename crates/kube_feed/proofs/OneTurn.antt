@@ -14,7 +14,7 @@ use Rattle.kube_model.specs.Requests.{events_of, requested_and_settled, requests
 use Rattle.kube_model.specs.Shutdowns.{asks_shutdown, is_closed, is_forced, is_over}
 use Rattle.kube_model.specs.Stored.{stored_in, was_ready}
 use Rattle.kube_model.specs.Takes.{running, started}
-use Rattle.kube_model.specs.Turns.{record_with, running_in, was_asked}
+use Rattle.kube_model.specs.Turns.{record_with, running_in, taken_in, was_asked}
 use Rattle.kube_model.specs.Traces.{AreFinishesOf, IsRecord, IsValid}
 use Rattle.kube_history.specs.CoreWorld.{core_world}
 use Rattle.kube_history.specs.TurnCalls.{ReaderAnswers, with_requests}
@@ -199,7 +199,7 @@ module _ {R S B O D : Type 0} (root : root_source.Ghosts R O D) (related : relat
           queue : queue_asked w.key finished_queue t (with_shown r store) xs ≡ events_of w h ++ turn_events w h t (with_shown r store) fs xs
           queue = queue-is w may.is_fed h t (with_shown r store) xs fs open-now g.reloaded
 
-          made-now : IsRecord w (answered_in fs) h t (record_with w h t (with_shown r store) fs xs, with_shown r store) × (_ ≡ ts)
+          made-now : IsRecord w (answered_in fs) h t (record_with w h t (with_shown r store) fs xs, with_shown r store) × (taken_in w h t (with_shown r store) fs xs ≡ ts)
           made-now =
               made w may.is_fed h t (with_shown r store) fs xs ts ((was_ready h || told_ready r) && not (gave_up w (exchanges_with h t xs))) v z g.asked g.done answers
               (ap₂ (λ x y. x && not y) (ready-is w may.is_fed h t (with_shown r store) xs) (sym over-is))
@@ -246,7 +246,7 @@ module _ {R S B O D : Type 0} (root : root_source.Ghosts R O D) (related : relat
             shown = shows;
           }
 
-          closed-made : IsRecord w (answered_in fs) h t (record_with w h t closed_reads fs [], closed_reads) × (_ ≡ [])
+          closed-made : IsRecord w (answered_in fs) h t (record_with w h t closed_reads fs [], closed_reads) × (taken_in w h t closed_reads fs [] ≡ [])
           closed-made =
               made w may.is_fed h t closed_reads fs [] [] false v z tt (none-next w h t (closed-now ∙ e)) no-answers
               (ap (λ b. (stored_in w h t closed_reads []).is_ready && not b) closed-is-over ∙ and-false ((stored_in w h t closed_reads []).is_ready))

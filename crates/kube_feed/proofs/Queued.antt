@@ -11,7 +11,8 @@ use Rattle.kube_model.specs.Shutdowns.{is_closed}
 use Rattle.kube_model.specs.Stored.{stored_by, stored_in, was_ready}
 use Rattle.kube_history.specs.TurnCalls.{with_requests}
 use Rattle.kube_history.proofs.TurnCalls.{requests-join, settle-join}
-use Rattle.kube_feed.specs.Requests.{bulk_requests, by_name, finish_requests, in_bulk, name_requests}
+use Rattle.kube_core.specs.Cores.{in_bulk}
+use Rattle.kube_feed.specs.Requests.{bulk_requests, by_name, finish_requests, name_requests}
 use Rattle.kube_feed.specs.Turns.{first_requests, queue_asked}
 
 map-map : {A B C : Type 0} (f : A → B) (g : B → C) (xs : List A) → map g (map f xs) ≡ map (λ x. g (f x)) xs

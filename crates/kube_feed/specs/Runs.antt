@@ -35,6 +35,12 @@ module _ {O E D : Type 0} (type_of : D → ObjectType) (policy : O → E → Act
   AreFinishedIn h (t ∷ ts) (r ∷ rs) (m ∷ ms) =
       AreFinished type_of policy (running h) t.finishes r.finished × AreFinishedIn (h ++ step (turn_of type_of t) m ∷ []) ts rs ms
 
+module _ {R S B O D : Type 0} (root : root_source.Ghosts R O D) (related : related_set.Ghosts S O D) (w : World O B) where
+  -- a fault broke a turn off after this history; where an object has no name the turn is valid. What is told of the sources is what was asked until then
+  pub record IsBrokenOff (f : AskFault) (h : List (Step O)) (t : Turn) (r : R) (s : S) (r' : R) (s' : S) : Type 0 where
+    pub valid : IfUnnamedAsk f (λ source. IsValid h t)
+    pub ended : AreEndedBy root related w h t f [] r s r' s'
+
 module _ {R S B O D : Type 0} (root : root_source.Ghosts R O D) (related : related_set.Ghosts S O D) (delays : backoff.Ghosts B) (object : resource.Ghosts O D) (w : World O B) where
   -- this is what the turn made after this history, and nothing else was asked
   pub record IsNextTurn (h : List (Step O)) (t : Turn) (c : Feeding R S B O D) (m : Made O) (c' : Feeding R S B O D) : Type 0 where
@@ -55,11 +61,6 @@ module _ {R S B O D : Type 0} (root : root_source.Ghosts R O D) (related : relat
     pub refused : IsRefusedAfter w (answered_by (records_in ms)) h ts ms why
     pub before : HaveRun h (take (length ms) ts) c ms c'
 
-  -- a fault broke a turn off after this history; where an object has no name the turn is valid. What is told of the sources is what was asked until then
-  pub record IsBrokenOff (f : AskFault) (h : List (Step O)) (t : Turn) (r : R) (s : S) (r' : R) (s' : S) : Type 0 where
-    pub valid : IfUnnamedAsk f (λ source. IsValid h t)
-    pub ended : AreEndedBy root related w h t f [] r s r' s'
-
   -- this is what the first turns made, all of which were done; the next turn was broken off by a fault, and nothing else was asked
   pub record WereBrokenOff (f : AskFault) (h : List (Step O)) (ts : List Turn) (c : Feeding R S B O D) (ms : List (Made O)) (c' : Feeding R S B O D) : Type 0 where
     pub traced : IsTrace w (answered_by (records_in ms)) h (take (length ms) ts) ms
@@ -70,4 +71,4 @@ module _ {R S B O D : Type 0} (root : root_source.Ghosts R O D) (related : relat
     pub turn : Turn
     pub next : slice_get ts (length ms) ≡ Some turn
     pub going : has_ended (h ++ steps (take (length ms) ts) ms) ≡ false
-    pub broken : IsBrokenOff f (h ++ steps (take (length ms) ts) ms) turn reached_root reached_related c'.asks.root c'.asks.related
+    pub broken : IsBrokenOff root related w f (h ++ steps (take (length ms) ts) ms) turn reached_root reached_related c'.asks.root c'.asks.related

@@ -2,7 +2,7 @@
 
 ghost use Rattle.std.specs.Prelude.{◌≡◌, IfOk};
 
-use super::objects::{Maps, Named, Reads, Stored, kind, object, stored, writer};
+use super::objects::{Maps, Named, Reads, Stored, kind, make_stored, object, writer};
 use super::scripted::{Request, Said, Scripted};
 use super::shown::{records, told};
 use super::turns::{Answered, Ask, Row, bare_turn, run, turns};
@@ -186,7 +186,7 @@ fn ran<R: Wait>(
 /// The same of a case.
 fn ran_case<R: Wait>(rt: &R, alloc: Global, case: &Case) -> Result<String, NoMemory> {
     let (told, concurrency, script, rows, _end) = *case;
-    let (store, _writer) = stored(rt, alloc, told)?;
+    let (store, _writer) = make_stored(rt, alloc, told)?;
     let mut applier = make(alloc, store, concurrency, script)?;
     ran(rt, alloc, &mut applier, rows)
 }
@@ -295,7 +295,7 @@ impl EventStream for Many {
 }
 
 /// An applier of many requests, over a store that has all of them.
-fn many<R: Wait>(rt: &R, alloc: Global) -> Result<(Applier<DynamicObject, Many>, Maps), NoMemory> {
+fn make_many<R: Wait>(rt: &R, alloc: Global) -> Result<(Applier<DynamicObject, Many>, Maps), NoMemory> {
     let mut writer = writer(alloc)?;
     let Some(reader) = writer.as_reader() else {
         return Err(NoMemory);
@@ -377,7 +377,7 @@ fn finished(answered: &Option<Answered>) -> usize {
 
 /// How many references are finished in four turns.
 fn all_finished<R: Wait>(rt: &R, alloc: Global) -> Result<usize, NoMemory> {
-    let (mut applier, _writer) = many(rt, alloc)?;
+    let (mut applier, _writer) = make_many(rt, alloc)?;
     let mut answered = None;
     let mut all: usize = 0;
     for _turn in 0..4 {

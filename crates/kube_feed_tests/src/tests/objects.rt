@@ -138,7 +138,7 @@ fn told<R: Wait>(
 }
 
 /// A handle of a store whose writer told this, and the writer, unless it ended.
-pub fn stored<R: Wait>(
+pub fn make_stored<R: Wait>(
     rt: &R,
     alloc: Global,
     stored: Stored,

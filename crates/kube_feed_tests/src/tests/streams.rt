@@ -1,6 +1,6 @@
 //! Controllers that streams feed: rows of turns over a root, a related source and a store.
 
-use super::objects::{Named, Object, Reads, Stored, kind, stored};
+use super::objects::{Named, Object, Reads, Stored, kind, make_stored};
 use super::scripted::{Said, Scripted};
 use super::shown::told;
 use super::turns::{Ask, Row, run, turns};
@@ -115,7 +115,7 @@ fn ran<R: Wait>(
 /// The same of a case.
 fn ran_case<R: Wait>(rt: &R, alloc: Global, case: &Case) -> Result<String, NoMemory> {
     let (told, root, related, rows, _end) = *case;
-    let (store, _writer) = stored(rt, alloc, told)?;
+    let (store, _writer) = make_stored(rt, alloc, told)?;
     let mut controller = make(alloc, store, root, related)?;
     ran(rt, alloc, &mut controller, rows)
 }

@@ -8,7 +8,7 @@ use Rattle.kube_history.specs.TurnCalls.{with_requests}
 use Rattle.kube_core.specs.Pendings.{Stands}
 use Rattle.kube_reflect.specs.Published.{stored_in}
 use Rattle.kube_reflect.specs.Reads.{objects}
-use Rattle.kube_feed.specs.Requests.{in_bulk}
+use Rattle.kube_core.specs.Cores.{in_bulk}
 use Rattle.kube_feed.proofs.Keyed.{keys-in}
 use Rattle.kube_feed.proofs.Reading.{later-by, read-by}
 use Rattle.kube_feed.proofs.reads.reload.Goals as goal
