@@ -6,7 +6,7 @@ pub mod Going
 pub mod Keyed
 pub mod Named
 pub mod OneTurn
-pub mod Queued
+pub mod Requested
 pub mod Reading
 pub mod Runs
 pub mod Stops

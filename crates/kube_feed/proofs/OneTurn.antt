@@ -37,7 +37,7 @@ use Rattle.kube_feed.specs.Fed.{PartsStand}
 use Rattle.kube_feed.specs.Reads.{AreListed, IsReadIn}
 use Rattle.kube_feed.specs.Requests.{finish_requests}
 use Rattle.kube_feed.specs.Turns.{AreTakenWhere, HasGoneOn, IsTaken, MayGoOn, queue_asked}
-use Rattle.kube_feed.proofs.Queued.{queue-is, ready-is}
+use Rattle.kube_feed.proofs.Requested.{queue-is, ready-is}
 use Rattle.kube_feed.proofs.Turned.{closed-is, made, parts-after, record-is}
 
 or-left : (a b : Bool) → (a || b) ≡ false → a ≡ false

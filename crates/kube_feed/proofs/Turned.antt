@@ -33,7 +33,7 @@ use Rattle.kube_step.specs.Policies.{answered_in}
 use Rattle.kube_feed.specs.declared.parts.Parts.{Parts}
 use Rattle.kube_feed.specs.Fed.{PartsStand}
 use Rattle.kube_feed.specs.Turns.{AreTakenWhere}
-use Rattle.kube_feed.proofs.Queued.{shown-is, failure-is}
+use Rattle.kube_feed.proofs.Requested.{shown-is, failure-is}
 
 or-none : (b : Bool) → (b || false) ≡ b
 or-none true = refl

@@ -9,7 +9,7 @@ ghost use Rattle.kube_step.specs.Controllers.{IsWorldOfAsks};
 ghost use Rattle.kube_feed.specs.Fed.{StandsFor};
 
 use crate::controller::FedController;
-use crate::parts::Parts;
+use crate::parts::{Parts, emptied};
 use kube_asks::{Asks, Backoff, NoRelated, RelatedSet, RootSource};
 use kube_core::Pending;
 use kube_fed::StreamRoot;
@@ -150,10 +150,7 @@ impl<R: RootSource, S: RelatedSet<R::Object>, B: Backoff> FedController<R, S, B>
     {
         FedController {
             asks: self.asks,
-            parts: Parts {
-                pending: Pending::new(alloc, config),
-                ..self.parts
-            },
+            parts: emptied(self.parts, alloc, config),
             last: self.last,
             ended: self.ended,
             spent: self.spent,

@@ -1,4 +1,4 @@
-use Rattle.std.proofs.Common.{[], refl, sym, subst}
+use Rattle.std.proofs.Common.{[], sym, ap, subst, ◌∙◌}
 use Rattle.kube_history.specs.CoreWorld.{core_world}
 use Rattle.kube_step.specs.Controllers.{IsWorldOfAsks}
 use Rattle.kube_control.proofs.Histories.{none-yet}
@@ -13,8 +13,9 @@ returns-clause-stands g c v w s is backoff limit debounce =
     let own = subst (λ (x : Feeding g.row.R.Denot g.row.S.Denot g.row.B.Denot g.row.R-Object.Denot g.row.R-Object-DynamicType.Denot).
     IsWorldOfAsks g.R.RootSource g.S.RelatedSet g.B.Backoff g.R.Object.Resource w x.asks) (sym c.self.view_is) is in
     record {
-      parts = configured g.R.RootSource g.S.RelatedSet g.B.Backoff g.R.Object.Resource v w c.self.inside.asks c.self.inside.parts (record c.self.inside.parts { pending = c.new.result }) z.parts own backoff refl refl refl
-          (c.new.ensures (core_world w) limit debounce);
+      parts = configured g.R.RootSource g.S.RelatedSet g.B.Backoff g.R.Object.Resource v w c.self.inside.asks c.self.inside.parts c.emptied.result z.parts own backoff
+          (ap (λ p. p.reader) c.emptied.ensures.rest) (ap (λ p. p.ready) c.emptied.ensures.rest) (ap (λ p. p.shut) c.emptied.ensures.rest)
+          (c.emptied.ensures.stands (core_world w) limit debounce);
       last = z.last;
       ended = z.ended;
       of_trace = none-yet w;

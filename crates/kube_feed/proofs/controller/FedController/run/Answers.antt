@@ -10,7 +10,7 @@ use Rattle.kube_feed.specs.Fed.{Feeding}
 use Rattle.kube_feed.specs.Runs.{records_in}
 use Rattle.kube_feed.proofs.Runs.{broken-same, never-spent}
 use Rattle.kube_feed.proofs.Stops.{faulted-now, refused-now}
-use Rattle.kube_feed.proofs.controller.run.FedController.run.Goals as goal
+use Rattle.kube_feed.proofs.controller.FedController.run.Goals as goal
 
 pub returns-in-Ok-clause-trace : goal.returns-in-Ok-clause-trace
 returns-in-Ok-clause-trace g c =
