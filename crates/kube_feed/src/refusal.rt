@@ -53,7 +53,7 @@ pub fn refused<K: Resource, E: Drop>(
     last: Moment,
     turn: &Turn<K, E>,
 ) -> Result<Option<BadTurn>, NoMemory>
-    ensures { IfOk result (λ o. (core : CoreWorld K) (qs : List (QueueEvent Message)) (h : List (Step K)) → Stands K.type_of core pending.now qs (running h) → last.0 ≡ last_moment h
+    ensures { IfOk result (λ o. (core : CoreWorld K) (qs : List (QueueEvent Message)) (rs : List (Running K)) (h : List (Step K)) → Stands K.type_of core pending.now qs rs → rs ≡ running h → last.0 ≡ last_moment h
         → option_map refusal_of o ≡ refusal h (turn_of K.type_of turn.now)) }
 {
     if turn.at.0 >= MOMENT_END || turn.at < last {

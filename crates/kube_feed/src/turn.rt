@@ -289,15 +289,39 @@ where
     go_on(rt, alloc, asks, parts, reconciler, context, reload, on, at)
 }
 
+/// Whether shutdown is forced.
+fn is_forced(shutdown: Shutdown) -> bool
+    ensures { result ≡ is_forced shutdown }
+{
+    matches!(shutdown, Shutdown::Forced)
+}
+
+/// Whether the runner ended.
+fn has_failed(runner: &Option<RunnerError>) -> bool
+    ensures { result ≡ is_some runner.now }
+{
+    runner.is_some()
+}
+
+/// Whether a turn is the last, after which so many run.
+fn is_end(forced: bool, shut: bool, running: usize, failed: bool) -> bool
+    ensures { result ≡ (forced || shut && (running == 0) || failed) }
+{
+    forced || shut && running == 0 || failed
+}
+
 /// Whether no turn follows: a forced one, one by whose end shutdown was asked or given up and nothing runs, or one in which
 /// the runner ended.
 fn is_last<K: Resource>(parts: &Parts<K>, shutdown: Shutdown, runner: &Option<RunnerError>) -> bool
     ensures { (core : CoreWorld K) (qs : List (QueueEvent Message)) (rs : List (Running K)) → Stands K.type_of core parts.now.pending qs rs
         → result ≡ (is_forced shutdown || parts.now.shut && (length rs == 0) || is_some runner.now) }
 {
-    matches!(shutdown, Shutdown::Forced)
-        || parts.shut && parts.pending.running_len() == 0
-        || runner.is_some()
+    is_end(
+        is_forced(shutdown),
+        parts.shut,
+        parts.pending.running_len(),
+        has_failed(runner),
+    )
 }
 
 /// Takes a turn that is not refused.

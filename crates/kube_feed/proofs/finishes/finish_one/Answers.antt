@@ -19,5 +19,5 @@ returns-clause-stands g c core qs rs s ran =
     let type_of = g.K.Resource.type_of in
     let r = reference_of type_of c.args.finish.reference in
     subst (λ us. Stands type_of core c.end.new.pending (with_requests qs c.args.at.0 us) (filter (λ p. not (same_reference p.reference r)) rs))
-    (ended-is type_of c.args.closed c.args.at.0 (record { reference = c.args.finish.reference; outcome = c.args.finish.outcome; action = c.in_ok-action.action }) c.is_ok.result c.is_ok.ensures)
+    (ended-is type_of c.args.closed c.args.at.0 (record { reference = c.args.finish.reference; outcome = c.args.finish.outcome; action = c.in_ok-action.action }) c.is_ok.result c.is_ok.ensures.value)
     (c.end.ensures core qs rs s ran)

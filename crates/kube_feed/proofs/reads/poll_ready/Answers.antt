@@ -8,11 +8,11 @@ or-none : (b : Bool) → (b || false) ≡ b
 or-none true = refl
 or-none false = refl
 
-pub returns-then-ready-clause-same : goal.returns-then-ready-clause-same
-returns-then-ready-clause-same g c = later-none c.args.parts.now.reader
+pub returns-then-parts-clause-same : goal.returns-then-parts-clause-same
+returns-then-parts-clause-same g c = later-none c.args.parts.now.reader
 
-pub returns-then-ready-clause-polled : goal.returns-then-ready-clause-polled
-returns-then-ready-clause-polled g c = (None, refl, sym (ap not c.if-ready.true), sym (or-none c.args.parts.now.ready), refl)
+pub returns-then-parts-clause-polled : goal.returns-then-parts-clause-polled
+returns-then-parts-clause-polled g c = (None, refl, sym (ap not c.if-parts.true), sym (or-none c.args.parts.now.ready), refl)
 
 pub returns-clause-same : goal.returns-clause-same
 returns-clause-same g c = later-by c.args.parts.now.reader c.poll_ready-answer.new.self c.poll_ready-answer.ensures.own c.poll_ready-answer.ensures.later
@@ -23,7 +23,7 @@ returns-clause-polled g c =
     let told = told_by c.poll_ready-answer.result in (
       Some told,
       (read-by c.args.parts.now.reader c.poll_ready-answer.new.self e.own e.later e.readable, ap told_by e.read),
-      sym (ap not c.if-ready.false),
-      c.told.ensures.ready ∙ sym (ap (λ b. b || is_told_ready (Some told)) c.if-ready.false),
-      c.told.ensures.failed,
+      sym (ap not c.if-parts.false),
+      c.told-is_ready.ensures.ready ∙ sym (ap (λ b. b || is_told_ready (Some told)) c.if-parts.false),
+      c.told-is_ready.ensures.failed,
     )

@@ -18,16 +18,16 @@ pub returns-then-gave_up-clause-taken : goal.returns-then-gave_up-clause-taken
 returns-then-gave_up-clause-taken g c core qs rs s = (
   None,
   refl,
-  subst (λ ts. HaveReadAndTaken g.K.Resource core c.args.gave_up qs rs c.args.parts.now None (filter_map (taken_of g.K.Resource.type_of) ts) c.args.parts.now) (sym c.new-then-gave_up.ensures)
+  subst (λ ts. HaveReadAndTaken g.K.Resource core c.args.gave_up qs rs c.args.parts.now None (filter_map (taken_of g.K.Resource.type_of) ts) c.args.parts.now) (sym c.new.ensures)
       (read-none g.K.Resource core qs rs c.args.gave_up c.if-gave_up.true c.args.parts.now s),
 )
 
 pub returns-then-gave_up-clause-handed : goal.returns-then-gave_up-clause-handed
 returns-then-gave_up-clause-handed g c =
-    sym (ap (λ ts. grown_by (g.Rc.Reconciler.handed c.args.reconciler.now) (handed_by (filter_map (taken_of g.K.Resource.type_of) ts))) c.new-then-gave_up.ensures ∙ grown-nil (g.Rc.Reconciler.handed c.args.reconciler.now))
+    sym (ap (λ ts. grown_by (g.Rc.Reconciler.handed c.args.reconciler.now) (handed_by (filter_map (taken_of g.K.Resource.type_of) ts))) c.new.ensures ∙ grown-nil (g.Rc.Reconciler.handed c.args.reconciler.now))
 
 pub returns-then-gave_up-clause-something : goal.returns-then-gave_up-clause-something
-returns-then-gave_up-clause-something g c = subst (AllByRecursion (IsSomething g.K.Resource.type_of)) (sym c.new-then-gave_up.ensures) tt
+returns-then-gave_up-clause-something g c = subst (AllByRecursion (IsSomething g.K.Resource.type_of)) (sym c.new.ensures) tt
 
 pub returns-in_err-taken-clause-same : goal.returns-in_err-taken-clause-same
 returns-in_err-taken-clause-same g c = later-more c.args.parts.now.reader c.poll_ready-runner.new.parts.reader c.take_where.new.parts.reader c.poll_ready-runner.ensures.same c.in_err-taken.ensures.same

@@ -26,7 +26,7 @@ loop-reference-preserved g c =
           subst (λ es. Stands type_of core c.request.new.self es rs)
           (named-more qs at (map f names) (f one) ∙ ap (λ us. with_requests qs at (name_requests at us)) (sym (map-append f names (one ∷ []))))
           (subst (λ m. Stands type_of core c.request.new.self (with_requests (with_requests qs at (name_requests at (map f names))) at (record { message = m; run_at = at } ∷ [])) rs) (ap (message_of type_of) c.from_ref.ensures)
-          (c.in_ok-request.ensures core (with_requests qs at (name_requests at (map f names))) rs (c.loop-reference.invariant.stands core qs rs s)));
+          (c.in_ok-request.ensures.stands core (with_requests qs at (name_requests at (map f names))) rs (c.loop-reference.invariant.stands core qs rs s)));
     }
 
 pub returns-clause-requested : goal.returns-clause-requested

@@ -16,19 +16,19 @@ returns-then-not-takes-clause-same g c = later-none c.args.parts.now.reader
 
 pub returns-then-not-takes-clause-taken : goal.returns-then-not-takes-clause-taken
 returns-then-not-takes-clause-taken g c core qs rs s =
-    subst (λ ts. HaveTaken g.K.Resource core c.args.takes qs rs (filter_map (taken_of g.K.Resource.type_of) ts) c.args.parts.now.pending) (sym c.new-then-not-takes.ensures)
+    subst (λ ts. HaveTaken g.K.Resource core c.args.takes qs rs (filter_map (taken_of g.K.Resource.type_of) ts) c.args.parts.now.pending) (sym c.new.ensures)
     (taken-none g.K.Resource core qs rs c.args.takes c.if-not-takes.true c.args.parts.now.pending s)
 
 pub returns-then-not-takes-clause-looked_up : goal.returns-then-not-takes-clause-looked_up
 returns-then-not-takes-clause-looked_up g c core qs rs s =
-    subst (λ ts. AreFound g.K.Resource.meta_of (filter_map (taken_of g.K.Resource.type_of) ts) c.args.parts.now.reader c.args.parts.now.reader) (sym c.new-then-not-takes.ensures) refl
+    subst (λ ts. AreFound g.K.Resource.meta_of (filter_map (taken_of g.K.Resource.type_of) ts) c.args.parts.now.reader c.args.parts.now.reader) (sym c.new.ensures) refl
 
 pub returns-then-not-takes-clause-handed : goal.returns-then-not-takes-clause-handed
 returns-then-not-takes-clause-handed g c =
-    sym (ap (λ ts. grown_by (g.Rc.Reconciler.handed c.args.reconciler.now) (handed_by (filter_map (taken_of g.K.Resource.type_of) ts))) c.new-then-not-takes.ensures ∙ grown-nil (g.Rc.Reconciler.handed c.args.reconciler.now))
+    sym (ap (λ ts. grown_by (g.Rc.Reconciler.handed c.args.reconciler.now) (handed_by (filter_map (taken_of g.K.Resource.type_of) ts))) c.new.ensures ∙ grown-nil (g.Rc.Reconciler.handed c.args.reconciler.now))
 
 pub returns-then-not-takes-clause-something : goal.returns-then-not-takes-clause-something
-returns-then-not-takes-clause-something g c = subst (AllByRecursion (IsSomething g.K.Resource.type_of)) (sym c.new-then-not-takes.ensures) tt
+returns-then-not-takes-clause-something g c = subst (AllByRecursion (IsSomething g.K.Resource.type_of)) (sym c.new.ensures) tt
 
 pub returns-clause-taken : goal.returns-clause-taken
 returns-clause-taken g c =

@@ -1,6 +1,7 @@
 use Rattle.std.proofs.Common.{refl, sym, ap, subst, ◌∙◌, option_map}
 use Rattle.std.proofs.lemmas.Result.{err_from_is_err_and}
 use Rattle.kube_model.specs.Requests.{events_of}
+use Rattle.kube_model.specs.Takes.{running}
 use Rattle.kube_history.specs.CoreWorld.{core_world}
 use Rattle.kube_turn.specs.Records.{record_of, turn_of}
 use Rattle.kube_step.specs.Errors.{refusal_of}
@@ -19,7 +20,7 @@ returns-in-Some-clause-refused g c = (
   refl,
   λ w h now.
       let k = subst (StandsFor g.R.RootSource g.S.RelatedSet g.B.Backoff g.R.Object.Resource w h) (sym c.controller.view_is) now in
-      sym (c.in_ok-why.ensures (core_world w) (events_of w h) h k.parts.waits k.last) ∙ ap (option_map refusal_of) c.in-Some.is,
+      sym (c.in_ok-why.ensures (core_world w) (events_of w h) (running h) h k.parts.waits refl k.last) ∙ ap (option_map refusal_of) c.in-Some.is,
 )
 
 pub returns-in_err-record-clause-broken : goal.returns-in_err-record-clause-broken
@@ -27,13 +28,13 @@ returns-in_err-record-clause-broken g c =
     let p = err_from_is_err_and c.from_residual-in_err-record.result c.from_residual-in_err-record.ensures.1 in
     rw (p.1, p.2) (λ w h now.
     let k = subst (StandsFor g.R.RootSource g.S.RelatedSet g.B.Backoff g.R.Object.Resource w h) (sym c.controller.view_is) now in
-    let valid = sym (c.in_ok-why.ensures (core_world w) (events_of w h) h k.parts.waits k.last) ∙ ap (option_map refusal_of) c.in_default.is in
+    let valid = sym (c.in_ok-why.ensures (core_world w) (events_of w h) (running h) h k.parts.waits refl k.last) ∙ ap (option_map refusal_of) c.in_default.is in
     broken-is g.R.RootSource g.S.RelatedSet g.B.Backoff g.R.Object.Resource w _ h (turn_of g.R.Object.Resource.type_of c.args.turn) c.controller.inside c.take_turn.new.asks.root c.take_turn.new.asks.related valid (c.in_err-record.ensures.ended w h k.parts valid))
 
 pub returns-clause-next : goal.returns-clause-next
 returns-clause-next g c w h now going =
     let k = subst (StandsFor g.R.RootSource g.S.RelatedSet g.B.Backoff g.R.Object.Resource w h) (sym c.controller.view_is) now in
-    let valid = sym (c.in_ok-why.ensures (core_world w) (events_of w h) h k.parts.waits k.last) ∙ ap (option_map refusal_of) c.in_default.is in
+    let valid = sym (c.in_ok-why.ensures (core_world w) (events_of w h) (running h) h k.parts.waits refl k.last) ∙ ap (option_map refusal_of) c.in_default.is in
     let t = c.in_ok-record.ensures.taken w h k.parts valid in (
       t.0,
       t.1,
@@ -43,5 +44,5 @@ returns-clause-next g c w h now going =
 pub returns-clause-finished : goal.returns-clause-finished
 returns-clause-finished g c w h now =
     let k = subst (StandsFor g.R.RootSource g.S.RelatedSet g.B.Backoff g.R.Object.Resource w h) (sym c.controller.view_is) now in
-    let valid = sym (c.in_ok-why.ensures (core_world w) (events_of w h) h k.parts.waits k.last) ∙ ap (option_map refusal_of) c.in_default.is in
+    let valid = sym (c.in_ok-why.ensures (core_world w) (events_of w h) (running h) h k.parts.waits refl k.last) ∙ ap (option_map refusal_of) c.in_default.is in
     c.in_ok-record.ensures.finished w h k.parts valid
