@@ -1,6 +1,6 @@
 //! Which turns are refused.
 
-ghost use Rattle.std.specs.Prelude.{◌≡◌, [], List, map, option_map, IfOk};
+ghost use Rattle.std.specs.Prelude.{◌≡◌, ◌^◌, ◌||◌, nat_le, nat_lt, [], List, map, option_map, IfOk};
 ghost use Rattle.kube_model.specs.History.{Message, Step};
 ghost use Rattle.kube_model.specs.Queue.{QueueEvent};
 ghost use Rattle.kube_model.specs.Takes.{Running, running};
@@ -42,6 +42,13 @@ fn refused_finish<K: Resource, E: Drop>(
     Ok(None)
 }
 
+/// Whether a turn's moment is too late, or before that of the last turn.
+fn is_bad(at: Moment, last: Moment) -> bool
+    ensures { result ≡ (nat_le (2 ^ 63) at.0 || nat_lt at.0 last.0) }
+{
+    at.0 >= MOMENT_END || at.0 < last.0
+}
+
 /// Why a turn is refused, if it is. `last` is the moment of the last turn.
 ///
 /// # Errors
@@ -56,7 +63,7 @@ pub fn refused<K: Resource, E: Drop>(
     ensures { IfOk result (λ o. (core : CoreWorld K) (qs : List (QueueEvent Message)) (rs : List (Running K)) (h : List (Step K)) → Stands K.type_of core pending.now qs rs → rs ≡ running h → last.0 ≡ last_moment h
         → option_map refusal_of o ≡ refusal h (turn_of K.type_of turn.now)) }
 {
-    if turn.at.0 >= MOMENT_END || turn.at < last {
+    if is_bad(turn.at, last) {
         return Ok(Some(BadTurn::Moment { at: turn.at, last }));
     }
     refused_finish(alloc, pending, turn.finishes.as_slice())
