@@ -1,3 +1,4 @@
+use Rattle.std.proofs.Common.{ap}
 use Rattle.kube_fed.specs.Fed.{MappedFeeding}
 use Rattle.kube_fed.specs.Feedings.{has_ended}
 use Rattle.kube_control.proofs.Firsts.{only-first}
