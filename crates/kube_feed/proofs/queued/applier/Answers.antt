@@ -9,7 +9,9 @@ use Rattle.kube_feed.proofs.Named.{queued-named}
 use Rattle.kube_feed.proofs.queued.applier.Goals as goal
 
 pub fed-requires : goal.fed-requires
-fed-requires g c = sym c.dyntype.ensures ∙ (g.met.K.Resource.one_type _ _ c.in_ok-dyntype.ensures ∙ sym (ap (λ (r : RootFeeding _). r.kind) c.new-root.ensures))
+fed-requires g c = record {
+  kind = sym c.dyntype.ensures ∙ (g.met.K.Resource.one_type _ _ c.in_ok-dyntype.ensures ∙ sym (ap (λ (r : RootFeeding _). r.kind) c.new-root.ensures));
+}
 
 pub returns-clause-stands : goal.returns-clause-stands
 returns-clause-stands g c w is limit debounce =
