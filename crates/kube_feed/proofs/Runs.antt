@@ -98,7 +98,7 @@ module _ {R S B O D : Type 0} (root : root_source.Ghosts R O D) (related : relat
   Con = Feeding R S B O D
 
   -- a turn that was taken, where none was the last
-  pub next-is : (h : List (Step O)) (t : Turn) (c c' : Con) (m : Made O) → StandsFor root related delays object w h c → c.has_ended ≡ false
+  next-is : (h : List (Step O)) (t : Turn) (c c' : Con) (m : Made O) → StandsFor root related delays object w h c → c.has_ended ≡ false
       → IsTaken root related delays object w h t c.asks m c'.asks (record { reader = c'.reader; pending = c'.pending; ready = c'.is_ready; shut = c'.is_shut })
       → c'.last.0 ≡ t.at → c'.has_ended ≡ m.0.ended → c'.is_spent ≡ c.is_spent → IsNextTurn root related delays object w h t c m c'
   next-is h t c c' m k going taken at ends spent =
@@ -117,6 +117,15 @@ module _ {R S B O D : Type 0} (root : root_source.Ghosts R O D) (related : relat
         };
       }
 
+  -- the same, where the controller before is told in other words
+  pub next-of : (h : List (Step O)) (t : Turn) (c0 c c' : Con) (m : Made O) → c0 ≡ c → StandsFor root related delays object w h c → c.has_ended ≡ false
+      → IsTaken root related delays object w h t c0.asks m c'.asks (record { reader = c'.reader; pending = c'.pending; ready = c'.is_ready; shut = c'.is_shut })
+      → c'.last.0 ≡ t.at → c'.has_ended ≡ m.0.ended → c'.is_spent ≡ c0.is_spent → IsNextTurn root related delays object w h t c m c'
+  next-of h t c0 c c' m is k going taken at ends spent =
+      next-is h t c c' m k going
+      (subst (λ (x : Con). IsTaken root related delays object w h t x.asks m c'.asks (record { reader = c'.reader; pending = c'.pending; ready = c'.is_ready; shut = c'.is_shut })) is taken)
+      at ends (spent ∙ ap (λ (x : Con). x.is_spent) is)
+
   -- nothing was asked
   pub nothing-lost : (h : List (Step O)) (t : Turn) (c : Con) → StandsFor root related delays object w h c → IsBrokenOff root related w faults.NoMemory h t c.asks.root c.asks.related c.asks.root c.asks.related
   nothing-lost h t c k = record {
@@ -133,9 +142,13 @@ module _ {R S B O D : Type 0} (root : root_source.Ghosts R O D) (related : relat
     };
   }
 
-  pub broken-is : (f : AskFault) (h : List (Step O)) (t : Turn) (c : Con) (r : R) (s : S) → IsValid h t → AreEndedBy root related w h t f [] c.asks.root c.asks.related r s
+  broken-is : (f : AskFault) (h : List (Step O)) (t : Turn) (c : Con) (r : R) (s : S) → IsValid h t → AreEndedBy root related w h t f [] c.asks.root c.asks.related r s
       → IsBrokenOff root related w f h t c.asks.root c.asks.related r s
   broken-is f h t c r s valid ended = record { valid = if-unnamed f (IsValid h t) valid; ended = ended }
+
+  pub broken-of : (f : AskFault) (h : List (Step O)) (t : Turn) (c0 c : Con) (r : R) (s : S) → c0 ≡ c → IsValid h t → AreEndedBy root related w h t f [] c0.asks.root c0.asks.related r s
+      → IsBrokenOff root related w f h t c.asks.root c.asks.related r s
+  broken-of f h t c0 c r s is valid ended = broken-is f h t c r s valid (subst (λ (x : Con). AreEndedBy root related w h t f [] x.asks.root x.asks.related r s) is ended)
 
   pub run-none : (h : List (Step O)) (c : Con) → StandsFor root related delays object w h c → HaveRun root related delays object w h [] c [] c
   run-none h c k = record { traced = refl; all_named = tt; polled = (refl, refl); stands = subst (λ g. StandsFor root related delays object w g c) (sym (append-nil h)) k }

@@ -50,6 +50,12 @@ returns-in-Err-Faulted-Unnamed-clause-unnamed g c =
           (q.0, q.1, broken-same g.R.RootSource g.S.RelatedSet g.B.Backoff g.R.Object.Resource w (faults.Unnamed arm.source) h (turns_of g.R.Object.Resource.type_of c.args.turns.items) c.args.self.now q.0 c.take_turns.new.controller c.fail.new.self (ap (λ (z : Feeding _ _ _ _ _). z.asks) c.fail.ensures.spent) q.2),
     )
 
+pub returns-in-Err-Faulted-Unnamed-clause-handed_unnamed : goal.returns-in-Err-Faulted-Unnamed-clause-handed_unnamed
+returns-in-Err-Faulted-Unnamed-clause-handed_unnamed g c =
+    let arm = c.in-Err-Faulted-Unnamed in
+    let b = faulted-now arm.field-0 arm.field-0-0 (faults.Unnamed arm.source) _ arm.field-0-is arm.field-0-0-is arm.ensures.starts_nothing in
+    rw (c.fail.ensures.error, c.trace_of-trace-in-Err-Faulted-Unnamed.ensures) b
+
 pub returns-in-Err-Faulted-NoMemory-clause-something_before : goal.returns-in-Err-Faulted-NoMemory-clause-something_before
 returns-in-Err-Faulted-NoMemory-clause-something_before g c = rw (c.fail-in-Err-Faulted-NoMemory.ensures.error, c.trace_of-trace-in-Err-Faulted-NoMemory.ensures) c.take_turns.ensures.something
 
