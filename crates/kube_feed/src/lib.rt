@@ -13,7 +13,6 @@ mod stopped;
 mod takes;
 mod turn;
 
-pub use queued::{Applier, NoBackoff, applier};
 pub use controller::FedController;
 pub use kube_asks::{
     Backoff, Beside, ByFunction, ByLabel, Mapper, NoRelated, One, Owners, Related, RelatedList,
@@ -25,3 +24,4 @@ pub use kube_reflect::Store;
 pub use kube_step::{BadTurn, Handed, Reconciler, Recorder};
 pub use kube_streams::DefaultBackoff;
 pub use kube_turn::{Config, Finish, Finished, ReconcileRequest, Taken, Trace, Turn, TurnRecord};
+pub use queued::{Applier, NoBackoff, applier};

@@ -295,7 +295,10 @@ impl EventStream for Many {
 }
 
 /// An applier of many requests, over a store that has all of them.
-fn make_many<R: Wait>(rt: &R, alloc: Global) -> Result<(Applier<DynamicObject, Many>, Maps), NoMemory> {
+fn make_many<R: Wait>(
+    rt: &R,
+    alloc: Global,
+) -> Result<(Applier<DynamicObject, Many>, Maps), NoMemory> {
     let mut writer = writer(alloc)?;
     let Some(reader) = writer.as_reader() else {
         return Err(NoMemory);

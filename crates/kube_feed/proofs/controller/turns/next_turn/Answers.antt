@@ -39,7 +39,7 @@ returns-clause-next g c w h now going =
     let t = c.in_ok-record.ensures.taken w h k.parts valid in (
       t.0,
       subst (λ (x : Feeding g.row.R.Denot g.row.S.Denot g.row.B.Denot g.row.R-Object.Denot g.row.R-Object-DynamicType.Denot).
-      IsReadIn g.R.Object.Resource.meta_of (record_of g.R.Object.Resource.type_of c.in_ok-record.record).taken t.0 x.reader c.take_turn.new.parts.reader) c.controller.view_is t.1,
+          IsReadIn g.R.Object.Resource.meta_of (record_of g.R.Object.Resource.type_of c.in_ok-record.record).taken t.0 x.reader c.take_turn.new.parts.reader) c.controller.view_is t.1,
       next-of g.R.RootSource g.S.RelatedSet g.B.Backoff g.R.Object.Resource w h (turn_of g.R.Object.Resource.type_of c.args.turn) _ c.args.controller.now _ (record_of g.R.Object.Resource.type_of c.in_ok-record.record, t.0) c.controller.view_is now going t.2 refl refl refl,
     )
 
