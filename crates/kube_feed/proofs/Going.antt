@@ -1,0 +1,150 @@
+-- How an open turn goes on after its finishes.
+use Rattle.std.proofs.Common.{◌≡◌, ℕ, Bool, true, false, not, ◌||◌, ◌&&◌, List, [], ◌∷◌, ◌++◌, map, Option, None, Result, Ok, Err, IfOk, is_some, refl, sym, ap, ap₂, subst, ◌∙◌, append-nil}
+use Rattle.std.specs.List.{filter_map}
+use Rattle.std.proofs.lemmas.List.{map-append}
+use Rattle.kube_meta.specs.Reference.{Reference}
+use Rattle.kube_meta.specs.declared.resource.Resource as resource
+use Rattle.kube_model.specs.World.{World}
+use Rattle.kube_model.specs.Reads.{Reads, Readiness, is_told_ready}
+use Rattle.kube_model.specs.History.{Exchange, Message, same_message, Taken, Turn, Step, exchanges_with}
+use Rattle.kube_model.specs.Pause.{gave_up}
+use Rattle.kube_model.specs.Queue.{QueueEvent, Settled, waiting}
+use Rattle.kube_model.specs.Requests.{requested_at, requests_of_exchanges, took}
+use Rattle.kube_model.specs.Stored.{was_ready}
+use Rattle.kube_model.specs.Takes.{Running, started}
+use Rattle.kube_model.specs.Turns.{next_source, running_in}
+use Rattle.kube_history.specs.CoreWorld.{CoreWorld, core_world}
+use Rattle.kube_history.specs.TurnCalls.{with_requests}
+use Rattle.kube_history.proofs.TurnCalls.{requests-join}
+use Rattle.kube_streams.specs.declared.backoff.Backoff as backoff
+use Rattle.kube_reflect.specs.Writers.{Reader}
+use Rattle.kube_core.specs.Cores.{IsOfType}
+use Rattle.kube_core.specs.Pendings.{Parts as Pending, Stands as PendingStands}
+use Rattle.kube_asks.specs.Asking.{Asking}
+use Rattle.kube_asks.specs.declared.root.RootSource as root_source
+use Rattle.kube_asks.specs.declared.set.RelatedSet as related_set
+use Rattle.kube_feed.specs.declared.parts.Parts.{Parts}
+use Rattle.kube_feed.specs.Asked.{AreAsked, MayAsk}
+use Rattle.kube_feed.specs.Reads.{AreFound, IsTold}
+use Rattle.kube_feed.specs.Requests.{bulk_requests, by_name, name_requests}
+use Rattle.kube_feed.specs.Turns.{AreAllTaken, AreTakenWhere, HasGoneOn, HaveReadAndTaken, HaveTaken, MayGoOn, queue_asked}
+
+pub both : {T E : Type 0} (r : Result T E) (P Q S : T → Type 0) → ((x : T) → P x → Q x → S x) → IfOk r P → IfOk r Q → IfOk r S
+both (Ok x) P Q S f p q = f x p q
+both (Err e) P Q S f p q = tt
+
+-- Requests that name references, one after another.
+
+pub names-push : (at : ℕ) (rs : List Reference) (r : Reference) → name_requests at rs ++ name_requests at (r ∷ []) ≡ name_requests at (rs ++ r ∷ [])
+names-push at rs r = sym (ap (map (requested_at at)) (map-append by_name rs (r ∷ [])) ∙ map-append (requested_at at) (map by_name rs) (by_name r ∷ []))
+
+pub named-more : (qs : List (QueueEvent Message)) (at : ℕ) (rs : List Reference) (r : Reference)
+    → with_requests (with_requests qs at (name_requests at rs)) at (name_requests at (r ∷ [])) ≡ with_requests qs at (name_requests at (rs ++ r ∷ []))
+named-more qs at rs r = requests-join qs at (name_requests at rs) (name_requests at (r ∷ [])) ∙ ap (with_requests qs at) (names-push at rs r)
+
+-- Reads and takes.
+
+and-true : (b : Bool) → b ≡ (b && true)
+and-true true = refl
+and-true false = refl
+
+and-false : (b : Bool) → (b && false) ≡ false
+and-false true = refl
+and-false false = refl
+
+or-none : (b : Bool) → (b || false) ≡ b
+or-none true = refl
+or-none false = refl
+
+and-open : (b gave : Bool) → gave ≡ false → b ≡ (b && not gave)
+and-open b gave e = subst (λ g. b ≡ (b && not g)) (sym e) (and-true b)
+
+and-closed : (b gave : Bool) → gave ≡ true → (b && not gave) ≡ false
+and-closed b gave e = ap (λ g. b && not g) e ∙ and-false b
+
+module _ {K D : Type 0} (object : resource.Ghosts K D) (core : CoreWorld K) (qs : List (QueueEvent Message)) (rs : List (Running K)) where
+  nothing-more : (p : Pending K D) → PendingStands object.type_of core p qs rs → PendingStands object.type_of core p (qs ++ took {O = K} []) (rs ++ filter_map started [])
+  nothing-more p s = subst (λ es. PendingStands object.type_of core p es (rs ++ [])) (sym (append-nil qs)) (subst (λ us. PendingStands object.type_of core p qs us) (sym (append-nil rs)) s)
+
+  -- none were taken
+  pub taken-none : (takes : Bool) → takes ≡ false → (p : Pending K D) → PendingStands object.type_of core p qs rs → HaveTaken object core takes qs rs [] p
+  taken-none takes e p s = record {
+    taken = subst (λ b. AreTakenWhere b core.limit (waiting same_message core.debounce qs) rs []) (sym e) refl;
+    waits = nothing-more p s;
+  }
+
+  -- all were taken
+  pub taken-all : (takes : Bool) → takes ≡ true → (ts : List (Taken K)) (p : Pending K D) → AreAllTaken core.limit (waiting same_message core.debounce qs) rs ts
+      → PendingStands object.type_of core p (qs ++ took ts) (rs ++ filter_map started ts) → HaveTaken object core takes qs rs ts p
+  taken-all takes e ts p a s = record { taken = subst (λ b. AreTakenWhere b core.limit (waiting same_message core.debounce qs) rs ts) (sym e) a; waits = s }
+
+  -- the backoff gave up: nothing was read and nothing taken
+  pub read-none : (gave : Bool) → gave ≡ true → (p : Parts K D) → PendingStands object.type_of core p.pending qs rs → HaveReadAndTaken object core gave qs rs p None [] p
+  read-none gave e p s = record {
+    told_at = p.reader;
+    is_told = refl;
+    polled = sym (and-closed (not p.ready) gave e);
+    ready = sym (or-none p.ready);
+    looked_up = refl;
+    taken = taken-none ((p.ready || false) && not gave) (and-closed (p.ready || false) gave e) p.pending s;
+  }
+
+  -- it has not: the store was polled, and what is due taken
+  pub read-some : (gave : Bool) → gave ≡ false → (p : Parts K D) (told : Option Readiness) (mid : Reader K) (ready : Bool) (ts : List (Taken K)) (p' : Parts K D) → IsTold object.meta_of told p.reader mid → is_some told ≡ not p.ready
+      → ready ≡ (p.ready || is_told_ready told) → AreFound object.meta_of ts mid p'.reader → HaveTaken object core ready qs rs ts p'.pending → p'.ready ≡ ready → HaveReadAndTaken object core gave qs rs p told ts p'
+  read-some gave e p told mid ready ts p' is polled now found taken same = record {
+    told_at = mid;
+    is_told = is;
+    polled = polled ∙ and-open (not p.ready) gave e;
+    ready = same ∙ now;
+    looked_up = found;
+    taken = subst (λ b. HaveTaken object core b qs rs ts p'.pending) (now ∙ and-open (p.ready || is_told_ready told) gave e) taken;
+  }
+
+-- The turn.
+
+module _ {R S B O D : Type 0} (root : root_source.Ghosts R O D) (related : related_set.Ghosts S O D) (delays : backoff.Ghosts B) (object : resource.Ghosts O D) (w : World O B) (h : List (Step O)) (t : Turn)
+    (qs : List (QueueEvent Message)) (a : Asking R S B) (p : Parts O D) (may : MayGoOn root related delays object w h t qs a p) where
+  pub of-type : IsOfType p.reader.kind object.meta_of (core_world w)
+  of-type = subst (λ k. IsOfType k object.meta_of (core_world w)) (sym may.kind) (record { key = may.asks.world.key; named = may.asks.world.named; version = may.asks.world.version })
+
+  pub waits-first : PendingStands object.type_of (core_world w) p.pending qs (running_in w h t)
+  waits-first = subst (λ es. PendingStands object.type_of (core_world w) p.pending es (running_in w h t)) (append-nil qs) may.asks.waits
+
+  module _ (found : Option (List O)) (p1 : Pending O D) (stands : PendingStands object.type_of (core_world w) p1 (with_requests qs t.at (bulk_requests w.key t.at found ++ name_requests t.at t.on)) (running_in w h t)) where
+    -- the queue after a reload and the requests that name references
+    abbrev first : List (QueueEvent Message)
+    first = with_requests qs t.at (bulk_requests w.key t.at found ++ name_requests t.at t.on)
+
+    pub may-first : MayAsk root related delays object w h t first [] a p1
+    may-first = record {
+      world = may.asks.world;
+      asks_stand = may.asks.asks_stand;
+      unspent = may.asks.unspent;
+      waits = subst (λ es. PendingStands object.type_of (core_world w) p1 es (running_in w h t)) (sym (append-nil first)) stands;
+      is_open = may.asks.is_open;
+      names = may.asks.names;
+    }
+
+    module _ (xs : List (Exchange O)) (a' : Asking R S B) (p2 : Pending O D) (asked : AreAsked root related delays object w h t first a xs a' p2)
+        (done : next_source w h t xs ≡ None) (reloaded : is_some found ≡ t.reload) (gave : Bool) (gives : gave ≡ gave_up w (exchanges_with h t xs)) where
+      pub gone-on : (p3 : Parts O D) (told : Option Readiness) (ts : List (Taken O)) (p4 : Parts O D) → p3.ready ≡ p.ready → p4.shut ≡ (p.shut || gave)
+          → HaveReadAndTaken object (core_world w) gave (with_requests first t.at (requests_of_exchanges t.at xs) ++ Settled t.at ∷ []) (running_in w h t) p3 told ts p4
+          → HasGoneOn root related delays object w h t qs a (record { reloaded = found; readiness = told; looked_up = map (λ (u : Taken O). u.object) ts; shown = None }) xs ts a' p4
+      gone-on p3 told ts p4 ready shut k =
+          let same : p3.ready ≡ was_ready h = ready ∙ may.ready in record {
+            asked = asked.asked;
+            each_named = asked.each_named;
+            polled = asked.polled;
+            done = done;
+            world = asked.may.world;
+            asks_stand = asked.may.asks_stand;
+            unspent = asked.may.unspent;
+            reloaded = reloaded;
+            told = k.polled ∙ ap₂ (λ x y. not x && not y) same gives;
+            looked_up = refl;
+            taken = subst (λ b. HaveTaken object (core_world w) b (queue_asked w.key qs t (record { reloaded = found; readiness = told; looked_up = map (λ (u : Taken O). u.object) ts; shown = None }) xs) (running_in w h t) ts p4.pending)
+                (ap₂ (λ x y. (x || is_told_ready told) && not y) same gives) k.taken;
+            ready = k.ready ∙ ap (λ x. x || is_told_ready told) same;
+            shut = shut ∙ ap₂ (λ x y. x || y) may.shut gives;
+          }

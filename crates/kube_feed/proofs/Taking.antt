@@ -1,0 +1,224 @@
+-- Takes one after another, each of the first candidate, with what its look-up answered.
+use Rattle.std.proofs.Common.{◌≡◌, ℕ, ◌+◌, ◌≤◌, Bool, true, false, not, ◌||◌, cond, List, [], ◌∷◌, ◌++◌, map, length, Option, Some, None, option_map, slice_get, unwrap_or, if◌then◌else◌, refl, sym, ap, ap₂, subst, ◌∙◌, append_assoc, append-nil, arith}
+use Rattle.std.specs.List.{cons_option, filter_map, list_any}
+use Rattle.std.proofs.lemmas.List.{map-append, length-append}
+use Rattle.std.proofs.lemmas.List.Elements.{filter_map-append}
+use Rattle.kube_meta.specs.ReferenceLaws.{same_reference_equiv}
+use Rattle.kube_meta.specs.declared.resource.Resource as resource
+use Rattle.kube_model.specs.History.{Message, same_message, Taken}
+use Rattle.kube_model.specs.Queue.{QueueEvent, Frozen, Took, waiting}
+use Rattle.kube_model.specs.Requests.{took}
+use Rattle.kube_model.specs.Takes.{Running, runs, started, candidates, has_room}
+use Rattle.kube_history.specs.CoreWorld.{CoreWorld}
+use Rattle.kube_history.specs.CoreEvents.{next_candidate, first_of, queue_with, running_with, Took as CoreTook}
+use Rattle.kube_history.specs.InTurn.{AreTaken, IsNoneLeft, without, look_so}
+use Rattle.kube_history.proofs.TakesBack.{waiting-took}
+use Rattle.kube_reflect.specs.Writers.{Reader}
+use Rattle.kube_core.specs.Pendings.{Parts as Pending, Stands}
+use Rattle.kube_feed.specs.Reads.{AreFound, IsFound}
+use Rattle.kube_feed.specs.Takes.{IsTake, IsLookedUp}
+use Rattle.kube_feed.specs.Turns.{AreAllTaken}
+
+-- What waits, after a take.
+
+shorter : (m : Message) (ws : List (Frozen Message)) → length (without m ws) ≤ length ws
+shorter m [] = omega arith
+shorter m (z ∷ ws) = go (same_message m z.entry.message) (shorter m ws)
+  where
+    go : (b : Bool) → length (without m ws) ≤ length ws → length (cond (not b) (z ∷ without m ws) (without m ws)) ≤ length (z ∷ ws)
+    go true k = omega (arith, k)
+    go false k = omega (arith, k)
+
+one-less : (m : Message) (ws : List (Frozen Message)) → list_any (λ z. same_message m z.entry.message) ws ≡ true → length (without m ws) + 1 ≤ length ws
+one-less m [] e = absurd (cc)
+one-less m (z ∷ ws) e = go (same_message m z.entry.message) e (one-less m ws) (shorter m ws)
+  where
+    go : (b : Bool) → (b || list_any (λ y. same_message m y.entry.message) ws) ≡ true → (list_any (λ y. same_message m y.entry.message) ws ≡ true → length (without m ws) + 1 ≤ length ws)
+        → length (without m ws) ≤ length ws → length (cond (not b) (z ∷ without m ws) (without m ws)) + 1 ≤ length (z ∷ ws)
+    go true k rest s = omega (arith, s)
+    go false k rest s = let l = rest k in omega (arith, l)
+
+-- one of these waits
+among : {O : Type 0} (rs : List (Running O)) (ws : List (Frozen Message)) (z : Frozen Message) (zs : List (Frozen Message)) → candidates rs ws ≡ z ∷ zs → list_any (λ y. same_message z.entry.message y.entry.message) ws ≡ true
+among rs [] z zs e = absurd (cc)
+among rs (y ∷ ws) z zs e = go (runs rs y.entry.message.reference) e (among rs ws z zs)
+  where
+    or-true : (b : Bool) → (b || true) ≡ true
+    or-true true = refl
+    or-true false = refl
+
+    go : (b : Bool) → cond (not b) (y ∷ candidates rs ws) (candidates rs ws) ≡ z ∷ zs → (candidates rs ws ≡ z ∷ zs → list_any (λ x. same_message z.entry.message x.entry.message) ws ≡ true)
+        → (same_message z.entry.message y.entry.message || list_any (λ x. same_message z.entry.message x.entry.message) ws) ≡ true
+    go true k rest = ap (λ c. same_message z.entry.message y.entry.message || c) (rest k) ∙ or-true (same_message z.entry.message y.entry.message)
+    go false k rest =
+        let is : y ≡ z = cc in
+        ap (λ c. c || list_any (λ x. same_message z.entry.message x.entry.message) ws) (ap (λ x. same_message z.entry.message x.entry.message) is ∙ same_reference_equiv.refl z.entry.message.reference)
+
+-- The first candidate.
+
+module _ {O : Type 0} (core : CoreWorld O) (qs : List (QueueEvent Message)) (rs : List (Running O)) where
+  abbrev pub waits : List (Frozen Message)
+  waits = waiting same_message core.debounce qs
+
+  -- a message is that of the first candidate, for which there is room
+  pub record IsFirst (m : Message) : Type 0 where
+    pub first : Frozen Message
+    pub others : List (Frozen Message)
+    pub room : has_room core.limit (length rs) 0 ≡ true
+    pub are : candidates rs (waiting same_message core.debounce qs) ≡ first ∷ others
+    pub message : m ≡ first.entry.message
+
+  pub is-first : (m : Message) → next_candidate core qs rs ≡ Some m → IsFirst m
+  is-first m e = go (has_room core.limit (length rs) 0) refl (candidates rs waits) refl e
+    where
+      go : (b : Bool) → has_room core.limit (length rs) 0 ≡ b → (cs : List (Frozen Message)) → candidates rs waits ≡ cs → (if b then option_map (λ z. z.entry.message) (first_of cs) else None) ≡ Some m → IsFirst m
+      go true r [] c k = absurd (cc)
+      go true r (z ∷ zs) c k = record { first = z; others = zs; room = r; are = c; message = let is : z.entry.message ≡ m = cc in sym is }
+      go false r cs c k = absurd (cc)
+
+  pub none-left : next_candidate core qs rs ≡ None → IsNoneLeft (has_room core.limit (length rs) 0) (candidates rs waits)
+  none-left e = go (has_room core.limit (length rs) 0) (candidates rs waits) e
+    where
+      go : (b : Bool) (cs : List (Frozen Message)) → (if b then option_map (λ z. z.entry.message) (first_of cs) else None) ≡ None → IsNoneLeft b cs
+      go true [] k = refl
+      go true (z ∷ zs) k = absurd (cc)
+      go false cs k = tt
+
+  -- where nothing waits none is left
+  pub none-waits : length waits ≤ 0 → IsNoneLeft (has_room core.limit (length rs) 0) (candidates rs waits)
+  none-waits l = go waits l
+    where
+      left : (b : Bool) → IsNoneLeft {A = Frozen Message} b []
+      left true = refl
+      left false = tt
+
+      go : (ws : List (Frozen Message)) → length ws ≤ 0 → IsNoneLeft (has_room core.limit (length rs) 0) (candidates rs ws)
+      go [] k = left (has_room core.limit (length rs) 0)
+      go (z ∷ ws) k = absurd (omega (arith, k))
+
+  pub fewer-wait : (m : Message) → IsFirst m → length (waiting same_message core.debounce (qs ++ Took m ∷ [])) + 1 ≤ length waits
+  fewer-wait m f =
+      let there = ap (λ n. list_any (λ y. same_message n y.entry.message) waits) f.message ∙ among rs waits f.first f.others f.are in
+      subst (λ ws. length ws + 1 ≤ length waits) (sym (waiting-took core.debounce qs m)) (one-less m waits there)
+
+-- One after another.
+
+module _ {O : Type 0} (limit : ℕ) where
+  -- what is looked up of each of these, from the n-th look-up on, is what was found
+  abbrev pub Looks : (ℕ → Message → Option O) → ℕ → List (Taken O) → Type 0
+  Looks look n [] = Unit {0}
+  Looks look n (t ∷ ts) = (look n t.message ≡ t.object) × Looks look (n + 1) ts
+
+  looks-split : (look : ℕ → Message → Option O) (n : ℕ) (ts : List (Taken O)) (t : Taken O) → Looks look n (ts ++ t ∷ []) → Looks look n ts × (look (n + length ts) t.message ≡ t.object)
+  looks-split look n [] t l = (tt, subst (λ k. look k t.message ≡ t.object) (omega arith) l.0)
+  looks-split look n (u ∷ ts) t l =
+      let p = looks-split look (n + 1) ts t l.1 in
+      ((l.0, p.0), subst (λ k. look k t.message ≡ t.object) (omega arith) p.1)
+
+  nth : (front os : List (Option O)) (o : Option O) → unwrap_or (slice_get (front ++ o ∷ os) (length front)) None ≡ o
+  nth [] os o = refl
+  nth (f ∷ front) os o = nth front os o
+
+  abbrev found : List (Taken O) → List (Option O)
+  found ts = map (λ (t : Taken O). t.object) ts
+
+  looks-from : (front : List (Option O)) (ts : List (Taken O)) → Looks (look_so (front ++ found ts)) (length front) ts
+  looks-from front [] = tt
+  looks-from front (t ∷ ts) = (
+    nth front (found ts) t.object,
+    subst (λ all. Looks (look_so all) (length front + 1) ts) (append_assoc front (t.object ∷ []) (found ts))
+        (subst (λ k. Looks (look_so ((front ++ t.object ∷ []) ++ found ts)) k ts) (length-append front (t.object ∷ [])) (looks-from (front ++ t.object ∷ []) ts)),
+  )
+
+  -- these were taken of what waited and ran, and then this waits and runs: with whatever is taken after them, they are takes one after another
+  abbrev pub GoesOn : List (Frozen Message) → List (Running O) → List (Taken O) → List (Frozen Message) → List (Running O) → Type 0
+  GoesOn ws rs ts ws' rs' =
+      (look : ℕ → Message → Option O) (rest : List (Taken O)) → Looks look 0 ts → AreTaken limit look (length ts) ws' rs' rest → AreTaken limit look 0 ws rs (ts ++ rest)
+
+  pub goes-on-none : (ws : List (Frozen Message)) (rs : List (Running O)) → GoesOn ws rs [] ws rs
+  goes-on-none ws rs look rest l a = a
+
+  pub goes-on-more : (ws : List (Frozen Message)) (rs : List (Running O)) (ts : List (Taken O)) (ws' : List (Frozen Message)) (rs' : List (Running O)) (t : Taken O) (z : Frozen Message) (zs : List (Frozen Message))
+      → GoesOn ws rs ts ws' rs' → has_room limit (length rs') 0 ≡ true → candidates rs' ws' ≡ z ∷ zs → t.message ≡ z.entry.message
+      → GoesOn ws rs (ts ++ t ∷ []) (without z.entry.message ws') (rs' ++ cons_option (started t) [])
+  goes-on-more ws rs ts ws' rs' t z zs g room are is look rest l a =
+      let p = looks-split look 0 ts t l in
+      let n : length (ts ++ t ∷ []) ≡ length ts + 1 = length-append ts (t ∷ []) in
+      let at : look (length ts) t.message ≡ t.object = subst (λ k. look k t.message ≡ t.object) (omega arith) p.1 in
+      let more = subst (λ k. AreTaken limit look k (without z.entry.message ws') (rs' ++ cons_option (started t) []) rest) n a in
+      let one : t ≡ record { message = z.entry.message; object = look (length ts) z.entry.message } = ap₂ (λ m o. record { message = m; object = o }) is (sym at ∙ ap (look (length ts)) is) in
+      subst (AreTaken limit look 0 ws rs) (sym (append_assoc ts (t ∷ []) rest)) (g look (t ∷ rest) p.0 (z, zs, room, are, one, more))
+
+  pub goes-on-end : (ws : List (Frozen Message)) (rs : List (Running O)) (ts : List (Taken O)) (ws' : List (Frozen Message)) (rs' : List (Running O)) → GoesOn ws rs ts ws' rs'
+      → IsNoneLeft (has_room limit (length rs') 0) (candidates rs' ws') → AreAllTaken limit ws rs ts
+  goes-on-end ws rs ts ws' rs' g none = subst (AreTaken limit (look_so (found ts)) 0 ws rs) (append-nil ts) (g (look_so (found ts)) [] (looks-from [] ts) none)
+
+-- Takes of what waits and runs.
+
+module _ {O D : Type 0} (object : resource.Ghosts O D) (core : CoreWorld O) (qs : List (QueueEvent Message)) (rs : List (Running O)) (old : Reader O) where
+  -- these were taken so far
+  pub record HaveGone (ts : List (Taken O)) (p : Pending O D) (new : Reader O) : Type 0 where
+    pub stands : Stands object.type_of core p (qs ++ took ts) (rs ++ filter_map started ts)
+    pub goes_on : GoesOn core.limit (waiting same_message core.debounce qs) rs ts (waiting same_message core.debounce (qs ++ took ts)) (rs ++ filter_map started ts)
+    pub fewer : length (waiting same_message core.debounce (qs ++ took ts)) + length ts ≤ length (waiting same_message core.debounce qs)
+    pub looked_up : AreFound object.meta_of ts old new
+
+  pub gone-none : (p : Pending O D) → Stands object.type_of core p qs rs → HaveGone [] p old
+  gone-none p s =
+      let q = append-nil qs in
+      let r = append-nil rs in
+      record {
+        stands = subst (λ es. Stands object.type_of core p es (rs ++ [])) (sym q) (subst (λ us. Stands object.type_of core p qs us) (sym r) s);
+        goes_on =
+            subst (λ es. GoesOn core.limit (waiting same_message core.debounce qs) rs [] (waiting same_message core.debounce es) (rs ++ [])) (sym q)
+            (subst (λ us. GoesOn core.limit (waiting same_message core.debounce qs) rs [] (waiting same_message core.debounce qs) us) (sym r) (goes-on-none core.limit (waiting same_message core.debounce qs) rs));
+        fewer = subst (λ es. length (waiting same_message core.debounce es) + 0 ≤ length (waiting same_message core.debounce qs)) (sym q) (omega arith);
+        looked_up = refl;
+      }
+
+  found-push : (ts : List (Taken O)) (t : Taken O) (a b c : Reader O) → AreFound object.meta_of ts a b → IsFound object.meta_of t.message t.object b c → AreFound object.meta_of (ts ++ t ∷ []) a c
+  found-push [] t a b c k f = (c, subst (λ r. IsFound object.meta_of t.message t.object r c) k f, refl)
+  found-push (u ∷ ts) t a b c k f = (k.0, k.1, found-push ts t k.0 b c k.2 f)
+
+  pub gone-more : (ts : List (Taken O)) (p : Pending O D) (mid : Reader O) (t : Taken O) (p' : Pending O D) (new : Reader O) → HaveGone ts p mid
+      → IsTake object core (qs ++ took ts) (rs ++ filter_map started ts) (Some t) p' mid new → HaveGone (ts ++ t ∷ []) p' new
+  gone-more ts p mid t p' new g k =
+      let first = is-first core (qs ++ took ts) (rs ++ filter_map started ts) t.message k.0 in
+      let q : (qs ++ took ts) ++ Took t.message ∷ [] ≡ qs ++ took (ts ++ t ∷ []) =
+      append_assoc qs (took ts) (Took t.message ∷ []) ∙ ap (λ es. qs ++ es) (sym (map-append (λ (u : Taken O). Took u.message) ts (t ∷ []))) in
+      let r : (rs ++ filter_map started ts) ++ cons_option (started t) [] ≡ rs ++ filter_map started (ts ++ t ∷ []) =
+      append_assoc rs (filter_map started ts) (cons_option (started t) []) ∙ ap (λ us. rs ++ us) (sym (filter_map-append started ts (t ∷ []))) in
+      let more = goes-on-more core.limit (waiting same_message core.debounce qs) rs ts (waiting same_message core.debounce (qs ++ took ts)) (rs ++ filter_map started ts) t first.first first.others g.goes_on first.room first.are first.message in
+      let left : without first.first.entry.message (waiting same_message core.debounce (qs ++ took ts)) ≡ waiting same_message core.debounce (qs ++ took (ts ++ t ∷ [])) =
+      ap (λ m. without m (waiting same_message core.debounce (qs ++ took ts))) (sym first.message) ∙ (sym (waiting-took core.debounce (qs ++ took ts) t.message) ∙ ap (waiting same_message core.debounce) q) in
+      let less = fewer-wait core (qs ++ took ts) (rs ++ filter_map started ts) t.message first in
+      let n = length-append ts (t ∷ []) in
+      let before = g.fewer in
+      record {
+        stands = subst (λ es. Stands object.type_of core p' es (rs ++ filter_map started (ts ++ t ∷ []))) q (subst (λ us. Stands object.type_of core p' ((qs ++ took ts) ++ Took t.message ∷ []) us) r k.1);
+        goes_on =
+            subst (λ ws. GoesOn core.limit (waiting same_message core.debounce qs) rs (ts ++ t ∷ []) ws (rs ++ filter_map started (ts ++ t ∷ []))) left
+            (subst (λ us. GoesOn core.limit (waiting same_message core.debounce qs) rs (ts ++ t ∷ []) (without first.first.entry.message (waiting same_message core.debounce (qs ++ took ts))) us) r more);
+        fewer =
+            let l = subst (λ es. length (waiting same_message core.debounce es) + 1 ≤ length (waiting same_message core.debounce (qs ++ took ts))) q less in
+            omega (arith, l, n, before);
+        looked_up = found-push ts t old mid new g.looked_up k.2;
+      }
+
+  pub all-taken : (ts : List (Taken O)) (p : Pending O D) (new : Reader O) → HaveGone ts p new
+      → IsNoneLeft (has_room core.limit (length (rs ++ filter_map started ts)) 0) (candidates (rs ++ filter_map started ts) (waiting same_message core.debounce (qs ++ took ts)))
+      → AreAllTaken core.limit (waiting same_message core.debounce qs) rs ts
+  all-taken ts p new g none =
+      goes-on-end core.limit (waiting same_message core.debounce qs) rs ts (waiting same_message core.debounce (qs ++ took ts)) (rs ++ filter_map started ts) g.goes_on none
+
+  -- the first candidate was taken, with what was found of it
+  pub took-found : (found : Option O) (taken : Option (Taken O)) (p' : Pending O D) (new : Reader O) → IsLookedUp object core qs rs (Some found) old new
+      → taken ≡ option_map (λ (m : Message). record { message = m; object = found }) (next_candidate core qs rs)
+      → Stands object.type_of core p' (qs ++ queue_with core (CoreTook 0 taken)) (running_with rs (CoreTook 0 taken)) → IsTake object core qs rs taken p' old new
+  took-found found taken p' new k first stands =
+      let is : taken ≡ Some (record { message = k.0; object = found }) = first ∙ ap (option_map (λ (m : Message). record { message = m; object = found })) k.1 in
+      subst (λ o. IsTake object core qs rs o p' old new) (sym is) (
+        k.1,
+        subst (λ o. Stands object.type_of core p' (qs ++ queue_with core (CoreTook 0 o)) (running_with rs (CoreTook 0 o))) is stands,
+        k.2,
+      )

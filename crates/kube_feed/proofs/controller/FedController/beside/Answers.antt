@@ -1,0 +1,27 @@
+use Rattle.std.proofs.Common.{◌-◌, nat_lt, [], ◌++◌, length, sym, ap, subst}
+use Rattle.kube_asks.specs.Places.{Either}
+use Rattle.kube_control.proofs.Histories.{none-yet}
+use Rattle.kube_feed.specs.Fed.{StandsFor}
+use Rattle.kube_feed.proofs.Firsts.{added}
+use Rattle.kube_feed.proofs.controller.FedController.beside.Goals as goal
+
+pub returns-clause-stands : goal.returns-clause-stands
+returns-clause-stands g c first w was fresh is backoff limit debounce =
+    let S = g.S.RelatedSet in
+    let T = g.T.RelatedSet in
+    let set = c.args.set in
+    let inside = c.self.inside in
+    let s = subst (StandsFor g.R.RootSource S g.B.Backoff g.R.Object.Resource first []) (sym c.self.view_is) was in
+    let taken = c.into_sources-root.ensures in
+    let same = ap (λ p. p.1) taken in
+    record {
+      parts = added g.R.RootSource S T _ g.B.Backoff g.R.Object.Resource first w inside.asks inside.parts _ set _ c.new.result _ s.parts
+          (ap (λ p. p.0) taken) (ap (λ p. p.2) taken) c.new.ensures.root c.new.ensures.related c.new.ensures.unspent
+          (ap (λ z. S.feeds z ++ T.feeds set) same)
+          (λ place own x. subst (λ z. Either (nat_lt place (length (S.feeds z))) (S.stands z place own) (T.stands set (place - length (S.feeds z)) own)) (sym same) x)
+          fresh is backoff limit debounce (c.new.ensures.stands w);
+      last = s.last;
+      ended = s.ended;
+      of_trace = none-yet w;
+      unspent = s.unspent;
+    }

@@ -1,0 +1,79 @@
+use Rattle.std.proofs.Common.{◌++◌, refl, ap, ◌∙◌}
+use Rattle.kube_model.specs.Traces.{steps}
+use Rattle.kube_history.proofs.Endings.{each-shuts}
+use Rattle.kube_turn.specs.Records.{turns_of}
+use Rattle.kube_asks.specs.declared.asks.AskFault.TheVariants as faults
+use Rattle.kube_step.specs.Policies.{answered_by}
+use Rattle.kube_control.proofs.Histories.{each-may}
+use Rattle.kube_control.proofs.Refusals.{refused-invalid}
+use Rattle.kube_feed.specs.Fed.{Feeding}
+use Rattle.kube_feed.specs.Runs.{records_in}
+use Rattle.kube_feed.proofs.Runs.{broken-same, never-spent}
+use Rattle.kube_feed.proofs.Stops.{faulted-now, refused-now}
+use Rattle.kube_feed.proofs.controller.FedController.run.Goals as goal
+
+pub returns-in-Ok-clause-trace : goal.returns-in-Ok-clause-trace
+returns-in-Ok-clause-trace g c =
+    rw c.trace_of-in-Ok.ensures (λ w h s.
+    let k = c.in-Ok.ensures.ran w h s in
+    let turns = turns_of g.R.Object.Resource.type_of c.args.turns.items in
+    (k.0, k.1, k.2, k.3, k.4, each-may w (h ++ steps turns k.0) k.3.stands.of_trace, each-shuts w (answered_by (records_in k.0)) h turns k.0 k.3.traced))
+
+pub returns-in-Ok-clause-something : goal.returns-in-Ok-clause-something
+returns-in-Ok-clause-something g c = rw c.trace_of-in-Ok.ensures c.take_turns.ensures.something
+
+pub returns-in-Err-Refused-clause-something_before : goal.returns-in-Err-Refused-clause-something_before
+returns-in-Err-Refused-clause-something_before g c = rw c.trace_of-trace.ensures c.take_turns.ensures.something
+
+pub returns-in-Err-Refused-clause-refused : goal.returns-in-Err-Refused-clause-refused
+returns-in-Err-Refused-clause-refused g c =
+    let arm = c.in-Err-Refused in
+    let r = refused-now arm.field-0 arm.why _ arm.field-0-is arm.ensures.refused in
+    rw (c.trace_of-trace.ensures, c.len-turn.ensures ∙ c.take_turns.new.records.ok.0) (
+      refl,
+      λ w h s.
+          let q = r.1 w h s in
+          (q.0, q.1, q.2, q.3, λ valid. refused-invalid w (answered_by (records_in q.0)) h (turns_of g.R.Object.Resource.type_of c.args.turns.items) q.0 _ q.3.refused valid),
+    )
+
+pub returns-in-Err-Faulted-Unnamed-clause-something_before : goal.returns-in-Err-Faulted-Unnamed-clause-something_before
+returns-in-Err-Faulted-Unnamed-clause-something_before g c = rw (c.fail.ensures.error, c.trace_of-trace-in-Err-Faulted-Unnamed.ensures) c.take_turns.ensures.something
+
+pub returns-in-Err-Faulted-Unnamed-clause-unnamed : goal.returns-in-Err-Faulted-Unnamed-clause-unnamed
+returns-in-Err-Faulted-Unnamed-clause-unnamed g c =
+    let arm = c.in-Err-Faulted-Unnamed in
+    let b = faulted-now arm.field-0 arm.field-0-0 (faults.Unnamed arm.source) _ arm.field-0-is arm.field-0-0-is arm.ensures.broken in
+    rw (c.fail.ensures.error, c.trace_of-trace-in-Err-Faulted-Unnamed.ensures, c.len-turn-in-Err-Faulted-Unnamed.ensures ∙ c.take_turns.new.records.ok.0) (
+      refl,
+      λ w h s.
+          let q = b w h s in
+          (q.0, q.1, broken-same g.R.RootSource g.S.RelatedSet g.B.Backoff g.R.Object.Resource w (faults.Unnamed arm.source) h (turns_of g.R.Object.Resource.type_of c.args.turns.items) c.args.self.now q.0 c.take_turns.new.controller c.fail.new.self (ap (λ (z : Feeding _ _ _ _ _). z.asks) c.fail.ensures.spent) q.2),
+    )
+
+pub returns-in-Err-Faulted-Unnamed-clause-handed_unnamed : goal.returns-in-Err-Faulted-Unnamed-clause-handed_unnamed
+returns-in-Err-Faulted-Unnamed-clause-handed_unnamed g c =
+    let arm = c.in-Err-Faulted-Unnamed in
+    let b = faulted-now arm.field-0 arm.field-0-0 (faults.Unnamed arm.source) _ arm.field-0-is arm.field-0-0-is arm.ensures.starts_nothing in
+    rw (c.fail.ensures.error, c.trace_of-trace-in-Err-Faulted-Unnamed.ensures) b
+
+pub returns-in-Err-Faulted-NoMemory-clause-something_before : goal.returns-in-Err-Faulted-NoMemory-clause-something_before
+returns-in-Err-Faulted-NoMemory-clause-something_before g c = rw (c.fail-in-Err-Faulted-NoMemory.ensures.error, c.trace_of-trace-in-Err-Faulted-NoMemory.ensures) c.take_turns.ensures.something
+
+pub returns-in-Err-Faulted-NoMemory-clause-no_memory : goal.returns-in-Err-Faulted-NoMemory-clause-no_memory
+returns-in-Err-Faulted-NoMemory-clause-no_memory g c =
+    let arm = c.in-Err-Faulted-NoMemory in
+    let b = faulted-now arm.field-0 arm.field-0-0 faults.NoMemory _ arm.field-0-is arm.field-0-0-is arm.ensures.broken in
+    rw (c.fail-in-Err-Faulted-NoMemory.ensures.error, c.trace_of-trace-in-Err-Faulted-NoMemory.ensures) (λ w h s.
+    let q = b w h s in
+    (q.0, q.1, broken-same g.R.RootSource g.S.RelatedSet g.B.Backoff g.R.Object.Resource w faults.NoMemory h (turns_of g.R.Object.Resource.type_of c.args.turns.items) c.args.self.now q.0 c.take_turns.new.controller c.fail-in-Err-Faulted-NoMemory.new.self (ap (λ (z : Feeding _ _ _ _ _). z.asks) c.fail-in-Err-Faulted-NoMemory.ensures.spent) q.2))
+
+pub returns-clause-something_before : goal.returns-clause-something_before
+returns-clause-something_before g c = rw (c.fail-in-Err-Faulted-Spent.ensures.error, c.trace_of-trace-in-Err-Faulted-Spent.ensures) c.take_turns.ensures.something
+
+pub returns-clause-no_memory : goal.returns-clause-no_memory
+returns-clause-no_memory g c =
+    let arm = c.in-Err-Faulted-Spent in
+    let b = faulted-now arm.field-0 arm.field-0-0 faults.Spent _ arm.field-0-is arm.field-0-0-is arm.ensures.broken in
+    rw (c.fail-in-Err-Faulted-Spent.ensures.error, c.trace_of-trace-in-Err-Faulted-Spent.ensures) (λ w h s.
+    let q = b w h s in
+    absurd (never-spent g.R.RootSource g.S.RelatedSet g.B.Backoff g.R.Object.Resource w h (turns_of g.R.Object.Resource.type_of c.args.turns.items) c.args.self.now q.0 c.take_turns.new.controller q.2))

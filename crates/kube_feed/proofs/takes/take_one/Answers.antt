@@ -1,0 +1,30 @@
+use Rattle.std.proofs.Common.{Result, Ok, Err, IfOk, Some, None, option_map, subst}
+use Rattle.std.specs.Arc.{arc_value}
+use Rattle.kube_turn.specs.Views.{taken_of}
+use Rattle.kube_feed.specs.Takes.{IsLookedUp}
+use Rattle.kube_feed.proofs.Taking.{took-found}
+use Rattle.kube_feed.proofs.takes.take_one.Goals as goal
+
+pub returns-in_default-clause-took : goal.returns-in_default-clause-took
+returns-in_default-clause-took g c core qs rs s =
+    let k = subst (λ o. IsLookedUp g.K.Resource core qs rs (option_map (option_map arc_value) o) c.args.reader.now c.next_object.new.reader) c.in_default.is (c.in_ok-found.ensures.looked_up core qs rs s) in
+    (k.0, s, k.1)
+
+pub returns-in_default-found-clause-took : goal.returns-in_default-found-clause-took
+returns-in_default-found-clause-took g c core qs rs s =
+    let k = subst (λ o. IsLookedUp g.K.Resource core qs rs (option_map (option_map arc_value) o) c.args.reader.now c.next_object.new.reader) c.in-Some.is (c.in_ok-found.ensures.looked_up core qs rs s) in
+    let l = subst (λ o. IsLookedUp g.K.Resource core qs rs (Some (option_map arc_value o)) c.args.reader.now c.next_object.new.reader) c.in_default-found.is k in
+    took-found g.K.Resource core qs rs c.args.reader.now None (taken_of g.K.Resource.type_of c.take_missing.result) c.take_missing.new.pending c.next_object.new.reader l (c.take_missing.ensures.first core qs rs s) (c.take_missing.ensures.stands core qs rs s)
+
+both : {T E : Type 0} (r : Result T E) (P Q S : T → Type 0) → ((x : T) → P x → Q x → S x) → IfOk r P → IfOk r Q → IfOk r S
+both (Ok x) P Q S f p q = f x p q
+both (Err e) P Q S f p q = tt
+
+pub returns-clause-took : goal.returns-clause-took
+returns-clause-took g c =
+    both c.take_found.result _ _ _
+    (λ t first stands core qs rs s.
+    let k = subst (λ o. IsLookedUp g.K.Resource core qs rs (option_map (option_map arc_value) o) c.args.reader.now c.next_object.new.reader) c.in-Some.is (c.in_ok-found.ensures.looked_up core qs rs s) in
+    let l = subst (λ o. IsLookedUp g.K.Resource core qs rs (Some (option_map arc_value o)) c.args.reader.now c.next_object.new.reader) c.in-Some-found.is k in
+    took-found g.K.Resource core qs rs c.args.reader.now (Some (arc_value c.in-Some-found.object)) (taken_of g.K.Resource.type_of t) c.take_found.new.pending c.next_object.new.reader l (first core qs rs s) (stands core qs rs s))
+    c.take_found.ensures.first c.take_found.ensures.stands

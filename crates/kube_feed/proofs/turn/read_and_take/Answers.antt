@@ -1,0 +1,55 @@
+use Rattle.std.proofs.Common.{None, refl, sym, ap, subst, ◌∙◌}
+use Rattle.std.specs.List.{AllByRecursion, filter_map}
+use Rattle.kube_model.specs.Raw.{grown_by}
+use Rattle.kube_turn.specs.Views.{taken_of}
+use Rattle.kube_core.specs.Pendings.{Stands}
+use Rattle.kube_step.specs.HandOvers.{handed_by}
+use Rattle.kube_step.specs.Takes.{IsSomething}
+use Rattle.kube_step.proofs.Taking.{grown-nil}
+use Rattle.kube_feed.specs.Turns.{HaveReadAndTaken}
+use Rattle.kube_feed.proofs.Going.{read-none, read-some}
+use Rattle.kube_feed.proofs.Reading.{later-more, later-none}
+use Rattle.kube_feed.proofs.turn.read_and_take.Goals as goal
+
+pub returns-then-gave_up-clause-same : goal.returns-then-gave_up-clause-same
+returns-then-gave_up-clause-same g c = later-none c.args.parts.now.reader
+
+pub returns-then-gave_up-clause-taken : goal.returns-then-gave_up-clause-taken
+returns-then-gave_up-clause-taken g c core qs rs s = (
+  None,
+  refl,
+  subst (λ ts. HaveReadAndTaken g.K.Resource core c.args.gave_up qs rs c.args.parts.now None (filter_map (taken_of g.K.Resource.type_of) ts) c.args.parts.now) (sym c.new.ensures)
+      (read-none g.K.Resource core qs rs c.args.gave_up c.if-gave_up.true c.args.parts.now s),
+)
+
+pub returns-then-gave_up-clause-handed : goal.returns-then-gave_up-clause-handed
+returns-then-gave_up-clause-handed g c =
+    sym (ap (λ ts. grown_by (g.Rc.Reconciler.handed c.args.reconciler.now) (handed_by (filter_map (taken_of g.K.Resource.type_of) ts))) c.new.ensures ∙ grown-nil (g.Rc.Reconciler.handed c.args.reconciler.now))
+
+pub returns-then-gave_up-clause-something : goal.returns-then-gave_up-clause-something
+returns-then-gave_up-clause-something g c = subst (AllByRecursion (IsSomething g.K.Resource.type_of)) (sym c.new.ensures) tt
+
+pub returns-in_err-taken-clause-same : goal.returns-in_err-taken-clause-same
+returns-in_err-taken-clause-same g c = later-more c.args.parts.now.reader c.poll_ready-runner.new.parts.reader c.take_where.new.parts.reader c.poll_ready-runner.ensures.same c.in_err-taken.ensures.same
+
+pub returns-in_err-taken-clause-shut : goal.returns-in_err-taken-clause-shut
+returns-in_err-taken-clause-shut g c = c.in_err-taken.ensures.shut ∙ c.poll_ready-runner.ensures.shut
+
+pub returns-clause-same : goal.returns-clause-same
+returns-clause-same g c = later-more c.args.parts.now.reader c.poll_ready-runner.new.parts.reader c.take_where.new.parts.reader c.poll_ready-runner.ensures.same c.in_ok-taken.ensures.same
+
+pub returns-clause-shut : goal.returns-clause-shut
+returns-clause-shut g c = c.in_ok-taken.ensures.shut ∙ c.poll_ready-runner.ensures.shut
+
+pub returns-clause-taken : goal.returns-clause-taken
+returns-clause-taken g c core qs rs s =
+    let type_of = g.K.Resource.type_of in
+    let ts = filter_map (taken_of type_of) c.in_ok-taken.taken in
+    let mid = c.poll_ready-runner.new.parts in
+    let k = c.poll_ready-runner.ensures.polled in
+    let e = c.in_ok-taken.ensures in
+    let now = subst (λ p. Stands type_of core p qs rs) (sym c.poll_ready-runner.ensures.pending) s in (
+      k.0,
+      k.4,
+      read-some g.K.Resource core qs rs c.args.gave_up c.if-gave_up.false c.args.parts.now k.0 mid.reader mid.ready ts c.take_where.new.parts k.1 k.2 k.3 (e.looked_up core qs rs now) (e.taken core qs rs now) e.ready,
+    )

@@ -1,0 +1,74 @@
+-- Runs of a controller that reads a store: turns, one after another. R is the type of its root, S that of its related sources, B that of its backoff's states, O that of objects, D that of their dynamic types and E that of faults.
+use Rattle.std.specs.Prelude.{◌≡◌, false, List, [], ◌∷◌, ◌++◌, map, length, slice_get, take, Some}
+use Rattle.kube_meta.specs.declared.action.Action.{Action}
+use Rattle.kube_meta.specs.Reference.{ObjectType}
+use Rattle.kube_meta.specs.declared.resource.Resource as resource
+use Rattle.kube_model.specs.World.{World}
+use Rattle.kube_model.specs.History.{Turn, TurnRecord, Step, dated, exchanges}
+use Rattle.kube_model.specs.Named.{RootIsNamed, EachIsNamed, AreNamedTurns}
+use Rattle.kube_model.specs.Takes.{running}
+use Rattle.kube_model.specs.Traces.{IsRecord, IsTrace, IsRefusedAfter, IsValid, Made, Refusal, has_ended, step, steps}
+use Rattle.kube_streams.specs.declared.backoff.Backoff as backoff
+use Rattle.kube_asks.specs.declared.asks.AskFault.{AskFault}
+use Rattle.kube_asks.specs.declared.root.RootSource as root_source
+use Rattle.kube_asks.specs.declared.set.RelatedSet as related_set
+use Rattle.kube_turn.specs.declared.turn.Turn.{Turn as HeldTurn}
+use Rattle.kube_turn.specs.declared.record.TurnRecord.{TurnRecord as HeldRecord}
+use Rattle.kube_turn.specs.Records.{turn_of}
+use Rattle.kube_step.specs.Calls.{ArePolled, dated_in}
+use Rattle.kube_step.specs.Errors.{IfUnnamedAsk}
+use Rattle.kube_step.specs.Finishes.{AreFinished}
+use Rattle.kube_step.specs.Policies.{answered_in, answered_by}
+use Rattle.kube_feed.specs.Asked.{AreEndedBy}
+use Rattle.kube_feed.specs.Fed.{Feeding, StandsFor}
+
+-- the records of what turns made
+abbrev pub records_in : {O : Type 0} → List (Made O) → List (TurnRecord O)
+records_in ms = map (λ m. m.0) ms
+
+-- what was done with the finishes of each turn that has a record, after a history. policy says what the error policy answered of an object and a fault
+module _ {O E D : Type 0} (type_of : D → ObjectType) (policy : O → E → Action → Type 0) where
+  abbrev pub AreFinishedIn : List (Step O) → List (HeldTurn O E D) → List (HeldRecord O E D) → List (Made O) → Type 0
+  AreFinishedIn h [] rs ms = Unit {0}
+  AreFinishedIn h (t ∷ ts) [] ms = Unit {0}
+  AreFinishedIn h (t ∷ ts) (r ∷ rs) [] = ⊥
+  AreFinishedIn h (t ∷ ts) (r ∷ rs) (m ∷ ms) =
+      AreFinished type_of policy (running h) t.finishes r.finished × AreFinishedIn (h ++ step (turn_of type_of t) m ∷ []) ts rs ms
+
+module _ {R S B O D : Type 0} (root : root_source.Ghosts R O D) (related : related_set.Ghosts S O D) (w : World O B) where
+  -- a fault broke a turn off after this history; where an object has no name the turn is valid. What is told of the sources is what was asked until then
+  pub record IsBrokenOff (f : AskFault) (h : List (Step O)) (t : Turn) (r : R) (s : S) (r' : R) (s' : S) : Type 0 where
+    pub valid : IfUnnamedAsk f (λ source. IsValid h t)
+    pub ended : AreEndedBy root related w h t f [] r s r' s'
+
+module _ {R S B O D : Type 0} (root : root_source.Ghosts R O D) (related : related_set.Ghosts S O D) (delays : backoff.Ghosts B) (object : resource.Ghosts O D) (w : World O B) where
+  -- this is what the turn made after this history, and nothing else was asked
+  pub record IsNextTurn (h : List (Step O)) (t : Turn) (c : Feeding R S B O D) (m : Made O) (c' : Feeding R S B O D) : Type 0 where
+    pub recorded : IsRecord w (answered_in m.0.finished) h t m
+    pub each_named : EachIsNamed w (RootIsNamed w) h t [] m.0.exchanges
+    pub polled : ArePolled root.polls related.polls (exchanges h) c.asks.root c.asks.related (dated m.0.at m.0.exchanges) c'.asks.root c'.asks.related
+    pub stands : StandsFor root related delays object w (h ++ step t m ∷ []) c'
+
+  -- these turns made this, with what the error policy answered, and it is their trace; all exchanges came with their names, and nothing else was asked
+  pub record HaveRun (h : List (Step O)) (ts : List Turn) (c : Feeding R S B O D) (ms : List (Made O)) (c' : Feeding R S B O D) : Type 0 where
+    pub traced : IsTrace w (answered_by (records_in ms)) h ts ms
+    pub all_named : AreNamedTurns w (RootIsNamed w) h (steps ts ms)
+    pub polled : ArePolled root.polls related.polls (exchanges h) c.asks.root c.asks.related (dated_in (records_in ms)) c'.asks.root c'.asks.related
+    pub stands : StandsFor root related delays object w (h ++ steps ts ms) c'
+
+  -- so did the turns before one that is refused. It changed nothing and asked nothing
+  pub record WereRefused (h : List (Step O)) (ts : List Turn) (c : Feeding R S B O D) (ms : List (Made O)) (why : Refusal) (c' : Feeding R S B O D) : Type 0 where
+    pub refused : IsRefusedAfter w (answered_by (records_in ms)) h ts ms why
+    pub before : HaveRun h (take (length ms) ts) c ms c'
+
+  -- this is what the first turns made, all of which were done; the next turn was broken off by a fault, and nothing else was asked
+  pub record WereBrokenOff (f : AskFault) (h : List (Step O)) (ts : List Turn) (c : Feeding R S B O D) (ms : List (Made O)) (c' : Feeding R S B O D) : Type 0 where
+    pub traced : IsTrace w (answered_by (records_in ms)) h (take (length ms) ts) ms
+    pub all_named : AreNamedTurns w (RootIsNamed w) h (steps (take (length ms) ts) ms)
+    pub reached_root : R
+    pub reached_related : S
+    pub polled : ArePolled root.polls related.polls (exchanges h) c.asks.root c.asks.related (dated_in (records_in ms)) reached_root reached_related
+    pub turn : Turn
+    pub next : slice_get ts (length ms) ≡ Some turn
+    pub going : has_ended (h ++ steps (take (length ms) ts) ms) ≡ false
+    pub broken : IsBrokenOff root related w f (h ++ steps (take (length ms) ts) ms) turn reached_root reached_related c'.asks.root c'.asks.related

@@ -1,0 +1,95 @@
+-- Turns of a controller that reads a store, one at a time. R is the type of its root, S that of its related sources, B that of its backoff's states, O that of objects and D that of their dynamic types.
+use Rattle.std.specs.Prelude.{◌≡◌, ℕ, Bool, true, false, not, ◌||◌, ◌&&◌, List, [], ◌∷◌, ◌++◌, map, Option, None, is_some}
+use Rattle.std.specs.List.{filter_map}
+use Rattle.kube_meta.specs.Reference.{Reference}
+use Rattle.kube_meta.specs.declared.resource.Resource as resource
+use Rattle.kube_model.specs.World.{World}
+use Rattle.kube_model.specs.Reads.{Reads, Readiness, is_told_ready, told_ready}
+use Rattle.kube_model.specs.History.{Exchange, Message, same_message, Taken, Turn, Step, dated, exchanges, exchanges_with}
+use Rattle.kube_model.specs.Named.{RootIsNamed, EachIsNamed}
+use Rattle.kube_model.specs.Pause.{gave_up}
+use Rattle.kube_model.specs.Queue.{QueueEvent, Settled, Frozen, waiting}
+use Rattle.kube_model.specs.Requests.{Timed, requests_of_exchanges, took}
+use Rattle.kube_model.specs.Stored.{was_ready}
+use Rattle.kube_model.specs.Takes.{Running, started}
+use Rattle.kube_model.specs.Turns.{next_source, running_in}
+use Rattle.kube_model.specs.Traces.{EachIsNext, IsRecord, Made, step}
+use Rattle.kube_history.specs.CoreWorld.{CoreWorld, core_world}
+use Rattle.kube_history.specs.InTurn.{AreTaken, look_so}
+use Rattle.kube_history.specs.TurnCalls.{with_requests}
+use Rattle.kube_streams.specs.declared.backoff.Backoff as backoff
+use Rattle.kube_reflect.specs.Writers.{Reader}
+use Rattle.kube_core.specs.Pendings.{Parts as Pending, Stands as PendingStands}
+use Rattle.kube_asks.specs.Asking.{Asking}
+use Rattle.kube_asks.specs.declared.root.RootSource as root_source
+use Rattle.kube_asks.specs.declared.set.RelatedSet as related_set
+use Rattle.kube_step.specs.Calls.{ArePolled}
+use Rattle.kube_step.specs.Controllers.{IsWorldOfAsks, AsksStand}
+use Rattle.kube_step.specs.Policies.{answered_in}
+use Rattle.kube_feed.specs.declared.parts.Parts.{Parts}
+use Rattle.kube_feed.specs.Asked.{MayAsk}
+use Rattle.kube_feed.specs.Fed.{PartsStand}
+use Rattle.kube_feed.specs.Reads.{AreFound, IsTold}
+use Rattle.kube_feed.specs.Requests.{bulk_requests, name_requests}
+
+-- the requests of a turn that come before its asks: of a reload that found these objects, and those that name references
+abbrev pub first_requests : {O : Type 0} → (O → Reference) → Turn → Reads O → List Timed
+first_requests key t r = bulk_requests key t.at r.reloaded ++ name_requests t.at t.on
+
+-- what happens to the queue in an open turn after its finishes and before its takes
+abbrev pub queue_asked : {O : Type 0} → (O → Reference) → List (QueueEvent Message) → Turn → Reads O → List (Exchange O) → List (QueueEvent Message)
+queue_asked key qs t r xs = with_requests (with_requests qs t.at (first_requests key t r)) t.at (requests_of_exchanges t.at xs) ++ Settled t.at ∷ []
+
+-- these were taken of what waits, one after another until none is left, each with what its look-up answered
+abbrev pub AreAllTaken : {O : Type 0} → ℕ → List (Frozen Message) → List (Running O) → List (Taken O) → Type 0
+AreAllTaken limit ws rs ts = AreTaken limit (look_so (map (λ t. t.object) ts)) 0 ws rs ts
+
+-- where the turn takes; else none were
+abbrev pub AreTakenWhere : {O : Type 0} → Bool → ℕ → List (Frozen Message) → List (Running O) → List (Taken O) → Type 0
+AreTakenWhere true limit ws rs ts = AreAllTaken limit ws rs ts
+AreTakenWhere false limit ws rs ts = ts ≡ []
+
+-- takes of what waits and runs, and what they leave
+pub record HaveTaken {K D : Type 0} (object : resource.Ghosts K D) (core : CoreWorld K) (takes : Bool) (qs : List (QueueEvent Message)) (rs : List (Running K)) (ts : List (Taken K)) (p' : Pending K D) : Type 0 where
+  pub taken : AreTakenWhere takes core.limit (waiting same_message core.debounce qs) rs ts
+  pub waits : PendingStands object.type_of core p' (qs ++ took ts) (rs ++ filter_map started ts)
+
+-- after its asks and its settle a turn polled whether the store is ready, where that was not told before and the backoff hasn't given up, and took where the store is ready and the backoff hasn't
+pub record HaveReadAndTaken {K D : Type 0} (object : resource.Ghosts K D) (core : CoreWorld K) (gave_up : Bool) (qs : List (QueueEvent Message)) (rs : List (Running K)) (p : Parts K D) (told : Option Readiness) (ts : List (Taken K)) (p' : Parts K D) : Type 0 where
+  pub told_at : Reader K
+  pub is_told : IsTold object.meta_of told p.reader told_at
+  pub polled : is_some told ≡ not p.ready && not gave_up
+  pub ready : p'.ready ≡ p.ready || is_told_ready told
+  pub looked_up : AreFound object.meta_of ts told_at p'.reader
+  pub taken : HaveTaken object core ((p.ready || is_told_ready told) && not gave_up) qs rs ts p'.pending
+
+module _ {R S B O D : Type 0} (root : root_source.Ghosts R O D) (related : related_set.Ghosts S O D) (delays : backoff.Ghosts B) (object : resource.Ghosts O D) (w : World O B) (h : List (Step O)) (t : Turn) where
+  -- an open turn may go on after its finishes, which did this to the queue
+  pub record MayGoOn (qs : List (QueueEvent Message)) (a : Asking R S B) (p : Parts O D) : Type 0 where
+    pub asks : MayAsk root related delays object w h t qs [] a p.pending
+    pub kind : p.reader.kind ≡ root.kind a.root
+    pub ready : p.ready ≡ was_ready h
+    pub shut : p.shut ≡ false
+
+  -- all that an open turn does after its finishes, which did this to the queue: it requests, asks, settles, polls `poll_ready` where that is due, and takes where the store is ready and the backoff hasn't given up
+  pub record HasGoneOn (qs : List (QueueEvent Message)) (a : Asking R S B) (r : Reads O) (xs : List (Exchange O)) (ts : List (Taken O)) (a' : Asking R S B) (p' : Parts O D) : Type 0 where
+    pub asked : EachIsNext w h t [] xs
+    pub each_named : EachIsNamed w (RootIsNamed w) h t [] xs
+    pub polled : ArePolled root.polls related.polls (exchanges h) a.root a.related (dated t.at xs) a'.root a'.related
+    pub done : next_source w h t xs ≡ None
+    pub world : IsWorldOfAsks root related delays object w a'
+    pub asks_stand : AsksStand root related delays object w t.budget (exchanges h) (dated t.at xs) a'
+    pub unspent : a'.is_spent ≡ false
+    pub reloaded : is_some r.reloaded ≡ t.reload
+    pub told : is_some r.readiness ≡ not (was_ready h) && not (gave_up w (exchanges_with h t xs))
+    pub looked_up : r.looked_up ≡ map (λ taken. taken.object) ts
+    pub taken : HaveTaken object (core_world w) ((was_ready h || told_ready r) && not (gave_up w (exchanges_with h t xs))) (queue_asked w.key qs t r xs) (running_in w h t) ts p'.pending
+    pub ready : p'.ready ≡ was_ready h || told_ready r
+    pub shut : p'.shut ≡ gave_up w (exchanges_with h t xs)
+
+  -- the turn was taken: this is what it made, with what the error policy answered; its exchanges came with their names, and are all that its sources were asked; and the parts are what the history leaves with it
+  pub record IsTaken (a : Asking R S B) (m : Made O) (a' : Asking R S B) (p' : Parts O D) : Type 0 where
+    pub recorded : IsRecord w (answered_in m.0.finished) h t m
+    pub each_named : EachIsNamed w (RootIsNamed w) h t [] m.0.exchanges
+    pub polled : ArePolled root.polls related.polls (exchanges h) a.root a.related (dated t.at m.0.exchanges) a'.root a'.related
+    pub parts : PartsStand root related delays object w (h ++ step t m ∷ []) a' p'

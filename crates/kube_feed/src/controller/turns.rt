@@ -1,0 +1,225 @@
+//! Turns, one after another.
+
+ghost use Rattle.std.specs.Prelude.{◌≡◌, ◌<◌, ◌≤◌, ◌+◌, ◌^◌, ◌++◌, ◌∷◌, [], List, length, IfErr, IfOk, OnOk, OnErr, Some, true, false};
+ghost use Rattle.std.specs.Arc.{arc_value};
+ghost use Rattle.std.specs.List.{AllByRecursion};
+ghost use Rattle.std.specs.Vec.{vec_len, vec_capacity};
+ghost use Rattle.kube_model.specs.World.{World};
+ghost use Rattle.kube_model.specs.History.{Step};
+ghost use Rattle.kube_model.specs.Raw.{grown_by};
+ghost use Rattle.kube_model.specs.Reads.{Reads};
+ghost use Rattle.kube_model.specs.Takes.{running};
+ghost use Rattle.kube_model.specs.Traces.{Made, refusal};
+ghost use Rattle.kube_turn.specs.Records.{record_of, records_of, turn_of, turns_of};
+ghost use Rattle.kube_turn.specs.declared.record.TurnRecord.{TurnRecord};
+ghost use Rattle.kube_step.specs.Errors.{IfUnnamedAsk};
+ghost use Rattle.kube_step.specs.Finishes.{AreFinished};
+ghost use Rattle.kube_step.specs.HandOvers.{handed_by, taken_by};
+ghost use Rattle.kube_step.specs.Policies.{Answers};
+ghost use Rattle.kube_step.specs.Takes.{IsSomething};
+ghost use Rattle.kube_feed.specs.Fed.{StandsFor};
+ghost use Rattle.kube_feed.specs.Reads.{AreReadIn, IsLater, IsReadIn};
+ghost use Rattle.kube_feed.specs.Runs.{AreFinishedIn, HaveRun, IsBrokenOff, IsNextTurn, WereBrokenOff, WereRefused, records_in};
+ghost use Rattle.kube_feed.specs.Stops.{IfFaulted, IfRefusedTurn};
+
+use crate::controller::FedController;
+use crate::refusal::refused;
+use crate::stopped::Stopped;
+use crate::turn::take_turn;
+use kube_asks::{Backoff, RelatedSet, RootSource};
+use kube_meta::{Action, NoMemory};
+use kube_step::Reconciler;
+use kube_turn::{Turn, TurnRecord};
+use std::alloc::Global;
+use std::sync::{Arc, Wait};
+
+/// Takes a turn, where it is not refused.
+fn next_turn<R, S, B, W, Ctx, Rc, P, E>(
+    rt: &W,
+    alloc: Global,
+    controller: &mut FedController<R, S, B>,
+    reconciler: &mut Rc,
+    error_policy: &P,
+    context: &Arc<Ctx>,
+    turn: Turn<R::Object, E>,
+) -> Result<TurnRecord<R::Object, E>, Stopped>
+where
+    R: RootSource,
+    S: RelatedSet<R::Object>,
+    B: Backoff,
+    W: Wait,
+    Ctx: Drop,
+    Rc: Reconciler<R::Object, Ctx>,
+    P: Fn(Arc<R::Object>, &E, Arc<Ctx>) -> Action,
+    E: Drop,
+    requires few { length (S.feeds controller.old.asks.related) + 1 < 2 ^ 32 }
+    requires root { R.can_poll controller.old.asks.root }
+    requires related { S.can_poll controller.old.asks.related }
+    requires callable { P.IsAlwaysCallable error_policy.now }
+    ensures root { R.can_poll controller.new.asks.root }
+    ensures related { S.can_poll controller.new.asks.related }
+    ensures feeds { S.feeds controller.new.asks.related ≡ S.feeds controller.old.asks.related }
+    ensures same { IsLater controller.old.reader controller.new.reader }
+    ensures spent { controller.new.is_spent ≡ controller.old.is_spent }
+    ensures next { IfOk result (λ r. (w : World R.Object B) (h : List (Step R.Object)) → StandsFor R.RootSource S.RelatedSet B.Backoff R.Object.Resource w h controller.old → controller.old.has_ended ≡ false
+        → (reads : Reads R.Object) × IsReadIn R.Object.meta_of (record_of R.Object.type_of r).taken reads controller.old.reader controller.new.reader
+        × IsNextTurn R.RootSource S.RelatedSet B.Backoff R.Object.Resource w h (turn_of R.Object.type_of turn) controller.old (record_of R.Object.type_of r, reads) controller.new) }
+    ensures finished { IfOk result (λ r. (w : World R.Object B) (h : List (Step R.Object)) → StandsFor R.RootSource S.RelatedSet B.Backoff R.Object.Resource w h controller.old
+        → AreFinished R.Object.type_of (Answers P.Fn error_policy.now (arc_value context.now)) (running h) turn.finishes r.finished) }
+    ensures handed { IfOk result (λ r. Rc.handed reconciler.new ≡ grown_by (Rc.handed reconciler.old) (handed_by (record_of R.Object.type_of r).taken)) }
+    ensures something { IfOk result (λ r. AllByRecursion (IsSomething R.Object.type_of) r.taken) }
+    ensures refused { IfErr result (λ s. IfRefusedTurn s (λ why. (controller.new ≡ controller.old) × (Rc.handed reconciler.new ≡ Rc.handed reconciler.old)
+        × ((w : World R.Object B) (h : List (Step R.Object)) → StandsFor R.RootSource S.RelatedSet B.Backoff R.Object.Resource w h controller.old → refusal h (turn_of R.Object.type_of turn) ≡ Some why))) }
+    ensures broken { IfErr result (λ s. IfFaulted s (λ f. (w : World R.Object B) (h : List (Step R.Object)) → StandsFor R.RootSource S.RelatedSet B.Backoff R.Object.Resource w h controller.old
+        → IsBrokenOff R.RootSource S.RelatedSet w f h (turn_of R.Object.type_of turn) controller.old.asks.root controller.old.asks.related controller.new.asks.root controller.new.asks.related)) }
+    ensures starts_nothing { IfErr result (λ s. IfFaulted s (λ f. IfUnnamedAsk f (λ source. Rc.handed reconciler.new ≡ Rc.handed reconciler.old))) }
+{
+    if let Some(why) = refused(alloc, &controller.parts.pending, controller.last, &turn)? {
+        return Err(Stopped::Refused(why));
+    }
+    let at = turn.at;
+    let record = take_turn(
+        rt,
+        alloc,
+        &mut controller.asks,
+        &mut controller.parts,
+        reconciler,
+        error_policy,
+        context,
+        turn,
+    )?;
+    controller.last = at;
+    controller.ended = record.ended;
+    Ok(record)
+}
+
+/// Takes memory for one more item.
+fn reserve_one<T: Drop>(items: &mut Vec<T>) -> Result<(), NoMemory>
+    ensures items { items.new.items ≡ items.old.items }
+    ensures room { OnOk result (vec_len items.new < vec_capacity items.new) }
+{
+    items.reserve(1)?;
+    Ok(())
+}
+
+/// Takes a turn, unless one was the last, and adds its record. Memory for the record is taken first, so that no turn is
+/// done of which there is none.
+fn add_turn<R, S, B, W, Ctx, Rc, P, E>(
+    rt: &W,
+    alloc: Global,
+    controller: &mut FedController<R, S, B>,
+    reconciler: &mut Rc,
+    error_policy: &P,
+    context: &Arc<Ctx>,
+    turn: Turn<R::Object, E>,
+    records: &mut Vec<TurnRecord<R::Object, E>>,
+) -> Result<(), Stopped>
+where
+    R: RootSource,
+    S: RelatedSet<R::Object>,
+    B: Backoff,
+    W: Wait,
+    Ctx: Drop,
+    Rc: Reconciler<R::Object, Ctx>,
+    P: Fn(Arc<R::Object>, &E, Arc<Ctx>) -> Action,
+    E: Drop,
+    requires few { length (S.feeds controller.old.asks.related) + 1 < 2 ^ 32 }
+    requires root { R.can_poll controller.old.asks.root }
+    requires related { S.can_poll controller.old.asks.related }
+    requires callable { P.IsAlwaysCallable error_policy.now }
+    ensures root { R.can_poll controller.new.asks.root }
+    ensures related { S.can_poll controller.new.asks.related }
+    ensures feeds { S.feeds controller.new.asks.related ≡ S.feeds controller.old.asks.related }
+    ensures same { IsLater controller.old.reader controller.new.reader }
+    ensures spent { controller.new.is_spent ≡ controller.old.is_spent }
+    ensures ended { OnOk result (controller.old.has_ended ≡ true → (controller.new ≡ controller.old) × (records.new.items ≡ records.old.items) × (Rc.handed reconciler.new ≡ Rc.handed reconciler.old)) }
+    ensures next { OnOk result (controller.old.has_ended ≡ false → (r : TurnRecord R.Object E R.Object.DynamicType) × (records.new.items ≡ records.old.items ++ r ∷ [])
+        × ((w : World R.Object B) (h : List (Step R.Object)) → StandsFor R.RootSource S.RelatedSet B.Backoff R.Object.Resource w h controller.old
+        → (reads : Reads R.Object) × IsReadIn R.Object.meta_of (record_of R.Object.type_of r).taken reads controller.old.reader controller.new.reader
+        × IsNextTurn R.RootSource S.RelatedSet B.Backoff R.Object.Resource w h (turn_of R.Object.type_of turn) controller.old (record_of R.Object.type_of r, reads) controller.new
+        × AreFinished R.Object.type_of (Answers P.Fn error_policy.now (arc_value context.now)) (running h) turn.finishes r.finished)
+        × (Rc.handed reconciler.new ≡ grown_by (Rc.handed reconciler.old) (handed_by (record_of R.Object.type_of r).taken))
+        × AllByRecursion (IsSomething R.Object.type_of) r.taken) }
+    ensures err { OnErr result ((records.new.items ≡ records.old.items) × (controller.old.has_ended ≡ false)) }
+    ensures refused { IfErr result (λ s. IfRefusedTurn s (λ why. (controller.new ≡ controller.old) × (Rc.handed reconciler.new ≡ Rc.handed reconciler.old)
+        × ((w : World R.Object B) (h : List (Step R.Object)) → StandsFor R.RootSource S.RelatedSet B.Backoff R.Object.Resource w h controller.old → refusal h (turn_of R.Object.type_of turn) ≡ Some why))) }
+    ensures broken { IfErr result (λ s. IfFaulted s (λ f. (w : World R.Object B) (h : List (Step R.Object)) → StandsFor R.RootSource S.RelatedSet B.Backoff R.Object.Resource w h controller.old
+        → IsBrokenOff R.RootSource S.RelatedSet w f h (turn_of R.Object.type_of turn) controller.old.asks.root controller.old.asks.related controller.new.asks.root controller.new.asks.related)) }
+    ensures starts_nothing { IfErr result (λ s. IfFaulted s (λ f. IfUnnamedAsk f (λ source. Rc.handed reconciler.new ≡ Rc.handed reconciler.old))) }
+{
+    if controller.ended {
+        return Ok(());
+    }
+    reserve_one(records)?;
+    let record = next_turn(
+        rt,
+        alloc,
+        controller,
+        reconciler,
+        error_policy,
+        context,
+        turn,
+    )?;
+    records.push_reserved(record);
+    Ok(())
+}
+
+/// Takes turns until one is the last, and adds the record of each. No turn after the last is read.
+pub fn take_turns<R, S, B, W, Ctx, Rc, P, E>(
+    rt: &W,
+    alloc: Global,
+    controller: &mut FedController<R, S, B>,
+    reconciler: &mut Rc,
+    error_policy: &P,
+    context: &Arc<Ctx>,
+    turns: Vec<Turn<R::Object, E>>,
+    records: &mut Vec<TurnRecord<R::Object, E>>,
+) -> Result<(), Stopped>
+where
+    R: RootSource,
+    S: RelatedSet<R::Object>,
+    B: Backoff,
+    W: Wait,
+    Ctx: Drop,
+    Rc: Reconciler<R::Object, Ctx>,
+    P: Fn(Arc<R::Object>, &E, Arc<Ctx>) -> Action,
+    E: Drop,
+    requires few { length (S.feeds controller.old.asks.related) + 1 < 2 ^ 32 }
+    requires root { R.can_poll controller.old.asks.root }
+    requires related { S.can_poll controller.old.asks.related }
+    requires callable { P.IsAlwaysCallable error_policy.now }
+    requires none { records.old.items ≡ [] }
+    ensures short { length records.new.items ≤ length turns.items }
+    ensures root { R.can_poll controller.new.asks.root }
+    ensures related { S.can_poll controller.new.asks.related }
+    ensures same { IsLater controller.old.reader controller.new.reader }
+    ensures spent { controller.new.is_spent ≡ controller.old.is_spent }
+    ensures ran { OnOk result ((w : World R.Object B) (h : List (Step R.Object)) → StandsFor R.RootSource S.RelatedSet B.Backoff R.Object.Resource w h controller.old
+        → (ms : List (Made R.Object)) × (records_in ms ≡ records_of R.Object.type_of records.new.items) × AreReadIn R.Object.meta_of ms controller.old.reader controller.new.reader
+        × HaveRun R.RootSource S.RelatedSet B.Backoff R.Object.Resource w h (turns_of R.Object.type_of turns.items) controller.old ms controller.new
+        × AreFinishedIn R.Object.type_of (Answers P.Fn error_policy.now (arc_value context.now)) h turns.items records.new.items ms) }
+    ensures handed { OnOk result (Rc.handed reconciler.new ≡ grown_by (Rc.handed reconciler.old) (handed_by (taken_by (records_of R.Object.type_of records.new.items)))) }
+    ensures something { AllByRecursion (λ r. AllByRecursion (IsSomething R.Object.type_of) r.taken) records.new.items }
+    ensures refused { IfErr result (λ s. IfRefusedTurn s (λ why. (Rc.handed reconciler.new ≡ grown_by (Rc.handed reconciler.old) (handed_by (taken_by (records_of R.Object.type_of records.new.items))))
+        × ((w : World R.Object B) (h : List (Step R.Object)) → StandsFor R.RootSource S.RelatedSet B.Backoff R.Object.Resource w h controller.old
+        → (ms : List (Made R.Object)) × (records_in ms ≡ records_of R.Object.type_of records.new.items) × AreReadIn R.Object.meta_of ms controller.old.reader controller.new.reader
+        × WereRefused R.RootSource S.RelatedSet B.Backoff R.Object.Resource w h (turns_of R.Object.type_of turns.items) controller.old ms why controller.new))) }
+    ensures broken { IfErr result (λ s. IfFaulted s (λ f. (w : World R.Object B) (h : List (Step R.Object)) → StandsFor R.RootSource S.RelatedSet B.Backoff R.Object.Resource w h controller.old
+        → (ms : List (Made R.Object)) × (records_in ms ≡ records_of R.Object.type_of records.new.items)
+        × WereBrokenOff R.RootSource S.RelatedSet B.Backoff R.Object.Resource w f h (turns_of R.Object.type_of turns.items) controller.old ms controller.new)) }
+    ensures starts_nothing { IfErr result (λ s. IfFaulted s (λ f. IfUnnamedAsk f (λ source. Rc.handed reconciler.new ≡ grown_by (Rc.handed reconciler.old) (handed_by (taken_by (records_of R.Object.type_of records.new.items)))))) }
+{
+    for turn in turns {
+        add_turn(
+            rt,
+            alloc,
+            controller,
+            reconciler,
+            error_policy,
+            context,
+            turn,
+            records,
+        )?;
+    }
+    Ok(())
+}
