@@ -5,12 +5,11 @@
 use anyhow::Result;
 use kube_api::{ResultPage, Sequence, SequenceStep, TestMode, WatchEvent};
 use kube_control::{
-    Action, Beside, Controller, DefaultBackoff, Finish, NoRelated, One, Owners, Reconciler,
+    Action, Beside, Controller, DefaultBackoff, Finish, Handed, NoRelated, One, Owners, Recorder,
     RelatedWatch, Shutdown, Turn, WatchRoot,
 };
 use kube_meta::{
-    ApiResource, DynamicObject as Site, List, Moment, NoMemory, ObjectRef, Text, api_version,
-    read_object,
+    ApiResource, DynamicObject as Site, List, Moment, ObjectRef, Text, api_version, read_object,
 };
 use kube_watch::Config;
 use serde_json::Value;
@@ -63,32 +62,26 @@ enum SiteFault {
     NoPod,
 }
 
-/// Reconciles at once what it is handed, which succeeds from the third time on. The ends are told to the next turn.
+/// Fails twice, and succeeds from the third time on. The ends are told to the next turn.
 #[derive(Drop)]
 struct Operator {
     attempts: u32,
     finishes: List<Finish<Site, SiteFault>>,
 }
 
-impl Reconciler<Site, ()> for Operator {
-    fn start(
-        &mut self,
-        alloc: Global,
-        reference: &ObjectRef<Site>,
-        _site: Arc<Site>,
-        _context: Arc<()>,
-    ) -> Result<(), NoMemory> {
+impl Operator {
+    /// Reconciles what was handed over.
+    fn reconcile(&mut self, alloc: Global, handed: &Handed<Site>) -> Result<()> {
         self.attempts = self.attempts.saturating_add(1);
         let outcome = match self.attempts {
             1 | 2 => Err(SiteFault::NoPod),
             _ => Ok(Action::requeue(60 * SECOND)),
         };
-        let reference = reference.copy(alloc)?;
-        self.finishes.push(Finish { reference, outcome })
+        let reference = handed.reference.copy(alloc)?;
+        self.finishes.push(Finish { reference, outcome })?;
+        Ok(())
     }
-}
 
-impl Operator {
     /// The turn of a second. At 20 s the shop is named, and at 92 s a shutdown is asked for.
     fn turn(&mut self, alloc: Global, at: u64) -> Result<Turn<Site, SiteFault>> {
         let (mut on, mut shutdown) = (List::new(alloc), Shutdown::No);
@@ -110,11 +103,11 @@ impl Operator {
         })
     }
 
-    /// Takes the turn of a second, and prints what it came to.
+    /// Takes the turn of a second, prints what it came to, and reconciles what it handed over.
     fn step(&mut self, rt: &impl Print, alloc: Global, sites: &mut Sites, at: u64) -> Result<()> {
-        let turns = vec![in alloc; self.turn(alloc, at)?]?;
+        let (mut recorder, turns) = (Recorder::new(alloc), vec![in alloc; self.turn(alloc, at)?]?);
         let policy = |_: Arc<Site>, _: &SiteFault, _: Arc<()>| Action::requeue(5 * SECOND);
-        let trace = sites.run(alloc, self, &policy, Arc::new(alloc, ())?, turns)?;
+        let trace = sites.run(alloc, &mut recorder, &policy, Arc::new(alloc, ())?, turns)?;
         for record in Vec::from(trace.records) {
             let (started, ended) = (record.taken.len(), record.ended);
             println!(rt; "{at} s: {started} started, ended {ended}")?;
@@ -124,6 +117,9 @@ impl Operator {
                     Err(error) => println!(rt; "  {error}")?,
                 }
             }
+        }
+        for handed in recorder.hand_overs() {
+            self.reconcile(alloc, handed)?;
         }
         Ok(())
     }
