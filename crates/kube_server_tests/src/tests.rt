@@ -28,6 +28,7 @@ enum Act {
     Delete(&'static str, u64),
     Patch(&'static str, &'static str),
     Compact(u64),
+    Holds,
     Feed,
     List(u32, &'static str),
     ListBy(&'static str, &'static str),
@@ -320,6 +321,16 @@ fn next(alloc: Global, conn: &mut Conn) -> Result<String, NoMemory>
     next_answered(alloc, &answer)
 }
 
+fn holds(alloc: Global, server: &Server) -> Result<String, NoMemory> {
+    let mut text = String::from_str(alloc, "holds")?;
+    let objects = server.objects(alloc)?;
+    for object in objects.as_slice() {
+        text.push_str(" ")?;
+        text.push_str(shown(alloc, object)?.as_str())?;
+    }
+    Ok(text)
+}
+
 /// What is done with the server; none where it is an act of the connection.
 fn serve(alloc: Global, server: &mut Server, act: Act) -> Result<Option<String>, Fail>
     ensures { IsLater server.old.changes server.new.changes server.old.compacted server.new.compacted }
@@ -331,6 +342,7 @@ fn serve(alloc: Global, server: &mut Server, act: Act) -> Result<Option<String>,
         Act::Remove(name) => remove(alloc, server, name)?,
         Act::Delete(name, now) => delete(alloc, server, name, now)?,
         Act::Patch(name, text) => patch(alloc, server, name, text)?,
+        Act::Holds => holds(alloc, server)?,
         Act::Compact(revision) => {
             server.compact(revision);
             String::from_str(alloc, "compacted")?
@@ -423,7 +435,7 @@ fn a_put_raises_the_revision_and_keeps_the_uid(rt: HostRuntime) -> Result<(), Fa
     plays(&rt, &PUTS)
 }
 
-const PAGES: [Row; 22] = [
+const PAGES: [Row; 23] = [
     (Act::Put("a"), "1"),
     (Act::Put("b"), "2"),
     (Act::Feed, "fed"),
@@ -434,6 +446,7 @@ const PAGES: [Row; 22] = [
     (Act::List(9, "1:0"), "page - 1 a/uid-1@1/-"),
     (Act::Put("c"), "3"),
     (Act::Remove("a"), "4"),
+    (Act::Holds, "holds b/uid-2@2/- c/uid-3@3/-"),
     (Act::Feed, "fed"),
     (Act::List(1, "2:1"), "page - 2 b/uid-2@2/-"),
     (Act::List(0, ""), "page - 4 b/uid-2@2/- c/uid-3@3/-"),
