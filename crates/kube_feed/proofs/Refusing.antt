@@ -1,5 +1,5 @@
 -- Turns whose moment is refused, and others.
-use Rattle.std.proofs.Common.{◌≡◌, ℕ, ◌^◌, Bool, false, ◌||◌, nat_le, nat_lt, List, [], Some, if◌then◌else◌, sym, ap, ◌∙◌}
+use Rattle.std.proofs.Common.{◌≡◌, ℕ, ◌^◌, false, ◌||◌, nat_le, nat_lt, List, [], Some, if◌then◌else◌, sym, ap, ◌∙◌}
 use Rattle.kube_model.specs.History.{Step, Turn}
 use Rattle.kube_model.specs.Takes.{running}
 use Rattle.kube_model.specs.Traces.{Moment, last_moment, refusal, refused_finish}

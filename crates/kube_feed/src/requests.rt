@@ -1,6 +1,6 @@
 //! Requests that are made together.
 
-ghost use Rattle.std.specs.Prelude.{◌≡◌, List, OnOk, map};
+ghost use Rattle.std.specs.Prelude.{List, OnOk, map};
 ghost use Rattle.kube_model.specs.Queue.{QueueEvent};
 ghost use Rattle.kube_model.specs.History.{Message};
 ghost use Rattle.kube_model.specs.Requests.{requested_at};

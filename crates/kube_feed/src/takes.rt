@@ -1,6 +1,6 @@
 //! The takes of a turn, each with one look-up.
 
-ghost use Rattle.std.specs.Prelude.{◌≡◌, ◌++◌, [], List, Option, Some, None, IfOk, OnOk, OnErr, not, is_some};
+ghost use Rattle.std.specs.Prelude.{◌≡◌, ◌++◌, [], List, Option, Some, None, IfOk, OnErr};
 ghost use Rattle.std.specs.Option.{option_map};
 ghost use Rattle.std.specs.Arc.{arc_value};
 ghost use Rattle.std.specs.List.{AllByRecursion, cons_option, filter_map};
@@ -10,7 +10,6 @@ ghost use Rattle.kube_model.specs.Raw.{grown_by};
 ghost use Rattle.kube_model.specs.Requests.{took};
 ghost use Rattle.kube_model.specs.Takes.{Running, started};
 ghost use Rattle.kube_history.specs.CoreWorld.{CoreWorld};
-ghost use Rattle.kube_history.specs.CoreEvents.{Took, next_candidate, queue_with, running_with};
 ghost use Rattle.kube_core.specs.Pendings.{Stands};
 ghost use Rattle.kube_turn.specs.Views.{taken_of};
 ghost use Rattle.kube_step.specs.HandOvers.{handed_by};

@@ -1,4 +1,4 @@
-use Rattle.std.proofs.Common.{[], sym, ap, subst, ◌∙◌}
+use Rattle.std.proofs.Common.{[], sym, ap, subst}
 use Rattle.kube_history.specs.CoreWorld.{core_world}
 use Rattle.kube_step.specs.Controllers.{IsWorldOfAsks}
 use Rattle.kube_control.proofs.Histories.{none-yet}
