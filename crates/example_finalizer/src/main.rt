@@ -11,7 +11,7 @@ use kube_final::{Event, Finalizer, finalizer};
 use kube_meta::{
     ApiResource, DynamicObject as Volume, List, Moment, ObjectRef, Polled, Text, read_object,
 };
-use kube_server::{Conn, Server, ServerObjects};
+use kube_server::{Conn, Server};
 use kube_watch::Config;
 use serde_json::Value;
 use std::alloc::Global;
@@ -73,7 +73,7 @@ fn reconcile(
         Some(owed) => Some(work(rt, &owed, now)?),
         None => None,
     };
-    let mut objects = ServerObjects::new(alloc, server, None)?;
+    let mut objects = server.objects_in(alloc, None)?;
     let Polled::Ready(outcome) = guard.poll(alloc, &mut objects, branch, now)? else {
         bail!("the server is always ready");
     };

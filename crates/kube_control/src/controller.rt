@@ -8,6 +8,7 @@ use std::marker::Model;
 pub mod build;
 pub mod related;
 pub mod run;
+pub mod streams;
 mod turns;
 
 /// A controller: a root whose objects it reconciles, a set of related sources whose objects are mapped to these, and a

@@ -13,6 +13,7 @@ pub use kube_asks::{
     RelatedList, RelatedSet, RelatedWatch, RootSource, WatchRoot,
 };
 pub use kube_core::Core;
+pub use kube_fed::RelatedStream;
 pub use kube_meta::Action;
 pub use kube_model::call::{Answer, Call};
 pub use kube_model::error::{RunnerError, WriterDropped};

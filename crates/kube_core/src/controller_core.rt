@@ -330,6 +330,13 @@ impl<K: Resource> Core<K> {
         self.shut
     }
 
+    /// What waits and what runs.
+    pub fn pending(&self) -> &Pending<K>
+        ensures { result.now ≡ self.now.pending }
+    {
+        &self.pending
+    }
+
     /// The place of a reference among those that run, in the order of their starts.
     pub fn running_place(&self, reference: &ObjectRef<K>) -> Option<usize>
         ensures { (core : CoreWorld K) (es : List (CoreEvent K)) → StandsFor K.type_of K.meta_of core es self.now

@@ -36,13 +36,12 @@ alike-names root related others v w e n own at x r q k =
 module _ {R S B O D : Type 0} (root : root_source.Ghosts R O D) (related : related_set.Ghosts S O D) (delays : backoff.Ghosts B) (object : resource.Ghosts O D) where
   -- parts of which no turn was taken
   pub parts-first : (w : World O B) (a : Asking R S B) (p : Parts O D) (budget : List ℕ) (before mine : List (Dated O)) → before ++ mine ≡ [] → IsWorldOfAsks root related delays object w a
-      → is_watched (root.feed a.root) ≡ false → NamesObjects root related w → p.reader.kind ≡ root.kind a.root → PendingStands object.type_of (core_world w) p.pending [] [] → p.ready ≡ false → p.shut ≡ false
+      → is_watched (root.feed a.root) ≡ false → NamesObjects root related w → PendingStands object.type_of (core_world w) p.pending [] [] → p.ready ≡ false → p.shut ≡ false
       → AsksStand root related delays object w budget before mine a → a.is_spent ≡ false → PartsStand root related delays object w [] a p
-  parts-first w a p budget before mine none world fed names kind waits ready shut asks_stand unspent = record {
+  parts-first w a p budget before mine none world fed names waits ready shut asks_stand unspent = record {
     world = world;
     is_fed = fed-root w (root.feed a.root) _ world.fed_so fed;
     names = names;
-    kind = kind;
     waits = waits;
     ready = ready;
     shut = shut;
@@ -62,21 +61,21 @@ module _ {R S B O D : Type 0} (root : root_source.Ghosts R O D) (related : relat
   pub configured : (v w : World O B) (a : Asking R S B) (p p' : Parts O D) → PartsStand root related delays object v [] a p → IsWorldOfAsks root related delays object w a → w.backoff ≡ v.backoff
       → p'.reader ≡ p.reader → p'.ready ≡ p.ready → p'.shut ≡ p.shut → PendingStands object.type_of (core_world w) p'.pending [] [] → PartsStand root related delays object w [] a p'
   configured v w a p p' s is backoff reader ready shut waits =
-      parts-first w a p' s.budget s.before s.mine s.joined is (root-fed v a s.world s.is_fed) (alike-names root related related v w (s.world.named ∙ sym is.named) s.names) (ap (λ r. r.kind) reader ∙ s.kind) waits (ready ∙ s.ready) (shut ∙ s.shut)
+      parts-first w a p' s.budget s.before s.mine s.joined is (root-fed v a s.world s.is_fed) (alike-names root related related v w (s.world.named ∙ sym is.named) s.names) waits (ready ∙ s.ready) (shut ∙ s.shut)
       (record { sources = s.asks_stand.sources; kept = kept-alike v w s.budget s.before s.mine a.kept s.joined (s.world.fed_so ∙ sym is.fed_so) (sym backoff) s.asks_stand.kept })
       s.unspent
 
   -- parts that were made of the sources r and s, in each world whose backoff begins as theirs
   pub started : (w : World O B) (a : Asking R S B) (p : Parts O D) (r : R) (s : S) (start : B) → a.root ≡ r → a.related ≡ s → a.is_spent ≡ false → IsWorldOfAsks root related delays object w a → w.backoff ≡ start
-      → is_watched (root.feed r) ≡ false → NamesObjects root related w → p.reader.kind ≡ root.kind r → PendingStands object.type_of (core_world w) p.pending [] [] → p.ready ≡ false → p.shut ≡ false
+      → is_watched (root.feed r) ≡ false → NamesObjects root related w → PendingStands object.type_of (core_world w) p.pending [] [] → p.ready ≡ false → p.shut ≡ false
       → SourcesStand (root.stands r) (related.stands s) (length (related.feeds s)) []
       → ((v : World O B) → IsWorldOf v (root.kind r) object.meta_of (root.feed r) (related.feeds s) delays.delay delays.delayed delays.restarted → v.backoff ≡ start
       → SourcesStand (root.stands r) (related.stands s) (length (related.feeds s)) [] → AsksStand root related delays object v [] [] [] a)
       → PartsStand root related delays object w [] a p
-  started w a p r s start same-root same-related unspent is backoff fed names kind waits ready shut sources asked =
+  started w a p r s start same-root same-related unspent is backoff fed names waits ready shut sources asked =
       let own = subst (λ x. IsWorldOf w (root.kind x) object.meta_of (root.feed x) (related.feeds s) delays.delay delays.delayed delays.restarted) same-root
       (subst (λ x. IsWorldOf w (root.kind a.root) object.meta_of (root.feed a.root) (related.feeds x) delays.delay delays.delayed delays.restarted) same-related is) in
-      parts-first w a p [] [] [] refl is (ap (λ x. is_watched (root.feed x)) same-root ∙ fed) names (kind ∙ sym (ap root.kind same-root)) waits ready shut (asked w own backoff sources) unspent
+      parts-first w a p [] [] [] refl is (ap (λ x. is_watched (root.feed x)) same-root ∙ fed) names waits ready shut (asked w own backoff sources) unspent
 
 -- what waits and runs stands for nothing in each world with this limit and this debounce
 waits-alike : {O B C D : Type 0} (object : resource.Ghosts O D) (v : World O B) (w : World O C) (p : Pending O D) → w.limit ≡ v.limit → w.debounce ≡ v.debounce → PendingStands object.type_of (core_world v) p [] [] → PendingStands object.type_of (core_world w) p [] []
@@ -108,7 +107,6 @@ module _ {R S B C O D : Type 0} (root : root_source.Ghosts R O D) (related : rel
       parts-first root related others object w a' p [] [] [] refl is
       (ap (λ x. is_watched (root.feed x)) (same-root ∙ of-root) ∙ root-fed root related delays object v a k.world k.is_fed)
       (alike-names root related related v w (k.world.named ∙ sym own.named) k.names)
-      (k.kind ∙ ap root.kind (sym (same-root ∙ of-root)))
       (waits-alike object v w p.pending limit debounce k.waits) k.ready k.shut
       (asked own backoff (subst (λ x. SourcesStand (root.stands x) (related.stands s) (length (related.feeds s)) []) (sym of-root)
       (subst (λ x. SourcesStand (root.stands a.root) (related.stands x) (length (related.feeds x)) []) (sym of-related) sources)))
@@ -135,7 +133,6 @@ module _ {R S T U B O D : Type 0} (root : root_source.Ghosts R O D) (related : r
       parts-first root wider delays object w a' p [] [] [] refl is
       (ap (λ x. is_watched (root.feed x)) (same-root ∙ of-root) ∙ root-fed root related delays object v a k.world k.is_fed)
       (alike-names root related wider v w (k.world.named ∙ sym own.named) k.names)
-      (k.kind ∙ ap root.kind (sym (same-root ∙ of-root)))
       (waits-alike object v w p.pending limit debounce k.waits) k.ready k.shut
       (asked own (backoff ∙ (first ∙ sym begins)) (record {
         root = subst (λ x. root.stands x []) (sym of-root) sources.root;

@@ -2,14 +2,15 @@
 use Rattle.std.proofs.Common.{◌≡◌, ℕ, Bool, true, false, not, ◌||◌, ◌&&◌, List, [], ◌∷◌, ◌++◌, map, Option, None, Result, Ok, Err, IfOk, is_some, refl, sym, ap, ap₂, subst, ◌∙◌, append-nil}
 use Rattle.std.specs.List.{filter_map}
 use Rattle.std.proofs.lemmas.List.{map-append}
-use Rattle.kube_meta.specs.Reference.{Reference}
+use Rattle.kube_meta.specs.Reference.{ObjectType, Reference}
 use Rattle.kube_meta.specs.declared.resource.Resource as resource
 use Rattle.kube_model.specs.World.{World}
-use Rattle.kube_model.specs.Reads.{Reads, Readiness, is_told_ready}
+use Rattle.kube_model.specs.Reads.{Readiness, is_told_ready}
 use Rattle.kube_model.specs.History.{Exchange, Message, same_message, Taken, Turn, Step, exchanges_with}
 use Rattle.kube_model.specs.Pause.{gave_up}
 use Rattle.kube_model.specs.Queue.{QueueEvent, Settled, waiting}
 use Rattle.kube_model.specs.Requests.{requested_at, requests_of_exchanges, took}
+use Rattle.kube_model.specs.Shutdowns.{is_over}
 use Rattle.kube_model.specs.Stored.{was_ready}
 use Rattle.kube_model.specs.Takes.{Running, started}
 use Rattle.kube_model.specs.Turns.{next_source, running_in}
@@ -25,9 +26,10 @@ use Rattle.kube_asks.specs.declared.root.RootSource as root_source
 use Rattle.kube_asks.specs.declared.set.RelatedSet as related_set
 use Rattle.kube_feed.specs.declared.parts.Parts.{Parts}
 use Rattle.kube_feed.specs.Asked.{AreAsked, MayAsk}
-use Rattle.kube_feed.specs.Reads.{AreFound, IsTold}
+use Rattle.kube_feed.specs.Reads.{AreFound, AreListed, IsTold}
 use Rattle.kube_feed.specs.Requests.{bulk_requests, by_name, name_requests}
-use Rattle.kube_feed.specs.Turns.{AreAllTaken, AreTakenWhere, HasGoneOn, HaveReadAndTaken, HaveTaken, MayGoOn, queue_asked}
+use Rattle.kube_feed.specs.Turns.{AreAllTaken, AreFirstTaken, AreTakenWhere, HasGoneOn, HasTakenThese, HaveReadAndTaken, HaveReadAndTakenFirst, HaveTaken, HaveTakenFirst, MayGoOn, queue_asked}
+use Rattle.kube_feed.proofs.Turned.{open-over}
 
 pub both : {T E : Type 0} (r : Result T E) (P Q S : T → Type 0) → ((x : T) → P x → Q x → S x) → IfOk r P → IfOk r Q → IfOk r S
 both (Ok x) P Q S f p q = f x p q
@@ -101,12 +103,22 @@ module _ {K D : Type 0} (object : resource.Ghosts K D) (core : CoreWorld K) (qs 
     taken = subst (λ b. HaveTaken object core b qs rs ts p'.pending) (now ∙ and-open (p.ready || is_told_ready told) gave e) taken;
   }
 
+  -- memory was wanting after these takes
+  pub read-first : (gave : Bool) → gave ≡ false → (p : Parts K D) (told : Option Readiness) (mid : Reader K) (ready : Bool) (ts : List (Taken K)) (p' : Parts K D) → IsTold object.meta_of told p.reader mid → is_some told ≡ not p.ready
+      → ready ≡ (p.ready || is_told_ready told) → HaveTakenFirst object.meta_of core ready qs rs ts mid p'.reader → HaveReadAndTakenFirst object core gave qs rs p told ts p'
+  read-first gave e p told mid ready ts p' is polled now taken = record {
+    told_at = mid;
+    is_told = is;
+    polled = polled ∙ and-open (not p.ready) gave e;
+    taken = subst (λ b. HaveTakenFirst object.meta_of core b qs rs ts mid p'.reader) (now ∙ and-open (p.ready || is_told_ready told) gave e) taken;
+  }
+
 -- The turn.
 
 module _ {R S B O D : Type 0} (root : root_source.Ghosts R O D) (related : related_set.Ghosts S O D) (delays : backoff.Ghosts B) (object : resource.Ghosts O D) (w : World O B) (h : List (Step O)) (t : Turn)
     (qs : List (QueueEvent Message)) (a : Asking R S B) (p : Parts O D) (may : MayGoOn root related delays object w h t qs a p) where
-  pub of-type : IsOfType p.reader.kind object.meta_of (core_world w)
-  of-type = subst (λ k. IsOfType k object.meta_of (core_world w)) (sym may.kind) (record { key = may.asks.world.key; named = may.asks.world.named; version = may.asks.world.version })
+  pub of-type : (kind : ObjectType) → kind ≡ root.kind a.root → IsOfType kind object.meta_of (core_world w)
+  of-type kind is = subst (λ k. IsOfType k object.meta_of (core_world w)) (sym is) (record { key = may.asks.world.key; named = may.asks.world.named; version = may.asks.world.version })
 
   pub waits-first : PendingStands object.type_of (core_world w) p.pending qs (running_in w h t)
   waits-first = subst (λ es. PendingStands object.type_of (core_world w) p.pending es (running_in w h t)) (append-nil qs) may.asks.waits
@@ -147,4 +159,36 @@ module _ {R S B O D : Type 0} (root : root_source.Ghosts R O D) (related : relat
                 (ap₂ (λ x y. (x || is_told_ready told) && not y) same gives) k.taken;
             ready = k.ready ∙ ap (λ x. x || is_told_ready told) same;
             shut = shut ∙ ap₂ (λ x y. x || y) may.shut gives;
+          }
+
+      -- and then memory was wanting after these takes
+      pub gone-first : (p3 : Parts O D) (told : Option Readiness) (ts : List (Taken O)) (p4 : Parts O D) (mid : Reader O) → p3.ready ≡ p.ready → p3.reader ≡ mid → AreListed object.meta_of found p.reader mid
+          → HaveReadAndTakenFirst object (core_world w) gave (with_requests first t.at (requests_of_exchanges t.at xs) ++ Settled t.at ∷ []) (running_in w h t) p3 told ts p4
+          → HasTakenThese object.meta_of w h t qs xs ts (record { reloaded = found; readiness = told; looked_up = map (λ (u : Taken O). u.object) ts; shown = None }) p.reader p4.reader
+      gone-first p3 told ts p4 mid ready reader listed k =
+          let same : p3.ready ≡ was_ready h = ready ∙ may.ready in
+          let over : gave ≡ is_over w h t xs = gives ∙ open-over w h t xs may.asks.is_open in record {
+            asked = asked.asked;
+            done = done;
+            reads = record {
+              polled = k.polled ∙ ap₂ (λ x y. not x && not y) same over;
+              reloaded = reloaded ∙ (and-true t.reload ∙ ap (λ b. t.reload && not b) (sym may.asks.is_open));
+              looked_up = refl;
+              shown = refl;
+            };
+            read = (
+              k.taken.found_by,
+              record {
+                reloaded_by = mid;
+                told_at = k.told_at;
+                found_by = k.taken.found_by;
+                reloaded = listed;
+                told = subst (λ r. IsTold object.meta_of told r k.told_at) reader k.is_told;
+                looked_up = k.taken.looked_up;
+                shown = refl;
+              },
+              k.taken.later,
+            );
+            taken = subst (λ b. AreFirstTaken b w.limit (waiting same_message w.debounce (queue_asked w.key qs t (record { reloaded = found; readiness = told; looked_up = map (λ (u : Taken O). u.object) ts; shown = None }) xs)) (running_in w h t) ts)
+                (ap₂ (λ x y. (x || is_told_ready told) && not y) same over) k.taken.taken;
           }

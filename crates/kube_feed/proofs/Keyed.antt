@@ -3,7 +3,7 @@ use Rattle.std.proofs.Common.{◌≡◌, Bool, true, false, not, cond, List, [],
 use Rattle.std.specs.List.{fold}
 use Rattle.kube_meta.specs.declared.metadata.ObjectMeta.{ObjectMeta}
 use Rattle.kube_meta.specs.Keys.{key_of}
-use Rattle.kube_meta.specs.Reference.{Reference, same_reference}
+use Rattle.kube_meta.specs.Reference.{ObjectType, Reference, same_reference}
 use Rattle.kube_history.specs.CoreWorld.{CoreWorld}
 use Rattle.kube_watch.specs.declared.event.Event.TheVariants.{Apply, Delete, Init, InitApply, InitDone}
 use Rattle.kube_reflect.specs.Cached.{Kept, keyed, put_under, drop_under, nothing}
@@ -14,6 +14,8 @@ use Rattle.kube_reflect.specs.Published.{stored_in}
 use Rattle.kube_reflect.specs.Reads.{objects}
 use Rattle.kube_reflect.specs.Writers.{Reader}
 use Rattle.kube_core.specs.Cores.{IsOfType}
+use Rattle.kube_feed.specs.Requests.{typed_as}
+use Rattle.kube_feed.proofs.Requested.{map-map}
 
 module _ {O : Type 0} (key : O → Reference) where
   -- each stands beside its own reference
@@ -61,8 +63,8 @@ module _ {O : Type 0} (key : O → Reference) where
   pub stored-keys : (es : List (Entry O)) → map (λ (p : Reference × O). p.0) (kept_by key es).cache ≡ map key (map (λ (p : Reference × O). p.1) (kept_by key es).cache)
   stored-keys es = keys-own (kept_by key es).cache (all-own nothing es (tt, tt)).0
 
--- the keys that a read gives are those of the objects that it finds
-pub keys-in : {K : Type 0} (meta : K → ObjectMeta) (old new : Reader K) (core : CoreWorld K) (keys : List Reference) → new.kind ≡ old.kind → IsOfType old.kind meta core → keys ≡ map (λ (e : Reference × K). e.0) (stored_in meta new)
-    → keys ≡ map core.key (objects (stored_in meta new))
-keys-in meta old new core keys kind is e =
-    e ∙ (stored-keys (λ o. key_of new.kind (meta o)) new.seen ∙ ap (λ (key : _ → Reference). map key (objects (stored_in meta new))) (ap (λ k o. key_of k (meta o)) kind ∙ sym is.key))
+-- the keys that a read gives, each as that of an object of one type, are those of the objects that it finds
+pub keys-in : {K : Type 0} (meta : K → ObjectMeta) (new : Reader K) (kind : ObjectType) (core : CoreWorld K) (keys typed : List Reference) → IsOfType kind meta core → typed ≡ map (typed_as kind) keys → keys ≡ map (λ (e : Reference × K). e.0) (stored_in meta new)
+    → typed ≡ map core.key (objects (stored_in meta new))
+keys-in meta new kind core keys typed is same e =
+    same ∙ (ap (map (typed_as kind)) (e ∙ stored-keys (λ o. key_of new.kind (meta o)) new.seen) ∙ (map-map (λ o. key_of new.kind (meta o)) (typed_as kind) (objects (stored_in meta new)) ∙ ap (λ (key : _ → Reference). map key (objects (stored_in meta new))) (sym is.key)))

@@ -6,7 +6,6 @@ pub mod Going
 pub mod Keyed
 pub mod Named
 pub mod OneTurn
-pub mod Refusing
 pub mod Requested
 pub mod Reading
 pub mod Runs

@@ -13,7 +13,7 @@ use Rattle.kube_model.specs.Queue.{QueueEvent, waiting}
 use Rattle.kube_model.specs.Requests.{events_of, requested_and_settled, requests_of_turn, took, turn_events}
 use Rattle.kube_model.specs.Shutdowns.{asks_shutdown, is_closed, is_forced, is_over}
 use Rattle.kube_model.specs.Stored.{stored_in, was_ready}
-use Rattle.kube_model.specs.Takes.{running, started}
+use Rattle.kube_model.specs.Takes.{Running, running, started}
 use Rattle.kube_model.specs.Turns.{record_with, running_in, taken_in, was_asked}
 use Rattle.kube_model.specs.Traces.{AreFinishesOf, IsRecord, IsValid}
 use Rattle.kube_history.specs.CoreWorld.{core_world}
@@ -34,15 +34,12 @@ use Rattle.kube_step.specs.Policies.{answered_in}
 use Rattle.kube_feed.specs.declared.parts.Parts.{Parts}
 use Rattle.kube_feed.specs.Asked.{AreEndedBy}
 use Rattle.kube_feed.specs.Fed.{PartsStand}
-use Rattle.kube_feed.specs.Reads.{AreListed, IsReadIn}
+use Rattle.kube_feed.specs.Reads.{AreListed, IsLater, IsReadIn}
 use Rattle.kube_feed.specs.Requests.{finish_requests}
-use Rattle.kube_feed.specs.Turns.{AreTakenWhere, HasGoneOn, IsTaken, MayGoOn, queue_asked}
+use Rattle.kube_feed.specs.Turns.{AreFirstReads, AreFirstTaken, AreFirstTakes, AreTakenWhere, FrontTaken, HasGoneOn, HasTakenFirst, IsTaken, MayGoOn, NoneTaken, TookNone, TookThese, queue_asked}
 use Rattle.kube_feed.proofs.Requested.{queue-is, ready-is}
-use Rattle.kube_feed.proofs.Turned.{closed-is, made, parts-after, record-is}
-
-or-left : (a b : Bool) → (a || b) ≡ false → a ≡ false
-or-left true b e = absurd (cc)
-or-left false b e = refl
+use Rattle.kube_feed.proofs.Taking.{all-first, waits-once}
+use Rattle.kube_feed.proofs.Turned.{closed-is, first-is, made, open-over, parts-after, record-is}
 
 and-true : (b : Bool) → b ≡ (b && true)
 and-true true = refl
@@ -55,6 +52,11 @@ and-false false = refl
 or-none : (b : Bool) → (b || false) ≡ b
 or-none true = refl
 or-none false = refl
+
+-- takes of a turn are those that it makes first
+where-first : {O : Type 0} (takes : Bool) (limit debounce : ℕ) (qs : List (QueueEvent Message)) (rs : List (Running O)) (ts : List (Taken O)) → AreTakenWhere takes limit (waiting same_message debounce qs) rs ts → AreFirstTaken takes limit (waiting same_message debounce qs) rs ts
+where-first true limit debounce qs rs ts k = all-first limit (waiting same_message debounce qs) rs ts (waits-once debounce qs) k
+where-first false limit debounce qs rs ts k = sym k
 
 -- with what a turn shows
 abbrev pub with_shown : {O : Type 0} → Reads O → Option (List O) → Reads O
@@ -130,10 +132,14 @@ module _ {R S B O D : Type 0} (root : root_source.Ghosts R O D) (related : relat
         is_open = closed-now ∙ e;
         names = may.names;
       };
-      kind = ap (λ (r : Reader O). r.kind) reader ∙ (may.kind ∙ ap root.kind (sym same-root));
       ready = ready ∙ may.ready;
       shut = shut ∙ e;
     }
+
+    -- takes of a turn under way are those that it makes first
+    pub front-first : AreFinishesOf (answered_in fs) (running h) t.finishes fs → closed ≡ false → (ts : List (Taken O)) (old new : Reader O) → HasTakenFirst object.meta_of w h t finished_queue ts old new → AreFirstTakes object.meta_of w h t ts old new
+    front-first z e ts old new (TookNone none) = NoneTaken none
+    front-first z e ts old new (TookThese xs r k) = FrontTaken fs xs r z k.asked k.done k.reads k.read (first-is w may.is_fed h t r fs xs ts (closed-now ∙ e) k.reads k.taken)
 
     -- what follows was done whole
     module _ (p2 : Parts O D) (pending : p2.pending ≡ p1) (reader : p2.reader ≡ p.reader) (ready : p2.ready ≡ p.ready) (shut : p2.shut ≡ closed) (runner : Option RunnerError) (xs : List (Exchange O)) (ts : List (Taken O)) (a' : Asking R S B) (p' : Parts O D)
@@ -168,25 +174,40 @@ module _ {R S B O D : Type 0} (root : root_source.Ghosts R O D) (related : relat
                 rest = NotAsked refl refl;
               })
 
-      module _ (v : IsValid h t) (z : AreFinishesOf (answered_in fs) (running h) t.finishes fs) (kind : root.kind a'.root ≡ root.kind a1.root) (last : Parts O D) (same-pending : last.pending ≡ p'.pending) (same-ready : last.ready ≡ p'.ready) (same-shut : last.shut ≡ p'.shut)
-          (same-kind : last.reader.kind ≡ p.reader.kind) (store : Option (List O)) (shows : is_some store ≡ t.show) (listed : AreListed object.meta_of store p'.reader last.reader)
+      pub front-whole : AreFinishesOf (answered_in fs) (running h) t.finishes fs → (new : Reader O) → IsLater p'.reader new → AreFirstTakes object.meta_of w h t ts p.reader new
+      front-whole z new later = go closed refl
+        where
+          go : (b : Bool) → closed ≡ b → AreFirstTakes object.meta_of w h t ts p.reader new
+          go true e = NoneTaken (stayed (ap not e)).1
+          go false e =
+              let k = gone-now e in
+              let g = k.4 in
+              let open-now : is_closed w h t ≡ false = closed-now ∙ e in
+              let over : gave_up w (exchanges_with h t xs) ≡ is_over w h t xs = open-over w h t xs open-now in
+              let reads : AreFirstReads w h t xs ts k.0 = record {
+                polled = g.told ∙ ap (λ y. not (was_ready h) && not y) over;
+                reloaded = g.reloaded ∙ (and-true t.reload ∙ ap (λ b. t.reload && not b) (sym open-now));
+                looked_up = g.looked_up;
+                shown = k.2;
+              } in
+              let all = where-first ((was_ready h || told_ready k.0) && not (gave_up w (exchanges_with h t xs))) w.limit w.debounce (queue_asked w.key finished_queue t k.0 xs) (running_in w h t) ts g.taken.taken in
+              FrontTaken fs xs k.0 z g.asked g.done reads (p'.reader, subst (λ x. IsReadIn object.meta_of ts k.0 x p'.reader) reader k.1, later)
+              (first-is w may.is_fed h t k.0 fs xs ts open-now reads
+              (subst (λ y. AreFirstTaken ((was_ready h || told_ready k.0) && not y) w.limit (waiting same_message w.debounce (queue_asked w.key finished_queue t k.0 xs)) (running_in w h t) ts) over all))
+
+      module _ (v : IsValid h t) (z : AreFinishesOf (answered_in fs) (running h) t.finishes fs) (last : Parts O D) (same-pending : last.pending ≡ p'.pending) (same-ready : last.ready ≡ p'.ready) (same-shut : last.shut ≡ p'.shut)
+          (store : Option (List O)) (shows : is_some store ≡ t.show) (listed : AreListed object.meta_of store p'.reader last.reader)
           (q : TurnRecord O) (at : q.at ≡ t.at) (finished : q.finished ≡ fs) (asked : q.exchanges ≡ xs) (taken : q.taken ≡ ts) (shown : q.store ≡ store) (runs : q.runner ≡ runner)
           (stopped : (n : List ℕ) (before mine : List (Dated O)) → IsWorldOfAsks root related delays object w a' → AsksStand root related delays object w n before mine a' → q.stops ≡ stops_of w n before mine closed)
           (ends : (qs : List (QueueEvent Message)) → PendingStands object.type_of (core_world w) p'.pending qs (running_in w h t ++ filter_map started ts)
           → q.ended ≡ (is_forced t.shutdown || p'.shut && (length (running_in w h t ++ filter_map started ts) == 0) || is_some q.runner)) where
-        kind-now : (root.kind a'.root ≡ root.kind a1.root) → last.reader.kind ≡ root.kind a'.root
-        kind-now e = same-kind ∙ (may.kind ∙ (ap root.kind (sym same-root) ∙ sym e))
-
         -- an open turn
         module _ (e : closed ≡ false) (r : Reads O) (g : HasGoneOn root related delays object w h t finished_queue a1 r xs ts a' p') (fails : runner ≡ failure_in r.readiness) where
           open-now : is_closed w h t ≡ false
           open-now = closed-now ∙ e
 
-          not-asked : was_asked w h t ≡ false
-          not-asked = or-left (was_asked w h t) (gave_up w (exchanges h)) open-now
-
           over-is : gave_up w (exchanges_with h t xs) ≡ is_over w h t xs
-          over-is = sym (ap (λ b. b || gave_up w (exchanges_with h t xs)) not-asked)
+          over-is = open-over w h t xs open-now
 
           answers : ReaderAnswers w h t (with_shown r store) fs xs ts
           answers = record {
@@ -222,7 +243,7 @@ module _ {R S B O D : Type 0} (root : root_source.Ghosts R O D) (related : relat
                 (subst (λ x. ArePolled root.polls related.polls (exchanges h) x a.related (dated t.at xs) a'.root a'.related) same-root
                 (subst (λ y. ArePolled root.polls related.polls (exchanges h) a1.root y (dated t.at xs) a'.root a'.related) same-related g.polled));
             parts =
-                parts-after root related delays object w h t a p may v fs z a' last (with_shown r store) xs ts q is-now taken asked finished g.world g.asks_stand g.unspent (kind-now kind)
+                parts-after root related delays object w h t a p may v fs z a' last (with_shown r store) xs ts q is-now taken asked finished g.world g.asks_stand g.unspent
                 (subst (λ y. PendingStands object.type_of (core_world w) y (events_of w h ++ turn_events w h t (with_shown r store) fs xs ++ took ts) (running_in w h t ++ filter_map started ts)) (sym same-pending) waits-after)
                 (same-ready ∙ g.ready) (same-shut ∙ (g.shut ∙ over-is));
           }
@@ -294,7 +315,7 @@ module _ {R S B O D : Type 0} (root : root_source.Ghosts R O D) (related : relat
                 (subst (λ (y : Asking R S B). ArePolled root.polls related.polls (exchanges h) a.root a.related [] y.root y.related) (sym stay.3) (same-root, same-related));
             parts =
                 parts-after root related delays object w h t a p may v fs z a' last closed_reads [] [] q closed-record (taken ∙ stay.1) (asked ∙ stay.0) finished world-stays stands-stay
-                (ap (λ (y : Asking R S B). y.is_spent) stay.3 ∙ unspent-now) (kind-now (ap (λ (y : Asking R S B). root.kind y.root) stay.3))
+                (ap (λ (y : Asking R S B). y.is_spent) stay.3 ∙ unspent-now)
                 (subst (λ y. PendingStands object.type_of (core_world w) y (events_of w h ++ turn_events w h t closed_reads fs [] ++ []) (running_in w h t ++ [])) (sym same-pending) waits-stay)
                 (same-ready ∙ (ap (λ (y : Parts O D). y.ready) stay.4 ∙ (ready ∙ (may.ready ∙ sym (or-none (was_ready h)))))) (same-shut ∙ shut-now);
           }

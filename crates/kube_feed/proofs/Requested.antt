@@ -9,13 +9,14 @@ use Rattle.kube_model.specs.Queue.{Settled, sorted_by}
 use Rattle.kube_model.specs.Requests.{Timed, events_of, named_requests, reload_requests, requested_and_settled, requested_at, requests_of_exchanges, requests_of_finish, requests_of_turn, turn_events}
 use Rattle.kube_model.specs.Shutdowns.{is_closed}
 use Rattle.kube_model.specs.Stored.{stored_by, stored_in, was_ready}
+use Rattle.kube_model.specs.Takes.{found_so}
 use Rattle.kube_history.specs.TurnCalls.{with_requests}
 use Rattle.kube_history.proofs.TurnCalls.{requests-join, settle-join}
 use Rattle.kube_core.specs.Cores.{in_bulk}
 use Rattle.kube_feed.specs.Requests.{bulk_requests, by_name, finish_requests, name_requests}
 use Rattle.kube_feed.specs.Turns.{first_requests, queue_asked}
 
-map-map : {A B C : Type 0} (f : A → B) (g : B → C) (xs : List A) → map g (map f xs) ≡ map (λ x. g (f x)) xs
+pub map-map : {A B C : Type 0} (f : A → B) (g : B → C) (xs : List A) → map g (map f xs) ≡ map (λ x. g (f x)) xs
 map-map f g [] = refl
 map-map f g (x ∷ xs) = ap (λ ys. g (f x) ∷ ys) (map-map f g xs)
 
@@ -39,6 +40,9 @@ module _ {O B : Type 0} (w : World O B) (fed : is_watched (feed_of w 0) ≡ fals
 
   pub ready-is : (stored_in w h t r xs).is_ready ≡ (was_ready h || told_ready r)
   ready-is = by-feed (λ feed. (stored_by w feed h t r xs).is_ready) (was_ready h || told_ready r) refl refl
+
+  pub found-is : (stored_in w h t r xs).found_of ≡ found_so r.looked_up
+  found-is = by-feed (λ feed. (stored_by w feed h t r xs).found_of) (found_so r.looked_up) refl refl
 
   pub reloaded-is : (stored_in w h t r xs).reloaded ≡ unwrap_or r.reloaded []
   reloaded-is = by-feed (λ feed. (stored_by w feed h t r xs).reloaded) (unwrap_or r.reloaded []) refl refl

@@ -3,12 +3,12 @@ use Rattle.std.proofs.Common.{◌≡◌, ◌≤◌, ℕ, ◌+◌, true, false, L
 use Rattle.std.proofs.lemmas.List.{map-append}
 use Rattle.std.proofs.lemmas.Grind.{flat_map-append}
 use Rattle.kube_meta.specs.declared.metadata.ObjectMeta.{ObjectMeta}
-use Rattle.kube_meta.specs.Reference.{ObjectType}
+use Rattle.kube_meta.specs.Reference.{ObjectType, Reference}
 use Rattle.kube_meta.specs.declared.action.Action.{Action}
 use Rattle.kube_meta.specs.declared.resource.Resource as resource
 use Rattle.kube_model.specs.World.{World}
-use Rattle.kube_model.specs.Reads.{Reads}
-use Rattle.kube_model.specs.History.{Turn, TurnRecord, Step, dated, exchanges}
+use Rattle.kube_model.specs.Raw.{grown_by}
+use Rattle.kube_model.specs.History.{Taken, Turn, TurnRecord, Step, dated, exchanges}
 use Rattle.kube_model.specs.Named.{AreNamedTurns, RootIsNamed}
 use Rattle.kube_model.specs.Takes.{running}
 use Rattle.kube_model.specs.Traces.{IsRecord, IsRefusedAfter, IsTrace, IsValid, Made, Refusal, has_ended, refusal, step, steps}
@@ -25,8 +25,10 @@ use Rattle.kube_turn.specs.Records.{turn_of}
 use Rattle.kube_step.specs.Asked.{AllStand, NotAsked}
 use Rattle.kube_step.specs.Calls.{ArePolled, dated_in}
 use Rattle.kube_step.specs.Finishes.{AreFinished}
+use Rattle.kube_step.specs.HandOvers.{handed_by, taken_by}
 use Rattle.kube_step.specs.Policies.{answered_in, answered_by}
 use Rattle.kube_step.proofs.Asking.{polled-append}
+use Rattle.kube_step.proofs.Taking.{grown-nil}
 use Rattle.kube_step.proofs.Turned.{if-unnamed}
 use Rattle.kube_step.proofs.Traced.{later, exchanges-more, named-push, steps-end, steps-push, trace-ends, trace-long}
 use Rattle.kube_control.proofs.Histories.{one-more}
@@ -35,7 +37,7 @@ use Rattle.kube_feed.specs.Asked.{AreEndedBy}
 use Rattle.kube_feed.specs.Fed.{Feeding, StandsFor}
 use Rattle.kube_feed.specs.Reads.{AreReadIn, IsReadIn}
 use Rattle.kube_feed.specs.Runs.{AreFinishedIn, HaveRun, IsBrokenOff, IsNextTurn, WereBrokenOff, WereRefused, records_in}
-use Rattle.kube_feed.specs.Turns.{IsTaken}
+use Rattle.kube_feed.specs.Turns.{AreFirstTakes, IsTaken, NoneTaken}
 
 -- Reads of one more turn.
 pub read-push : {O : Type 0} (meta : O → ObjectMeta) (ms : List (Made O)) (m : Made O) (a b c : Reader O) → AreReadIn meta ms a b → IsReadIn meta m.0.taken m.1 b c → AreReadIn meta (ms ++ m ∷ []) a c
@@ -127,8 +129,9 @@ module _ {R S B O D : Type 0} (root : root_source.Ghosts R O D) (related : relat
       at ends (spent ∙ ap (λ (x : Con). x.is_spent) is)
 
   -- nothing was asked
-  pub nothing-lost : (h : List (Step O)) (t : Turn) (c : Con) → StandsFor root related delays object w h c → IsBrokenOff root related w faults.NoMemory h t c.asks.root c.asks.related c.asks.root c.asks.related
-  nothing-lost h t c k = record {
+  pub nothing-lost : (h : List (Step O)) (t : Turn) (c : Con) (had : Option (List (Reference × O))) → StandsFor root related delays object w h c
+      → IsBrokenOff root related object w faults.NoMemory h t c.asks.root c.asks.related c.reader c.asks.root c.asks.related c.reader had had
+  nothing-lost h t c had k = record {
     valid = tt;
     ended = record {
       made = [];
@@ -140,15 +143,22 @@ module _ {R S B O D : Type 0} (root : root_source.Ghosts R O D) (related : relat
       stand = subst (AllStand root related c.asks.root c.asks.related) (k.parts.joined ∙ sym (append-nil (exchanges h))) k.parts.asks_stand.sources;
       rest = NotAsked refl refl;
     };
+    taken = [];
+    first = NoneTaken refl;
+    handed = sym (grown-nil had);
   }
 
-  broken-is : (f : AskFault) (h : List (Step O)) (t : Turn) (c : Con) (r : R) (s : S) → IsValid h t → AreEndedBy root related w h t f [] c.asks.root c.asks.related r s
-      → IsBrokenOff root related w f h t c.asks.root c.asks.related r s
-  broken-is f h t c r s valid ended = record { valid = if-unnamed f (IsValid h t) valid; ended = ended }
-
-  pub broken-of : (f : AskFault) (h : List (Step O)) (t : Turn) (c0 c : Con) (r : R) (s : S) → c0 ≡ c → IsValid h t → AreEndedBy root related w h t f [] c0.asks.root c0.asks.related r s
-      → IsBrokenOff root related w f h t c.asks.root c.asks.related r s
-  broken-of f h t c0 c r s is valid ended = broken-is f h t c r s valid (subst (λ (x : Con). AreEndedBy root related w h t f [] x.asks.root x.asks.related r s) is ended)
+  -- a turn that was broken off
+  pub broken-of : (f : AskFault) (h : List (Step O)) (t : Turn) (c0 c : Con) (r : R) (s : S) (new : Reader O) (had has : Option (List (Reference × O))) (ts : List (Taken O)) → c0 ≡ c
+      → IsValid h t → AreEndedBy root related w h t f [] c0.asks.root c0.asks.related r s → AreFirstTakes object.meta_of w h t ts c0.reader new → has ≡ grown_by had (handed_by ts)
+      → IsBrokenOff root related object w f h t c.asks.root c.asks.related c.reader r s new had has
+  broken-of f h t c0 c r s new had has ts is valid ended first handed-so = record {
+    valid = if-unnamed f (IsValid h t) valid;
+    ended = subst (λ (x : Con). AreEndedBy root related w h t f [] x.asks.root x.asks.related r s) is ended;
+    taken = ts;
+    first = subst (λ (x : Con). AreFirstTakes object.meta_of w h t ts x.reader new) is first;
+    handed = handed-so;
+  }
 
   pub run-none : (h : List (Step O)) (c : Con) → StandsFor root related delays object w h c → HaveRun root related delays object w h [] c [] c
   run-none h c k = record { traced = refl; all_named = tt; polled = (refl, refl); stands = subst (λ g. StandsFor root related delays object w g c) (sym (append-nil h)) k }
@@ -192,33 +202,46 @@ module _ {R S B O D : Type 0} (root : root_source.Ghosts R O D) (related : relat
         before = subst (λ us. HaveRun root related delays object w h us c ms c') front k;
       }
 
-      pub run-broken : (f : AskFault) (c'' : Con) → slice_get all (length ms) ≡ Some t → IsBrokenOff root related w f (h ++ steps ts ms) t c'.asks.root c'.asks.related c''.asks.root c''.asks.related
-          → WereBrokenOff root related delays object w f h all c ms c''
-      run-broken f c'' next b = record {
+      pub run-broken : (f : AskFault) (c'' : Con) (had has' has : Option (List (Reference × O))) → slice_get all (length ms) ≡ Some t → AreReadIn object.meta_of ms c.reader c'.reader → has' ≡ grown_by had (handed_by (taken_by (records_in ms)))
+          → IsBrokenOff root related object w f (h ++ steps ts ms) t c'.asks.root c'.asks.related c'.reader c''.asks.root c''.asks.related c''.reader has' has → WereBrokenOff root related delays object w f h all c ms c'' had has
+      run-broken f c'' had has' has next read grew b = record {
         traced = subst (λ us. IsTrace w (answered_by (records_in ms)) h us ms) front k.traced;
         all_named = subst (λ us. AreNamedTurns w (RootIsNamed w) h (steps us ms)) front k.all_named;
         reached_root = c'.asks.root;
         reached_related = c'.asks.related;
         polled = k.polled;
+        reached_reader = c'.reader;
+        read = read;
         turn = t;
         next = next;
         going = subst (λ us. has_ended (h ++ steps us ms) ≡ false) front (open-yet going);
-        broken = subst (λ us. IsBrokenOff root related w f (h ++ steps us ms) t c'.asks.root c'.asks.related c''.asks.root c''.asks.related) front b;
+        broken =
+            subst (λ us. IsBrokenOff root related object w f (h ++ steps us ms) t c'.asks.root c'.asks.related c'.reader c''.asks.root c''.asks.related c''.reader (grown_by had (handed_by (taken_by (records_in ms)))) has) front
+            (subst (λ z. IsBrokenOff root related object w f (h ++ steps ts ms) t c'.asks.root c'.asks.related c'.reader c''.asks.root c''.asks.related c''.reader z has) grew b);
       }
 
-  -- what is said of the sources alone holds of any controller with the same
-  pub broken-same : (f : AskFault) (h : List (Step O)) (all : List Turn) (c : Con) (ms : List (Made O)) (c' c'' : Con) → c''.asks ≡ c'.asks → WereBrokenOff root related delays object w f h all c ms c' → WereBrokenOff root related delays object w f h all c ms c''
-  broken-same f h all c ms c' c'' e b = record {
+  -- what is said of the sources and the reader alone holds of any controller with the same
+  pub broken-same : (f : AskFault) (h : List (Step O)) (all : List Turn) (c : Con) (ms : List (Made O)) (c' c'' : Con) (had has : Option (List (Reference × O))) → c''.asks ≡ c'.asks → c''.reader ≡ c'.reader
+      → WereBrokenOff root related delays object w f h all c ms c' had has → WereBrokenOff root related delays object w f h all c ms c'' had has
+  broken-same f h all c ms c' c'' had has e same b = record {
     traced = b.traced;
     all_named = b.all_named;
     reached_root = b.reached_root;
     reached_related = b.reached_related;
     polled = b.polled;
+    reached_reader = b.reached_reader;
+    read = b.read;
     turn = b.turn;
     next = b.next;
     going = b.going;
-    broken = subst (λ (a : Asking R S B). IsBrokenOff root related w f (h ++ steps (take (length ms) all) ms) b.turn b.reached_root b.reached_related a.root a.related) (sym e) b.broken;
+    broken =
+        subst
+        (λ (a : Asking R S B). IsBrokenOff root related object w f (h ++ steps (take (length ms) all) ms) b.turn b.reached_root b.reached_related b.reached_reader a.root a.related c''.reader (grown_by had (handed_by (taken_by (records_in ms)))) has)
+        (sym e)
+        (subst
+        (λ (z : Reader O). IsBrokenOff root related object w f (h ++ steps (take (length ms) all) ms) b.turn b.reached_root b.reached_related b.reached_reader c'.asks.root c'.asks.related z (grown_by had (handed_by (taken_by (records_in ms)))) has)
+        (sym same) b.broken);
   }
 
-  pub never-spent : (h : List (Step O)) (all : List Turn) (c : Con) (ms : List (Made O)) (c' : Con) → WereBrokenOff root related delays object w faults.Spent h all c ms c' → ⊥
-  never-spent h all c ms c' b = b.broken.ended
+  pub never-spent : (h : List (Step O)) (all : List Turn) (c : Con) (ms : List (Made O)) (c' : Con) (had has : Option (List (Reference × O))) → WereBrokenOff root related delays object w faults.Spent h all c ms c' had has → ⊥
+  never-spent h all c ms c' had has b = b.broken.ended

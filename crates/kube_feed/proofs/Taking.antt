@@ -1,23 +1,26 @@
 -- Takes one after another, each of the first candidate, with what its look-up answered.
-use Rattle.std.proofs.Common.{◌≡◌, ℕ, ◌+◌, ◌≤◌, Bool, true, false, not, ◌||◌, cond, List, [], ◌∷◌, ◌++◌, map, length, Option, Some, None, option_map, slice_get, unwrap_or, if◌then◌else◌, refl, sym, ap, ap₂, subst, ◌∙◌, append_assoc, append-nil, arith}
+use Rattle.std.proofs.Common.{◌≡◌, ℕ, ◌+◌, ◌≤◌, Bool, true, false, not, ◌||◌, cond, List, [], ◌∷◌, ◌++◌, map, length, Option, Some, None, is_some, option_map, slice_get, unwrap_or, if◌then◌else◌, refl, sym, ap, ap₂, subst, ◌∙◌, append_assoc, append-nil, arith}
 use Rattle.std.specs.List.{cons_option, filter_map, list_any}
 use Rattle.std.proofs.lemmas.List.{map-append, length-append}
 use Rattle.std.proofs.lemmas.List.Elements.{filter_map-append}
-use Rattle.kube_meta.specs.ReferenceLaws.{same_reference_equiv}
+use Rattle.kube_meta.specs.ReferenceLaws.{same_reference_equiv, seen_equiv}
 use Rattle.kube_meta.specs.declared.resource.Resource as resource
 use Rattle.kube_model.specs.History.{Message, same_message, Taken}
 use Rattle.kube_model.specs.Queue.{QueueEvent, Frozen, Took, waiting}
 use Rattle.kube_model.specs.Requests.{took}
-use Rattle.kube_model.specs.Takes.{Running, runs, started, candidates, has_room}
+use Rattle.kube_model.specs.Takes.{Running, runs, started, candidates, found_so, found_with, has_room, within_room}
+use Rattle.kube_model.specs.WaitingOnce.{HasEachOnce}
+use Rattle.kube_model.proofs.Waits.{waiting-once}
 use Rattle.kube_history.specs.CoreWorld.{CoreWorld}
 use Rattle.kube_history.specs.CoreEvents.{next_candidate, first_of, queue_with, running_with, Took as CoreTook}
 use Rattle.kube_history.specs.InTurn.{AreTaken, IsNoneLeft, without, look_so}
 use Rattle.kube_history.proofs.TakesBack.{waiting-took}
+use Rattle.kube_history.proofs.TakesInTurn.{messages, more-is, more-len, once-without, rest-left, room-shift}
 use Rattle.kube_reflect.specs.Writers.{Reader}
 use Rattle.kube_core.specs.Pendings.{Parts as Pending, Stands}
-use Rattle.kube_feed.specs.Reads.{AreFound, IsFound}
+use Rattle.kube_feed.specs.Reads.{AreFound, IsFound, IsLater}
 use Rattle.kube_feed.specs.Takes.{IsTake, IsLookedUp}
-use Rattle.kube_feed.specs.Turns.{AreAllTaken}
+use Rattle.kube_feed.specs.Turns.{AreAllTaken, AreFirstTaken, HaveTakenFirst}
 
 -- What waits, after a take.
 
@@ -109,12 +112,6 @@ module _ {O : Type 0} (limit : ℕ) where
   Looks look n [] = Unit {0}
   Looks look n (t ∷ ts) = (look n t.message ≡ t.object) × Looks look (n + 1) ts
 
-  looks-split : (look : ℕ → Message → Option O) (n : ℕ) (ts : List (Taken O)) (t : Taken O) → Looks look n (ts ++ t ∷ []) → Looks look n ts × (look (n + length ts) t.message ≡ t.object)
-  looks-split look n [] t l = (tt, subst (λ k. look k t.message ≡ t.object) (omega arith) l.0)
-  looks-split look n (u ∷ ts) t l =
-      let p = looks-split look (n + 1) ts t l.1 in
-      ((l.0, p.0), subst (λ k. look k t.message ≡ t.object) (omega arith) p.1)
-
   nth : (front os : List (Option O)) (o : Option O) → unwrap_or (slice_get (front ++ o ∷ os) (length front)) None ≡ o
   nth [] os o = refl
   nth (f ∷ front) os o = nth front os o
@@ -130,28 +127,107 @@ module _ {O : Type 0} (limit : ℕ) where
         (subst (λ k. Looks (look_so ((front ++ t.object ∷ []) ++ found ts)) k ts) (length-append front (t.object ∷ [])) (looks-from (front ++ t.object ∷ []) ts)),
   )
 
-  -- these were taken of what waited and ran, and then this waits and runs: with whatever is taken after them, they are takes one after another
-  abbrev pub GoesOn : List (Frozen Message) → List (Running O) → List (Taken O) → List (Frozen Message) → List (Running O) → Type 0
-  GoesOn ws rs ts ws' rs' =
-      (look : ℕ → Message → Option O) (rest : List (Taken O)) → Looks look 0 ts → AreTaken limit look (length ts) ws' rs' rest → AreTaken limit look 0 ws rs (ts ++ rest)
+  -- these were taken of what waited and ran, each of the first candidate, while there was room; and then this waits and runs
+  abbrev pub AreTakenTo : List (Frozen Message) → List (Running O) → List (Taken O) → List (Frozen Message) → List (Running O) → Type 0
+  AreTakenTo ws rs [] ws' rs' = (ws' ≡ ws) × (rs' ≡ rs)
+  AreTakenTo ws rs (t ∷ ts) ws' rs' =
+      (z : Frozen Message) × (zs : List (Frozen Message)) × (has_room limit (length rs) 0 ≡ true) × (candidates rs ws ≡ z ∷ zs) × (t.message ≡ z.entry.message)
+      × AreTakenTo (without z.entry.message ws) (rs ++ cons_option (started t) []) ts ws' rs'
 
-  pub goes-on-none : (ws : List (Frozen Message)) (rs : List (Running O)) → GoesOn ws rs [] ws rs
-  goes-on-none ws rs look rest l a = a
+  pub taken-more : (ws : List (Frozen Message)) (rs : List (Running O)) (ts : List (Taken O)) (ws' : List (Frozen Message)) (rs' : List (Running O)) (t : Taken O) (z : Frozen Message) (zs : List (Frozen Message))
+      → AreTakenTo ws rs ts ws' rs' → has_room limit (length rs') 0 ≡ true → candidates rs' ws' ≡ z ∷ zs → t.message ≡ z.entry.message
+      → AreTakenTo ws rs (ts ++ t ∷ []) (without z.entry.message ws') (rs' ++ cons_option (started t) [])
+  taken-more ws rs [] ws' rs' t z zs k room are is = (
+    z,
+    zs,
+    sym (ap (λ us. has_room limit (length us) 0) k.1) ∙ room,
+    sym (ap₂ (λ us vs. candidates us vs) k.1 k.0) ∙ are,
+    is,
+    (ap (without z.entry.message) k.0, ap (λ us. us ++ cons_option (started t) []) k.1),
+  )
+  taken-more ws rs (u ∷ ts) ws' rs' t z zs k room are is = (
+    k.0,
+    k.1,
+    k.2,
+    k.3,
+    k.4,
+    taken-more (without k.0.entry.message ws) (rs ++ cons_option (started u) []) ts ws' rs' t z zs k.5 room are is,
+  )
 
-  pub goes-on-more : (ws : List (Frozen Message)) (rs : List (Running O)) (ts : List (Taken O)) (ws' : List (Frozen Message)) (rs' : List (Running O)) (t : Taken O) (z : Frozen Message) (zs : List (Frozen Message))
-      → GoesOn ws rs ts ws' rs' → has_room limit (length rs') 0 ≡ true → candidates rs' ws' ≡ z ∷ zs → t.message ≡ z.entry.message
-      → GoesOn ws rs (ts ++ t ∷ []) (without z.entry.message ws') (rs' ++ cons_option (started t) [])
-  goes-on-more ws rs ts ws' rs' t z zs g room are is look rest l a =
-      let p = looks-split look 0 ts t l in
-      let n : length (ts ++ t ∷ []) ≡ length ts + 1 = length-append ts (t ∷ []) in
-      let at : look (length ts) t.message ≡ t.object = subst (λ k. look k t.message ≡ t.object) (omega arith) p.1 in
-      let more = subst (λ k. AreTaken limit look k (without z.entry.message ws') (rs' ++ cons_option (started t) []) rest) n a in
-      let one : t ≡ record { message = z.entry.message; object = look (length ts) z.entry.message } = ap₂ (λ m o. record { message = m; object = o }) is (sym at ∙ ap (look (length ts)) is) in
-      subst (AreTaken limit look 0 ws rs) (sym (append_assoc ts (t ∷ []) rest)) (g look (t ∷ rest) p.0 (z, zs, room, are, one, more))
+  -- where none is left after them, they are all that is taken
+  taken-end : (look : ℕ → Message → Option O) (n : ℕ) (ws : List (Frozen Message)) (rs : List (Running O)) (ts : List (Taken O)) (ws' : List (Frozen Message)) (rs' : List (Running O)) → Looks look n ts → AreTakenTo ws rs ts ws' rs'
+      → IsNoneLeft (has_room limit (length rs') 0) (candidates rs' ws') → AreTaken limit look n ws rs ts
+  taken-end look n ws rs [] ws' rs' l k none =
+      subst (λ us. IsNoneLeft (has_room limit (length us) 0) (candidates us ws)) k.1 (subst (λ vs. IsNoneLeft (has_room limit (length rs') 0) (candidates rs' vs)) k.0 none)
+  taken-end look n ws rs (t ∷ ts) ws' rs' l k none = (
+    k.0,
+    k.1,
+    k.2,
+    k.3,
+    ap₂ (λ m o. record { message = m; object = o }) k.4 (sym l.0 ∙ ap (look n) k.4),
+    taken-end look (n + 1) (without k.0.entry.message ws) (rs ++ cons_option (started t) []) ts ws' rs' l.1 k.5 none,
+  )
 
-  pub goes-on-end : (ws : List (Frozen Message)) (rs : List (Running O)) (ts : List (Taken O)) (ws' : List (Frozen Message)) (rs' : List (Running O)) → GoesOn ws rs ts ws' rs'
+  pub taken-all : (ws : List (Frozen Message)) (rs : List (Running O)) (ts : List (Taken O)) (ws' : List (Frozen Message)) (rs' : List (Running O)) → AreTakenTo ws rs ts ws' rs'
       → IsNoneLeft (has_room limit (length rs') 0) (candidates rs' ws') → AreAllTaken limit ws rs ts
-  goes-on-end ws rs ts ws' rs' g none = subst (AreTaken limit (look_so (found ts)) 0 ws rs) (append-nil ts) (g (look_so (found ts)) [] (looks-from [] ts) none)
+  taken-all ws rs ts ws' rs' k none = taken-end (look_so (found ts)) 0 ws rs ts ws' rs' (looks-from [] ts) k none
+
+  none-found : (ms : List Message) → found_so {O = O} [] ms ≡ []
+  none-found [] = refl
+  none-found (m ∷ ms) = refl
+
+  -- they are what is taken where no more was looked up than they
+  first-from : (base : ℕ) (ws : List (Frozen Message)) (rs : List (Running O)) (ts : List (Taken O)) (ws' : List (Frozen Message)) (rs' : List (Running O)) (n : ℕ)
+      → length rs ≡ base + n → HasEachOnce same_message ws → AreTakenTo ws rs ts ws' rs' → within_room limit base n (found_so (found ts) (messages (candidates rs ws))) ≡ ts
+  first-from base ws rs [] ws' rs' n e once k = ap (within_room limit base n) (none-found (messages (candidates rs ws)))
+  first-from base ws rs (t ∷ ts) ws' rs' n e once (z, zs, room, cands, is, rest) =
+      whole (λ d f. first-from base (without z.entry.message ws) (rs ++ cons_option (started t) []) ts ws' rs' d f (once-without z.entry.message ws once) rest)
+    where
+      taken : Message → Taken O
+      taken m = record { message = m; object = t.object }
+
+      here : has_room limit base n ≡ true
+      here = sym (ap (λ c. has_room limit c 0) e ∙ room-shift limit base n) ∙ room
+
+      left : candidates (rs ++ cons_option (started t) []) (without z.entry.message ws) ≡ zs
+      left = rest-left rs (cons_option (started t) []) ws z zs once cands (λ r h. more-is limit (λ k m. t.object) 0 z.entry.message r (ap (λ m. runs (cons_option (started (taken m)) []) r) (sym is) ∙ h))
+
+      len : length (rs ++ cons_option (started t) []) ≡ base + (n + (if is_some t.object then 1 else 0))
+      len =
+          let a : length (rs ++ cons_option (started t) []) ≡ length rs + length (cons_option (started t) []) = length-append rs (cons_option (started t) []) in
+          let b : length (cons_option (started t) []) ≡ (if is_some t.object then 1 else 0) = more-len t.message t.object in
+          omega (arith, a, b, e)
+
+      again : Type 0
+      again =
+          (d : ℕ) → length (rs ++ cons_option (started t) []) ≡ base + d
+          → within_room limit base d (found_so (found ts) (messages (candidates (rs ++ cons_option (started t) []) (without z.entry.message ws)))) ≡ ts
+
+      whole : again → within_room limit base n (found_so (found (t ∷ ts)) (messages (candidates rs ws))) ≡ t ∷ ts
+      whole r =
+          ap (λ cs. within_room limit base n (found_so (found (t ∷ ts)) (messages cs))) cands
+          ∙ (ap (λ b. (if b then taken z.entry.message ∷ [] else []) ++ within_room limit base (found_with n t.object) (found_so (found ts) (messages zs))) here
+          ∙ ap₂ (λ u us. u ∷ us) (ap taken (sym is)) (ap (λ cs. within_room limit base (found_with n t.object) (found_so (found ts) (messages cs))) (sym left) ∙ r (found_with n t.object) len))
+
+  pub taken-first : (ws : List (Frozen Message)) (rs : List (Running O)) (ts : List (Taken O)) (ws' : List (Frozen Message)) (rs' : List (Running O)) → HasEachOnce same_message ws → AreTakenTo ws rs ts ws' rs' → AreFirstTaken true limit ws rs ts
+  taken-first ws rs ts ws' rs' once k = first-from (length rs) ws rs ts ws' rs' 0 (let e : length rs ≡ length rs + 0 = omega arith in e) once k
+
+  -- all that are taken are so
+  taken-to : (look : ℕ → Message → Option O) (n : ℕ) (ws : List (Frozen Message)) (rs : List (Running O)) (ts : List (Taken O)) → AreTaken limit look n ws rs ts
+      → (ws' : List (Frozen Message)) × (rs' : List (Running O)) × AreTakenTo ws rs ts ws' rs'
+  taken-to look n ws rs [] k = (ws, rs, (refl, refl))
+  taken-to look n ws rs (t ∷ ts) (z, zs, room, cands, is, rest) =
+      let p = taken-to look (n + 1) (without z.entry.message ws) (rs ++ cons_option (started t) []) ts rest in
+      (p.0, p.1, (z, zs, room, cands, ap (λ (u : Taken O). u.message) is, p.2))
+
+  pub all-first : (ws : List (Frozen Message)) (rs : List (Running O)) (ts : List (Taken O)) → HasEachOnce same_message ws → AreAllTaken limit ws rs ts → AreFirstTaken true limit ws rs ts
+  all-first ws rs ts once k =
+      let p = taken-to (look_so (found ts)) 0 ws rs ts k in
+      taken-first ws rs ts p.0 p.1 once p.2
+
+-- what waits stands there once
+pub waits-once : (debounce : ℕ) (qs : List (QueueEvent Message)) → HasEachOnce same_message (waiting same_message debounce qs)
+waits-once debounce qs = waiting-once same_message (seen_equiv (λ (m : Message). m.reference)) debounce qs
 
 -- Takes of what waits and runs.
 
@@ -159,7 +235,7 @@ module _ {O D : Type 0} (object : resource.Ghosts O D) (core : CoreWorld O) (qs 
   -- these were taken so far
   pub record HaveGone (ts : List (Taken O)) (p : Pending O D) (new : Reader O) : Type 0 where
     pub stands : Stands object.type_of core p (qs ++ took ts) (rs ++ filter_map started ts)
-    pub goes_on : GoesOn core.limit (waiting same_message core.debounce qs) rs ts (waiting same_message core.debounce (qs ++ took ts)) (rs ++ filter_map started ts)
+    pub gone : AreTakenTo core.limit (waiting same_message core.debounce qs) rs ts (waiting same_message core.debounce (qs ++ took ts)) (rs ++ filter_map started ts)
     pub fewer : length (waiting same_message core.debounce (qs ++ took ts)) + length ts ≤ length (waiting same_message core.debounce qs)
     pub looked_up : AreFound object.meta_of ts old new
 
@@ -169,9 +245,7 @@ module _ {O D : Type 0} (object : resource.Ghosts O D) (core : CoreWorld O) (qs 
       let r = append-nil rs in
       record {
         stands = subst (λ es. Stands object.type_of core p es (rs ++ [])) (sym q) (subst (λ us. Stands object.type_of core p qs us) (sym r) s);
-        goes_on =
-            subst (λ es. GoesOn core.limit (waiting same_message core.debounce qs) rs [] (waiting same_message core.debounce es) (rs ++ [])) (sym q)
-            (subst (λ us. GoesOn core.limit (waiting same_message core.debounce qs) rs [] (waiting same_message core.debounce qs) us) (sym r) (goes-on-none core.limit (waiting same_message core.debounce qs) rs));
+        gone = (ap (waiting same_message core.debounce) q, r);
         fewer = subst (λ es. length (waiting same_message core.debounce es) + 0 ≤ length (waiting same_message core.debounce qs)) (sym q) (omega arith);
         looked_up = refl;
       }
@@ -188,7 +262,7 @@ module _ {O D : Type 0} (object : resource.Ghosts O D) (core : CoreWorld O) (qs 
       append_assoc qs (took ts) (Took t.message ∷ []) ∙ ap (λ es. qs ++ es) (sym (map-append (λ (u : Taken O). Took u.message) ts (t ∷ []))) in
       let r : (rs ++ filter_map started ts) ++ cons_option (started t) [] ≡ rs ++ filter_map started (ts ++ t ∷ []) =
       append_assoc rs (filter_map started ts) (cons_option (started t) []) ∙ ap (λ us. rs ++ us) (sym (filter_map-append started ts (t ∷ []))) in
-      let more = goes-on-more core.limit (waiting same_message core.debounce qs) rs ts (waiting same_message core.debounce (qs ++ took ts)) (rs ++ filter_map started ts) t first.first first.others g.goes_on first.room first.are first.message in
+      let more = taken-more core.limit (waiting same_message core.debounce qs) rs ts (waiting same_message core.debounce (qs ++ took ts)) (rs ++ filter_map started ts) t first.first first.others g.gone first.room first.are first.message in
       let left : without first.first.entry.message (waiting same_message core.debounce (qs ++ took ts)) ≡ waiting same_message core.debounce (qs ++ took (ts ++ t ∷ [])) =
       ap (λ m. without m (waiting same_message core.debounce (qs ++ took ts))) (sym first.message) ∙ (sym (waiting-took core.debounce (qs ++ took ts) t.message) ∙ ap (waiting same_message core.debounce) q) in
       let less = fewer-wait core (qs ++ took ts) (rs ++ filter_map started ts) t.message first in
@@ -196,9 +270,9 @@ module _ {O D : Type 0} (object : resource.Ghosts O D) (core : CoreWorld O) (qs 
       let before = g.fewer in
       record {
         stands = subst (λ es. Stands object.type_of core p' es (rs ++ filter_map started (ts ++ t ∷ []))) q (subst (λ us. Stands object.type_of core p' ((qs ++ took ts) ++ Took t.message ∷ []) us) r k.1);
-        goes_on =
-            subst (λ ws. GoesOn core.limit (waiting same_message core.debounce qs) rs (ts ++ t ∷ []) ws (rs ++ filter_map started (ts ++ t ∷ []))) left
-            (subst (λ us. GoesOn core.limit (waiting same_message core.debounce qs) rs (ts ++ t ∷ []) (without first.first.entry.message (waiting same_message core.debounce (qs ++ took ts))) us) r more);
+        gone =
+            subst (λ ws. AreTakenTo core.limit (waiting same_message core.debounce qs) rs (ts ++ t ∷ []) ws (rs ++ filter_map started (ts ++ t ∷ []))) left
+            (subst (λ us. AreTakenTo core.limit (waiting same_message core.debounce qs) rs (ts ++ t ∷ []) (without first.first.entry.message (waiting same_message core.debounce (qs ++ took ts))) us) r more);
         fewer =
             let l = subst (λ es. length (waiting same_message core.debounce es) + 1 ≤ length (waiting same_message core.debounce (qs ++ took ts))) q less in
             omega (arith, l, n, before);
@@ -209,7 +283,16 @@ module _ {O D : Type 0} (object : resource.Ghosts O D) (core : CoreWorld O) (qs 
       → IsNoneLeft (has_room core.limit (length (rs ++ filter_map started ts)) 0) (candidates (rs ++ filter_map started ts) (waiting same_message core.debounce (qs ++ took ts)))
       → AreAllTaken core.limit (waiting same_message core.debounce qs) rs ts
   all-taken ts p new g none =
-      goes-on-end core.limit (waiting same_message core.debounce qs) rs ts (waiting same_message core.debounce (qs ++ took ts)) (rs ++ filter_map started ts) g.goes_on none
+      taken-all core.limit (waiting same_message core.debounce qs) rs ts (waiting same_message core.debounce (qs ++ took ts)) (rs ++ filter_map started ts) g.gone none
+
+  -- and where memory was wanting they are those taken first
+  pub first-taken : (ts : List (Taken O)) (p : Pending O D) (mid new : Reader O) → HaveGone ts p mid → IsLater mid new → HaveTakenFirst object.meta_of core true qs rs ts old new
+  first-taken ts p mid new g later = record {
+    taken = taken-first core.limit (waiting same_message core.debounce qs) rs ts (waiting same_message core.debounce (qs ++ took ts)) (rs ++ filter_map started ts) (waits-once core.debounce qs) g.gone;
+    found_by = mid;
+    looked_up = g.looked_up;
+    later = later;
+  }
 
   -- the first candidate was taken, with what was found of it
   pub took-found : (found : Option O) (taken : Option (Taken O)) (p' : Pending O D) (new : Reader O) → IsLookedUp object core qs rs (Some found) old new

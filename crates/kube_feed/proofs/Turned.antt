@@ -1,5 +1,5 @@
 -- A turn that was taken, by the calls that make it.
-use Rattle.std.proofs.Common.{◌≡◌, Bool, true, false, ◌||◌, ◌&&◌, ◌==◌, List, [], ◌∷◌, ◌++◌, map, length, Option, None, if◌then◌else◌, is_some, refl, sym, ap, ap₂, subst, ◌∙◌, append-nil}
+use Rattle.std.proofs.Common.{◌≡◌, Bool, true, false, not, ◌||◌, ◌&&◌, ◌==◌, List, [], ◌∷◌, ◌++◌, map, length, Option, None, if◌then◌else◌, is_some, refl, sym, ap, ap₂, subst, ◌∙◌, append-nil}
 use Rattle.std.specs.List.{filter_map, list_any, range_with_len}
 use Rattle.std.proofs.lemmas.Grind.{flat_map-append}
 use Rattle.kube_meta.specs.declared.resource.Resource as resource
@@ -7,20 +7,20 @@ use Rattle.kube_model.specs.declared.turn.Stop.TheVariants as stops
 use Rattle.kube_model.specs.declared.error.RunnerError.{RunnerError}
 use Rattle.kube_model.specs.World.{World, Feed, Watched, Streamed, Queued, is_watched, feed_of}
 use Rattle.kube_model.specs.Reads.{Reads, told_ready, failure_in}
-use Rattle.kube_model.specs.History.{Exchange, Message, Turn, TurnRecord, Finished, Taken, Step, dated, exchanges, exchanges_with}
+use Rattle.kube_model.specs.History.{Exchange, Message, same_message, Turn, TurnRecord, Finished, Taken, Step, dated, exchanges, exchanges_with}
 use Rattle.kube_model.specs.Asks.{is_quiet, has_budget, sources, stops_of}
 use Rattle.kube_model.specs.Pause.{gave_up}
-use Rattle.kube_model.specs.Queue.{QueueEvent}
+use Rattle.kube_model.specs.Queue.{QueueEvent, waiting}
 use Rattle.kube_model.specs.Requests.{events_of, turn_events, took, waiting_in}
 use Rattle.kube_model.specs.Shutdowns.{is_shut, asks_shutdown, is_closed, is_forced, is_over}
-use Rattle.kube_model.specs.Stored.{may_take, was_ready}
-use Rattle.kube_model.specs.Takes.{running, started, unfinished}
+use Rattle.kube_model.specs.Stored.{may_take, stored_in, was_ready}
+use Rattle.kube_model.specs.Takes.{found_so, running, started, taken_of, unfinished}
 use Rattle.kube_model.specs.Turns.{is_idle_after, next_source, record_with, running_in, taken_in, was_asked}
 use Rattle.kube_model.specs.Traces.{IsRecord, IsValid, AreFinishesOf, EachIsNext, Made, step}
 use Rattle.kube_model.proofs.Histories.{events-push, running-push}
 use Rattle.kube_history.specs.CoreWorld.{core_world}
 use Rattle.kube_history.specs.InTurn.{AreTaken, look_so}
-use Rattle.kube_history.specs.TurnCalls.{TakesBy, ReaderAnswers, ReadsBy}
+use Rattle.kube_history.specs.TurnCalls.{TakesBy, ReaderAnswers, ReadsBy, with_requests}
 use Rattle.kube_history.specs.TurnEvents.{was_over}
 use Rattle.kube_history.proofs.TurnCalls.{makes}
 use Rattle.kube_streams.specs.declared.backoff.Backoff as backoff
@@ -32,12 +32,17 @@ use Rattle.kube_step.specs.Controllers.{IsWorldOfAsks, AsksStand}
 use Rattle.kube_step.specs.Policies.{answered_in}
 use Rattle.kube_feed.specs.declared.parts.Parts.{Parts}
 use Rattle.kube_feed.specs.Fed.{PartsStand}
-use Rattle.kube_feed.specs.Turns.{AreTakenWhere}
-use Rattle.kube_feed.proofs.Requested.{shown-is, failure-is}
+use Rattle.kube_feed.specs.Requests.{finish_requests}
+use Rattle.kube_feed.specs.Turns.{AreFirstReads, AreFirstTaken, AreTakenWhere, queue_asked}
+use Rattle.kube_feed.proofs.Requested.{failure-is, found-is, queue-is, ready-is, shown-is}
 
 or-none : (b : Bool) → (b || false) ≡ b
 or-none true = refl
 or-none false = refl
+
+and-none : (b : Bool) → (b && true) ≡ b
+and-none true = refl
+and-none false = refl
 
 any-last : {A : Type 0} (f : A → Bool) (g : List A) (s : A) → list_any f (g ++ s ∷ []) ≡ (list_any f g || f s)
 any-last f [] s = or-none (f s)
@@ -56,6 +61,14 @@ closed-is w h t = swap (is_shut h) (asks_shutdown t.shutdown) (gave_up w (exchan
     swap false true true = refl
     swap false true false = refl
     swap false false r = sym (or-none r)
+
+-- an open turn is over by its end where the backoff gave up by then
+pub open-over : {O B : Type 0} (w : World O B) (h : List (Step O)) (t : Turn) (xs : List (Exchange O)) → is_closed w h t ≡ false → gave_up w (exchanges_with h t xs) ≡ is_over w h t xs
+open-over w h t xs e = sym (ap (λ b. b || gave_up w (exchanges_with h t xs)) (or-left (was_asked w h t) (gave_up w (exchanges h)) e))
+  where
+    or-left : (a b : Bool) → (a || b) ≡ false → a ≡ false
+    or-left true b k = absurd (cc)
+    or-left false b k = refl
 
 -- After one more turn.
 
@@ -127,6 +140,23 @@ module _ {O B : Type 0} (w : World O B) (fed : is_watched (feed_of w 0) ≡ fals
   made r fs xs ts b v z asked done a e k =
       makes w h t r fs xs ts (record { reads = reads-by r fs xs ts a; takes = takes-by r fs xs ts b e k a.looked_up }) (answered_in fs) v z asked done
 
+  -- takes made first, by what was read so far, are those of the turn by these reads
+  pub first-is : (r : Reads O) (fs : List Finished) (xs : List (Exchange O)) (ts : List (Taken O)) → is_closed w h t ≡ false → AreFirstReads w h t xs ts r
+      → AreFirstTaken ((was_ready h || told_ready r) && not (is_over w h t xs)) w.limit (waiting same_message w.debounce (queue_asked w.key (with_requests (events_of w h) t.at (finish_requests false t.at fs)) t r xs)) (running_in w h t) ts
+      → taken_in w h t r fs xs ≡ ts
+  first-is r fs xs ts e a k =
+      ap (λ b. if b && not (is_over w h t xs) then taken_of w.limit (stored_in w h t r xs).found_of (running_in w h t) (waiting_in w h t r fs xs) else []) (ready-is w fed h t r xs)
+      ∙ (ap (λ f. if (was_ready h || told_ready r) && not (is_over w h t xs) then taken_of w.limit f (running_in w h t) (waiting_in w h t r fs xs) else [])
+      (found-is w fed h t r xs ∙ ap (λ (os : List (Option O)). found_so os) a.looked_up)
+      ∙ (ap (λ es. if (was_ready h || told_ready r) && not (is_over w h t xs) then taken_of w.limit (found_so (map (λ (u : Taken O). u.object) ts)) (running_in w h t) (waiting same_message w.debounce es) else []) (sym queue)
+      ∙ k))
+    where
+      reloaded : is_some r.reloaded ≡ t.reload
+      reloaded = a.reloaded ∙ (ap (λ b. t.reload && not b) e ∙ and-none t.reload)
+
+      queue : queue_asked w.key (with_requests (events_of w h) t.at (finish_requests false t.at fs)) t r xs ≡ events_of w h ++ turn_events w h t r fs xs
+      queue = queue-is w fed h t r xs fs e reloaded
+
 -- The parts of a controller after the turn.
 
 module _ {R S B O D : Type 0} (root : root_source.Ghosts R O D) (related : related_set.Ghosts S O D) (delays : backoff.Ghosts B) (object : resource.Ghosts O D) (w : World O B) (h : List (Step O)) (t : Turn)
@@ -135,7 +165,6 @@ module _ {R S B O D : Type 0} (root : root_source.Ghosts R O D) (related : relat
       (is : q ≡ record_with w h t r fs xs) (takes : q.taken ≡ ts)
       (asked : q.exchanges ≡ xs) (finished : q.finished ≡ fs)
       (world : IsWorldOfAsks root related delays object w a') (stand : AsksStand root related delays object w t.budget (exchanges h) (dated t.at xs) a') (unspent : a'.is_spent ≡ false)
-      (kind : p'.reader.kind ≡ root.kind a'.root)
       (waits : PendingStands object.type_of (core_world w) p'.pending (events_of w h ++ turn_events w h t r fs xs ++ took ts) (running_in w h t ++ filter_map started ts))
       (ready : p'.ready ≡ (was_ready h || told_ready r)) (shut : p'.shut ≡ is_over w h t xs) where
     all : List (QueueEvent Message)
@@ -156,7 +185,6 @@ module _ {R S B O D : Type 0} (root : root_source.Ghosts R O D) (related : relat
       world = world;
       is_fed = may.is_fed;
       names = may.names;
-      kind = kind;
       waits =
           subst (λ es. PendingStands object.type_of (core_world w) p'.pending es (running (h ++ step t (q, r) ∷ []))) (sym queue)
           (subst (λ rs. PendingStands object.type_of (core_world w) p'.pending (events_of w h ++ turn_events w h t r fs xs ++ took ts) rs) (sym runs) waits);

@@ -6,7 +6,7 @@ use Rattle.kube_meta.specs.Reference.{Reference}
 use Rattle.kube_meta.specs.declared.action.Action.{Action}
 use Rattle.kube_meta.specs.declared.resource.Resource as resource
 use Rattle.kube_model.specs.World.{World}
-use Rattle.kube_model.specs.History.{Step}
+use Rattle.kube_model.specs.History.{Step, TurnRecord}
 use Rattle.kube_model.specs.Raw.{grown_by}
 use Rattle.kube_model.specs.Reads.{Reads}
 use Rattle.kube_model.specs.Takes.{running}
@@ -141,11 +141,13 @@ module _ {R S B O D E : Type 0} (root : root_source.Ghosts R O D) (related : rel
             (run-refused root related delays object w h (map (turn_of object.type_of) ys) c k.0 c' k.3 going (map (turn_of object.type_of) all) (turn_of object.type_of t) (map (turn_of object.type_of) rest) all-are front why e),
       )
 
-      pub broken-end : (f : AskFault) → IsBrokenOff root related w f (h ++ steps (map (turn_of object.type_of) ys) k.0) (turn_of object.type_of t) c'.asks.root c'.asks.related c''.asks.root c''.asks.related
-          → (ms : List (Made O)) × (records_in ms ≡ map (record_of object.type_of) rs) × WereBrokenOff root related delays object w f h (map (turn_of object.type_of) all) c ms c''
-      broken-end f b = (
+      pub broken-end : (f : AskFault) → had' ≡ grown_by had (handed_by (taken_by (map (record_of object.type_of) rs)))
+          → IsBrokenOff root related object w f (h ++ steps (map (turn_of object.type_of) ys) k.0) (turn_of object.type_of t) c'.asks.root c'.asks.related c'.reader c''.asks.root c''.asks.related c''.reader had' had''
+          → (ms : List (Made O)) × (records_in ms ≡ map (record_of object.type_of) rs) × WereBrokenOff root related delays object w f h (map (turn_of object.type_of) all) c ms c'' had had''
+      broken-end f grew b = (
         k.0,
         k.1,
-        run-broken root related delays object w h (map (turn_of object.type_of) ys) c k.0 c' k.3 going (map (turn_of object.type_of) all) (turn_of object.type_of t) (map (turn_of object.type_of) rest) all-are front f c''
-            (ap₂ (λ us n. slice_get us n) all-are long ∙ get-front (map (turn_of object.type_of) ys) (turn_of object.type_of t) (map (turn_of object.type_of) rest)) b,
+        run-broken root related delays object w h (map (turn_of object.type_of) ys) c k.0 c' k.3 going (map (turn_of object.type_of) all) (turn_of object.type_of t) (map (turn_of object.type_of) rest) all-are front f c'' had had' had''
+            (ap₂ (λ us n. slice_get us n) all-are long ∙ get-front (map (turn_of object.type_of) ys) (turn_of object.type_of t) (map (turn_of object.type_of) rest))
+            k.2 (grew ∙ ap (λ (qs : List (TurnRecord O)). grown_by had (handed_by (taken_by qs))) (sym k.1)) b,
       )

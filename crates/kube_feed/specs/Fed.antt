@@ -37,12 +37,11 @@ abbrev pub parts_of : {R S B O D : Type 0} → Feeding R S B O D → Parts O D
 parts_of c = record { reader = c.reader; pending = c.pending; ready = c.is_ready; shut = c.is_shut }
 
 module _ {R S B O D : Type 0} (root : root_source.Ghosts R O D) (related : related_set.Ghosts S O D) (delays : backoff.Ghosts B) (object : resource.Ghosts O D) where
-  -- the asks and what decides are what this history leaves: the root is fed, its objects are of the reader's type and come with names; what waits and runs, whether the reader told that the store is ready, and whether shutdown was asked or given up
+  -- the asks and what decides are what this history leaves: the root is fed, and its objects come with names; what waits and runs, whether the reader told that the store is ready, and whether shutdown was asked or given up
   pub record PartsStand (w : World O B) (h : List (Step O)) (a : Asking R S B) (p : Parts O D) : Type 0 where
     pub world : IsWorldOfAsks root related delays object w a
     pub is_fed : is_watched (feed_of w 0) ≡ false
     pub names : NamesObjects root related w
-    pub kind : p.reader.kind ≡ root.kind a.root
     pub waits : PendingStands object.type_of (core_world w) p.pending (events_of w h) (running h)
     pub ready : p.ready ≡ was_ready h
     pub shut : p.shut ≡ was_over w h

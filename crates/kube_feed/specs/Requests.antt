@@ -1,7 +1,7 @@
 -- What the parts of a turn request, in the order in which they come. O is the type of objects.
 use Rattle.std.specs.Prelude.{ℕ, Bool, List, [], map, Option, Some, None, if◌then◌else◌}
 use Rattle.std.specs.List.{flat_map}
-use Rattle.kube_meta.specs.Reference.{Reference, reference_before}
+use Rattle.kube_meta.specs.Reference.{ObjectType, Reference, reference_before}
 use Rattle.kube_model.specs.Reason.{Unknown}
 use Rattle.kube_model.specs.History.{Message, Finished}
 use Rattle.kube_model.specs.Queue.{sorted_by}
@@ -12,6 +12,10 @@ use Rattle.kube_core.specs.Cores.{in_bulk}
 -- a message that names a reference
 abbrev pub by_name : Reference → Message
 by_name r = record { reference = r; reason = Unknown }
+
+-- the same reference of an object of this type
+abbrev pub typed_as : ObjectType → Reference → Reference
+typed_as kind r = record { kind = kind; name = r.name; namespace = r.namespace }
 
 -- a reload requests the keys of the objects that it found, by namespace, none first, and then by name
 abbrev pub bulk_requests : {O : Type 0} → (O → Reference) → ℕ → Option (List O) → List Timed

@@ -1,14 +1,16 @@
 -- Runs of a controller that reads a store: turns, one after another. R is the type of its root, S that of its related sources, B that of its backoff's states, O that of objects, D that of their dynamic types and E that of faults.
-use Rattle.std.specs.Prelude.{◌≡◌, false, List, [], ◌∷◌, ◌++◌, map, length, slice_get, take, Some}
+use Rattle.std.specs.Prelude.{◌≡◌, false, List, [], ◌∷◌, ◌++◌, map, length, slice_get, take, Option, Some}
 use Rattle.kube_meta.specs.declared.action.Action.{Action}
-use Rattle.kube_meta.specs.Reference.{ObjectType}
+use Rattle.kube_meta.specs.Reference.{ObjectType, Reference}
 use Rattle.kube_meta.specs.declared.resource.Resource as resource
 use Rattle.kube_model.specs.World.{World}
-use Rattle.kube_model.specs.History.{Turn, TurnRecord, Step, dated, exchanges}
+use Rattle.kube_model.specs.History.{Taken, Turn, TurnRecord, Step, dated, exchanges}
 use Rattle.kube_model.specs.Named.{RootIsNamed, EachIsNamed, AreNamedTurns}
+use Rattle.kube_model.specs.Raw.{grown_by}
 use Rattle.kube_model.specs.Takes.{running}
 use Rattle.kube_model.specs.Traces.{IsRecord, IsTrace, IsRefusedAfter, IsValid, Made, Refusal, has_ended, step, steps}
 use Rattle.kube_streams.specs.declared.backoff.Backoff as backoff
+use Rattle.kube_reflect.specs.Writers.{Reader}
 use Rattle.kube_asks.specs.declared.asks.AskFault.{AskFault}
 use Rattle.kube_asks.specs.declared.root.RootSource as root_source
 use Rattle.kube_asks.specs.declared.set.RelatedSet as related_set
@@ -18,9 +20,12 @@ use Rattle.kube_turn.specs.Records.{turn_of}
 use Rattle.kube_step.specs.Calls.{ArePolled, dated_in}
 use Rattle.kube_step.specs.Errors.{IfUnnamedAsk}
 use Rattle.kube_step.specs.Finishes.{AreFinished}
+use Rattle.kube_step.specs.HandOvers.{handed_by, taken_by}
 use Rattle.kube_step.specs.Policies.{answered_in, answered_by}
 use Rattle.kube_feed.specs.Asked.{AreEndedBy}
 use Rattle.kube_feed.specs.Fed.{Feeding, StandsFor}
+use Rattle.kube_feed.specs.Reads.{AreReadIn}
+use Rattle.kube_feed.specs.Turns.{AreFirstTakes}
 
 -- the records of what turns made
 abbrev pub records_in : {O : Type 0} → List (Made O) → List (TurnRecord O)
@@ -35,11 +40,14 @@ module _ {O E D : Type 0} (type_of : D → ObjectType) (policy : O → E → Act
   AreFinishedIn h (t ∷ ts) (r ∷ rs) (m ∷ ms) =
       AreFinished type_of policy (running h) t.finishes r.finished × AreFinishedIn (h ++ step (turn_of type_of t) m ∷ []) ts rs ms
 
-module _ {R S B O D : Type 0} (root : root_source.Ghosts R O D) (related : related_set.Ghosts S O D) (w : World O B) where
-  -- a fault broke a turn off after this history; where an object has no name the turn is valid. What is told of the sources is what was asked until then
-  pub record IsBrokenOff (f : AskFault) (h : List (Step O)) (t : Turn) (r : R) (s : S) (r' : R) (s' : S) : Type 0 where
+module _ {R S B O D : Type 0} (root : root_source.Ghosts R O D) (related : related_set.Ghosts S O D) (object : resource.Ghosts O D) (w : World O B) where
+  -- a fault broke a turn off after this history; where an object has no name the turn is valid. What is told of the sources is what was asked until then, old and new are the reader before the turn and after it, and had and has are what the reconciler tells that it was handed: the turn's first takes, at most
+  pub record IsBrokenOff (f : AskFault) (h : List (Step O)) (t : Turn) (r : R) (s : S) (old : Reader O) (r' : R) (s' : S) (new : Reader O) (had has : Option (List (Reference × O))) : Type 0 where
     pub valid : IfUnnamedAsk f (λ source. IsValid h t)
     pub ended : AreEndedBy root related w h t f [] r s r' s'
+    pub taken : List (Taken O)
+    pub first : AreFirstTakes object.meta_of w h t taken old new
+    pub handed : has ≡ grown_by had (handed_by taken)
 
 module _ {R S B O D : Type 0} (root : root_source.Ghosts R O D) (related : related_set.Ghosts S O D) (delays : backoff.Ghosts B) (object : resource.Ghosts O D) (w : World O B) where
   -- this is what the turn made after this history, and nothing else was asked
@@ -61,14 +69,16 @@ module _ {R S B O D : Type 0} (root : root_source.Ghosts R O D) (related : relat
     pub refused : IsRefusedAfter w (answered_by (records_in ms)) h ts ms why
     pub before : HaveRun h (take (length ms) ts) c ms c'
 
-  -- this is what the first turns made, all of which were done; the next turn was broken off by a fault, and nothing else was asked
-  pub record WereBrokenOff (f : AskFault) (h : List (Step O)) (ts : List Turn) (c : Feeding R S B O D) (ms : List (Made O)) (c' : Feeding R S B O D) : Type 0 where
+  -- this is what the first turns made, all of which were done; the next turn was broken off by a fault, and nothing else was asked and handed over
+  pub record WereBrokenOff (f : AskFault) (h : List (Step O)) (ts : List Turn) (c : Feeding R S B O D) (ms : List (Made O)) (c' : Feeding R S B O D) (had has : Option (List (Reference × O))) : Type 0 where
     pub traced : IsTrace w (answered_by (records_in ms)) h (take (length ms) ts) ms
     pub all_named : AreNamedTurns w (RootIsNamed w) h (steps (take (length ms) ts) ms)
     pub reached_root : R
     pub reached_related : S
     pub polled : ArePolled root.polls related.polls (exchanges h) c.asks.root c.asks.related (dated_in (records_in ms)) reached_root reached_related
+    pub reached_reader : Reader O
+    pub read : AreReadIn object.meta_of ms c.reader reached_reader
     pub turn : Turn
     pub next : slice_get ts (length ms) ≡ Some turn
     pub going : has_ended (h ++ steps (take (length ms) ts) ms) ≡ false
-    pub broken : IsBrokenOff root related w f (h ++ steps (take (length ms) ts) ms) turn reached_root reached_related c'.asks.root c'.asks.related
+    pub broken : IsBrokenOff root related object w f (h ++ steps (take (length ms) ts) ms) turn reached_root reached_related reached_reader c'.asks.root c'.asks.related c'.reader (grown_by had (handed_by (taken_by (records_in ms)))) has

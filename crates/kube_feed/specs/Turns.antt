@@ -1,19 +1,21 @@
 -- Turns of a controller that reads a store, one at a time. R is the type of its root, S that of its related sources, B that of its backoff's states, O that of objects and D that of their dynamic types.
-use Rattle.std.specs.Prelude.{◌≡◌, ℕ, Bool, true, false, not, ◌||◌, ◌&&◌, List, [], ◌∷◌, ◌++◌, map, Option, None, is_some}
+use Rattle.std.specs.Prelude.{◌≡◌, ℕ, Bool, true, false, not, ◌||◌, ◌&&◌, List, [], ◌∷◌, ◌++◌, map, Option, None, if◌then◌else◌, is_some}
 use Rattle.std.specs.List.{filter_map}
 use Rattle.kube_meta.specs.Reference.{Reference}
+use Rattle.kube_meta.specs.declared.metadata.ObjectMeta.{ObjectMeta}
 use Rattle.kube_meta.specs.declared.resource.Resource as resource
 use Rattle.kube_model.specs.World.{World}
 use Rattle.kube_model.specs.Reads.{Reads, Readiness, is_told_ready, told_ready}
-use Rattle.kube_model.specs.History.{Exchange, Message, same_message, Taken, Turn, Step, dated, exchanges, exchanges_with}
+use Rattle.kube_model.specs.History.{Exchange, Finished, Message, same_message, Taken, Turn, Step, dated, exchanges, exchanges_with}
 use Rattle.kube_model.specs.Named.{RootIsNamed, EachIsNamed}
 use Rattle.kube_model.specs.Pause.{gave_up}
 use Rattle.kube_model.specs.Queue.{QueueEvent, Settled, Frozen, waiting}
 use Rattle.kube_model.specs.Requests.{Timed, requests_of_exchanges, took}
+use Rattle.kube_model.specs.Shutdowns.{is_closed, is_over}
 use Rattle.kube_model.specs.Stored.{was_ready}
-use Rattle.kube_model.specs.Takes.{Running, started}
-use Rattle.kube_model.specs.Turns.{next_source, running_in}
-use Rattle.kube_model.specs.Traces.{EachIsNext, IsRecord, Made, step}
+use Rattle.kube_model.specs.Takes.{Running, found_so, running, started, taken_of}
+use Rattle.kube_model.specs.Turns.{next_source, running_in, taken_in}
+use Rattle.kube_model.specs.Traces.{AreFinishesOf, EachIsNext, IsRecord, Made, step}
 use Rattle.kube_history.specs.CoreWorld.{CoreWorld, core_world}
 use Rattle.kube_history.specs.InTurn.{AreTaken, look_so}
 use Rattle.kube_history.specs.TurnCalls.{with_requests}
@@ -29,7 +31,7 @@ use Rattle.kube_step.specs.Policies.{answered_in}
 use Rattle.kube_feed.specs.declared.parts.Parts.{Parts}
 use Rattle.kube_feed.specs.Asked.{MayAsk}
 use Rattle.kube_feed.specs.Fed.{PartsStand}
-use Rattle.kube_feed.specs.Reads.{AreFound, IsTold}
+use Rattle.kube_feed.specs.Reads.{AreFound, IsLater, IsReadFirst, IsTold}
 use Rattle.kube_feed.specs.Requests.{bulk_requests, name_requests}
 
 -- the requests of a turn that come before its asks: of a reload that found these objects, and those that name references
@@ -49,10 +51,21 @@ abbrev pub AreTakenWhere : {O : Type 0} → Bool → ℕ → List (Frozen Messag
 AreTakenWhere true limit ws rs ts = AreAllTaken limit ws rs ts
 AreTakenWhere false limit ws rs ts = ts ≡ []
 
+-- these were taken first of what waits, where the turn takes: they are what is taken by the answers of their look-ups alone
+abbrev pub AreFirstTaken : {O : Type 0} → Bool → ℕ → List (Frozen Message) → List (Running O) → List (Taken O) → Type 0
+AreFirstTaken takes limit ws rs ts = (if takes then taken_of limit (found_so (map (λ t. t.object) ts)) rs ws else []) ≡ ts
+
 -- takes of what waits and runs, and what they leave
 pub record HaveTaken {K D : Type 0} (object : resource.Ghosts K D) (core : CoreWorld K) (takes : Bool) (qs : List (QueueEvent Message)) (rs : List (Running K)) (ts : List (Taken K)) (p' : Pending K D) : Type 0 where
   pub taken : AreTakenWhere takes core.limit (waiting same_message core.debounce qs) rs ts
   pub waits : PendingStands object.type_of core p' (qs ++ took ts) (rs ++ filter_map started ts)
+
+-- takes made first of what waits and runs, one read for each; the reader has read no less since
+pub record HaveTakenFirst {K : Type 0} (meta : K → ObjectMeta) (core : CoreWorld K) (takes : Bool) (qs : List (QueueEvent Message)) (rs : List (Running K)) (ts : List (Taken K)) (old new : Reader K) : Type 0 where
+  pub taken : AreFirstTaken takes core.limit (waiting same_message core.debounce qs) rs ts
+  pub found_by : Reader K
+  pub looked_up : AreFound meta ts old found_by
+  pub later : IsLater found_by new
 
 -- after its asks and its settle a turn polled whether the store is ready, where that was not told before and the backoff hasn't given up, and took where the store is ready and the backoff hasn't
 pub record HaveReadAndTaken {K D : Type 0} (object : resource.Ghosts K D) (core : CoreWorld K) (gave_up : Bool) (qs : List (QueueEvent Message)) (rs : List (Running K)) (p : Parts K D) (told : Option Readiness) (ts : List (Taken K)) (p' : Parts K D) : Type 0 where
@@ -63,11 +76,45 @@ pub record HaveReadAndTaken {K D : Type 0} (object : resource.Ghosts K D) (core 
   pub looked_up : AreFound object.meta_of ts told_at p'.reader
   pub taken : HaveTaken object core ((p.ready || is_told_ready told) && not gave_up) qs rs ts p'.pending
 
+-- it polled so, and made these takes first
+pub record HaveReadAndTakenFirst {K D : Type 0} (object : resource.Ghosts K D) (core : CoreWorld K) (gave_up : Bool) (qs : List (QueueEvent Message)) (rs : List (Running K)) (p : Parts K D) (told : Option Readiness) (ts : List (Taken K)) (p' : Parts K D) : Type 0 where
+  pub told_at : Reader K
+  pub is_told : IsTold object.meta_of told p.reader told_at
+  pub polled : is_some told ≡ not p.ready && not gave_up
+  pub taken : HaveTakenFirst object.meta_of core ((p.ready || is_told_ready told) && not gave_up) qs rs ts told_at p'.reader
+
+module _ {O B : Type 0} (w : World O B) (h : List (Step O)) (t : Turn) where
+  -- the first reads of an open turn that made these exchanges and took these so far: a reload's, `poll_ready` where that is due, and one look-up for each take
+  pub record AreFirstReads (xs : List (Exchange O)) (ts : List (Taken O)) (r : Reads O) : Type 0 where
+    pub polled : is_some r.readiness ≡ not (was_ready h) && not (is_over w h t xs)
+    pub reloaded : is_some r.reloaded ≡ t.reload && not (is_closed w h t)
+    pub looked_up : r.looked_up ≡ map (λ taken. taken.object) ts
+    pub shown : r.shown ≡ None
+
+module _ {O B : Type 0} (meta : O → ObjectMeta) (w : World O B) (h : List (Step O)) (t : Turn) where
+  -- after its finishes, which did this to the queue, an open turn requested, asked and settled, and then made these takes first
+  pub record HasTakenThese (qs : List (QueueEvent Message)) (xs : List (Exchange O)) (ts : List (Taken O)) (r : Reads O) (old new : Reader O) : Type 0 where
+    pub asked : EachIsNext w h t [] xs
+    pub done : next_source w h t xs ≡ None
+    pub reads : AreFirstReads w h t xs ts r
+    pub read : IsReadFirst meta ts r old new
+    pub taken : AreFirstTaken ((was_ready h || told_ready r) && not (is_over w h t xs)) w.limit (waiting same_message w.debounce (queue_asked w.key qs t r xs)) (running_in w h t) ts
+
+  -- or it took none
+  pub data HasTakenFirst (qs : List (QueueEvent Message)) (ts : List (Taken O)) (old new : Reader O) : Type 0 where
+    TookNone : ts ≡ [] → HasTakenFirst qs ts old new
+    TookThese : (xs : List (Exchange O)) (r : Reads O) → HasTakenThese qs xs ts r old new → HasTakenFirst qs ts old new
+
+  -- takes that an open turn makes first, after finishes and exchanges, by what was read for it so far; or none
+  pub data AreFirstTakes (ts : List (Taken O)) (old new : Reader O) : Type 0 where
+    NoneTaken : ts ≡ [] → AreFirstTakes ts old new
+    FrontTaken : (fs : List Finished) (xs : List (Exchange O)) (r : Reads O) → AreFinishesOf (answered_in fs) (running h) t.finishes fs → EachIsNext w h t [] xs → next_source w h t xs ≡ None
+        → AreFirstReads w h t xs ts r → IsReadFirst meta ts r old new → taken_in w h t r fs xs ≡ ts → AreFirstTakes ts old new
+
 module _ {R S B O D : Type 0} (root : root_source.Ghosts R O D) (related : related_set.Ghosts S O D) (delays : backoff.Ghosts B) (object : resource.Ghosts O D) (w : World O B) (h : List (Step O)) (t : Turn) where
   -- an open turn may go on after its finishes, which did this to the queue
   pub record MayGoOn (qs : List (QueueEvent Message)) (a : Asking R S B) (p : Parts O D) : Type 0 where
     pub asks : MayAsk root related delays object w h t qs [] a p.pending
-    pub kind : p.reader.kind ≡ root.kind a.root
     pub ready : p.ready ≡ was_ready h
     pub shut : p.shut ≡ false
 

@@ -6,7 +6,6 @@ mod finishes;
 mod parts;
 pub mod queued;
 mod reads;
-mod refusal;
 mod requests;
 mod sources;
 mod stopped;

@@ -1,6 +1,6 @@
 //! The takes of a turn, each with one look-up.
 
-ghost use Rattle.std.specs.Prelude.{◌≡◌, ◌++◌, [], List, Option, Some, None, IfOk, OnErr};
+ghost use Rattle.std.specs.Prelude.{◌≡◌, ◌++◌, [], true, List, Option, Some, None, IfOk, OnErr};
 ghost use Rattle.std.specs.Option.{option_map};
 ghost use Rattle.std.specs.Arc.{arc_value};
 ghost use Rattle.std.specs.List.{AllByRecursion, cons_option, filter_map};
@@ -16,7 +16,7 @@ ghost use Rattle.kube_step.specs.HandOvers.{handed_by};
 ghost use Rattle.kube_step.specs.Takes.{IsSomething};
 ghost use Rattle.kube_feed.specs.Reads.{AreFound, IsLater};
 ghost use Rattle.kube_feed.specs.Takes.{IsLookedUp, IsTake};
-ghost use Rattle.kube_feed.specs.Turns.{AreAllTaken};
+ghost use Rattle.kube_feed.specs.Turns.{AreAllTaken, HaveTakenFirst};
 
 use kube_core::Pending;
 use kube_core::taking::{take_found, take_missing};
@@ -120,7 +120,10 @@ where
         → AreFound K.meta_of (filter_map (taken_of K.type_of) ts) reader.old reader.new) }
     ensures handed { IfOk result (λ ts. Rc.handed reconciler.new ≡ grown_by (Rc.handed reconciler.old) (handed_by (filter_map (taken_of K.type_of) ts))) }
     ensures something { IfOk result (λ ts. AllByRecursion (IsSomething K.type_of) ts) }
-    ensures lost { OnErr result ((ts : List (PlainTaken K)) × (Rc.handed reconciler.new ≡ grown_by (Rc.handed reconciler.old) (handed_by ts))) }
+    // where memory is wanting, the first takes were handed over, and no more
+    ensures lost { OnErr result ((ts : List (PlainTaken K)) × (Rc.handed reconciler.new ≡ grown_by (Rc.handed reconciler.old) (handed_by ts))
+        × ((core : CoreWorld K) (qs : List (QueueEvent Message)) (rs : List (Running K)) → Stands K.type_of core pending.old qs rs
+        → HaveTakenFirst K.meta_of core true qs rs ts reader.old reader.new)) }
 {
     let mut taken = List::new(alloc);
     for _take in 0..pending.waiting_len() {

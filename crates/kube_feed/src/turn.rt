@@ -29,7 +29,7 @@ ghost use Rattle.kube_feed.specs.Asked.{AreEndedBy};
 ghost use Rattle.kube_feed.specs.Fed.{PartsStand};
 ghost use Rattle.kube_feed.specs.Reads.{AreFound, AreListed, IsLater, IsReadIn};
 ghost use Rattle.kube_feed.specs.Requests.{bulk_requests, name_requests};
-ghost use Rattle.kube_feed.specs.Turns.{HasGoneOn, HaveReadAndTaken, HaveTaken, IsTaken, MayGoOn};
+ghost use Rattle.kube_feed.specs.Turns.{AreFirstTakes, HasGoneOn, HasTakenFirst, HaveReadAndTaken, HaveReadAndTakenFirst, HaveTaken, HaveTakenFirst, IsTaken, MayGoOn};
 
 use crate::finishes::finish_all;
 use crate::parts::Parts;
@@ -72,22 +72,23 @@ fn close<K: Resource>(parts: &mut Parts<K>, shutdown: Shutdown) -> bool
     parts.shut
 }
 
-/// Requests all that is stored, where a reload is asked for, and then these references.
+/// Requests all that is stored, each as an object of this type, where a reload is asked for, and then these references.
 fn request_first<K: Resource, W: Wait>(
     rt: &W,
     alloc: Global,
     reader: &mut Store<K>,
     pending: &mut Pending<K>,
+    dyntype: &K::DynamicType,
     reload: bool,
     on: List<ObjectRef<K>>,
     at: Moment,
 ) -> Result<(), NoMemory>
     ensures same { IsLater reader.old reader.new }
     ensures requested { OnOk result ((found : _) × AreListed K.meta_of found reader.old reader.new × (is_some found ≡ reload)
-        × ((core : CoreWorld K) (qs : List (QueueEvent Message)) (rs : List (Running K)) → IsOfType reader.old.kind K.meta_of core → Stands K.type_of core pending.old qs rs
+        × ((core : CoreWorld K) (qs : List (QueueEvent Message)) (rs : List (Running K)) → IsOfType (K.type_of dyntype.now) K.meta_of core → Stands K.type_of core pending.old qs rs
         → Stands K.type_of core pending.new (with_requests qs at.0 (bulk_requests core.key at.0 found ++ name_requests at.0 (map (reference_of K.type_of) on))) rs)) }
 {
-    reload_where(rt, alloc, reader, pending, reload, at)?;
+    reload_where(rt, alloc, reader, pending, dyntype, reload, at)?;
     for reference in Vec::from(on) {
         pending.request(alloc, ReconcileRequest::from_ref(reference), at, at)?;
     }
@@ -136,7 +137,9 @@ where
         → AreFound K.meta_of (filter_map (taken_of K.type_of) ts) parts.old.reader parts.new.reader) }
     ensures handed { IfOk result (λ ts. Rc.handed reconciler.new ≡ grown_by (Rc.handed reconciler.old) (handed_by (filter_map (taken_of K.type_of) ts))) }
     ensures something { IfOk result (λ ts. AllByRecursion (IsSomething K.type_of) ts) }
-    ensures lost { OnErr result ((ts : List (PlainTaken K)) × (Rc.handed reconciler.new ≡ grown_by (Rc.handed reconciler.old) (handed_by ts))) }
+    ensures lost { OnErr result ((ts : List (PlainTaken K)) × (Rc.handed reconciler.new ≡ grown_by (Rc.handed reconciler.old) (handed_by ts))
+        × ((core : CoreWorld K) (qs : List (QueueEvent Message)) (rs : List (Running K)) → Stands K.type_of core parts.old.pending qs rs
+        → HaveTakenFirst K.meta_of core takes qs rs ts parts.old.reader parts.new.reader)) }
 {
     if !takes {
         return Ok(List::new(alloc));
@@ -171,6 +174,9 @@ where
         → (told : Option Readiness) × (q.1 ≡ failure_in told) × HaveReadAndTaken K.Resource core gave_up qs rs parts.old told (filter_map (taken_of K.type_of) q.0) parts.new) }
     ensures handed { IfOk result (λ q. Rc.handed reconciler.new ≡ grown_by (Rc.handed reconciler.old) (handed_by (filter_map (taken_of K.type_of) q.0))) }
     ensures something { IfOk result (λ q. AllByRecursion (IsSomething K.type_of) q.0) }
+    ensures lost { OnErr result ((ts : List (PlainTaken K)) × (Rc.handed reconciler.new ≡ grown_by (Rc.handed reconciler.old) (handed_by ts))
+        × ((core : CoreWorld K) (qs : List (QueueEvent Message)) (rs : List (Running K)) → Stands K.type_of core parts.old.pending qs rs
+        → (told : Option Readiness) × HaveReadAndTakenFirst K.Resource core gave_up qs rs parts.old told ts parts.new)) }
 {
     if gave_up {
         return Ok((List::new(alloc), None));
@@ -217,6 +223,10 @@ where
     ensures ended { IfErr result (λ f. (w : World R.Object B) (h : List (Step R.Object)) (t : PlainTurn) (qs : List (QueueEvent Message)) → t.at ≡ at.0 → t.reload ≡ reload → t.on ≡ map (reference_of R.Object.type_of) on
         → MayGoOn R.RootSource S.RelatedSet B.Backoff R.Object.Resource w h t qs asks.old parts.old
         → AreEndedBy R.RootSource S.RelatedSet w h t f [] asks.old.root asks.old.related asks.new.root asks.new.related) }
+    ensures handed_before { OnErr result ((ts : List (PlainTaken R.Object)) × (Rc.handed reconciler.new ≡ grown_by (Rc.handed reconciler.old) (handed_by ts))
+        × ((w : World R.Object B) (h : List (Step R.Object)) (t : PlainTurn) (qs : List (QueueEvent Message)) → t.at ≡ at.0 → t.reload ≡ reload → t.on ≡ map (reference_of R.Object.type_of) on
+        → MayGoOn R.RootSource S.RelatedSet B.Backoff R.Object.Resource w h t qs asks.old parts.old
+        → HasTakenFirst R.Object.meta_of w h t qs ts parts.old.reader parts.new.reader)) }
     ensures starts_nothing { IfErr result (λ f. IfUnnamedAsk f (λ source. Rc.handed reconciler.new ≡ Rc.handed reconciler.old)) }
 {
     request_first(
@@ -224,6 +234,7 @@ where
         alloc,
         &mut parts.reader,
         &mut parts.pending,
+        asks.dyntype(),
         reload,
         on,
         at,
@@ -277,6 +288,10 @@ where
     ensures ended { IfErr result (λ f. (goes_on ≡ true) × ((w : World R.Object B) (h : List (Step R.Object)) (t : PlainTurn) (qs : List (QueueEvent Message)) → t.at ≡ at.0 → t.reload ≡ reload → t.on ≡ map (reference_of R.Object.type_of) on
         → MayGoOn R.RootSource S.RelatedSet B.Backoff R.Object.Resource w h t qs asks.old parts.old
         → AreEndedBy R.RootSource S.RelatedSet w h t f [] asks.old.root asks.old.related asks.new.root asks.new.related)) }
+    ensures handed_before { OnErr result ((ts : List (PlainTaken R.Object)) × (Rc.handed reconciler.new ≡ grown_by (Rc.handed reconciler.old) (handed_by ts))
+        × ((w : World R.Object B) (h : List (Step R.Object)) (t : PlainTurn) (qs : List (QueueEvent Message)) → t.at ≡ at.0 → t.reload ≡ reload → t.on ≡ map (reference_of R.Object.type_of) on
+        → MayGoOn R.RootSource S.RelatedSet B.Backoff R.Object.Resource w h t qs asks.old parts.old
+        → HasTakenFirst R.Object.meta_of w h t qs ts parts.old.reader parts.new.reader)) }
     ensures starts_nothing { IfErr result (λ f. IfUnnamedAsk f (λ source. Rc.handed reconciler.new ≡ Rc.handed reconciler.old)) }
 {
     if !goes_on {
@@ -364,6 +379,10 @@ where
     ensures ended { IfErr result (λ f. (w : World R.Object B) (h : List (Step R.Object))
         → PartsStand R.RootSource S.RelatedSet B.Backoff R.Object.Resource w h asks.old parts.old → IsValid h (turn_of R.Object.type_of turn)
         → AreEndedBy R.RootSource S.RelatedSet w h (turn_of R.Object.type_of turn) f [] asks.old.root asks.old.related asks.new.root asks.new.related) }
+    ensures handed_before { OnErr result ((ts : List (PlainTaken R.Object)) × (Rc.handed reconciler.new ≡ grown_by (Rc.handed reconciler.old) (handed_by ts))
+        × ((w : World R.Object B) (h : List (Step R.Object))
+        → PartsStand R.RootSource S.RelatedSet B.Backoff R.Object.Resource w h asks.old parts.old → IsValid h (turn_of R.Object.type_of turn)
+        → AreFirstTakes R.Object.meta_of w h (turn_of R.Object.type_of turn) ts parts.old.reader parts.new.reader)) }
     ensures starts_nothing { IfErr result (λ f. IfUnnamedAsk f (λ source. Rc.handed reconciler.new ≡ Rc.handed reconciler.old)) }
 {
     let Turn {

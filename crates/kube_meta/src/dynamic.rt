@@ -4,6 +4,7 @@ ghost use Rattle.std.specs.Prelude.{◌≡◌, IfOk, refl};
 
 use crate::memory::NoMemory;
 use crate::metadata::{ObjectMeta, TypeMeta};
+use crate::object_ref::api_version;
 use crate::resource::{Resource, TypeInfo};
 use crate::text::Text;
 use serde_json::Value;
@@ -19,6 +20,32 @@ pub struct ApiResource {
     pub api_version: Text,
     pub kind: Text,
     pub plural: Text,
+}
+
+impl ApiResource {
+    ghost use Rattle.kube_meta.specs.Reference.{api_version as joined_version};
+
+    /// A type of objects, by its group, its version, its kind and its plural. Its `apiVersion` is made of the first two
+    /// (`kube::core::ApiResource::from_gvk_with_plural`).
+    ///
+    /// Errors: `NoMemory`.
+    pub fn new(
+        alloc: Global,
+        group: &str,
+        version: &str,
+        kind: &str,
+        plural: &str,
+    ) -> Result<ApiResource, NoMemory>
+        ensures { IfOk result (λ r. r ≡ record { group = group.now; version = version.now; api_version = joined_version group.now version.now; kind = kind.now; plural = plural.now }) }
+    {
+        Ok(ApiResource {
+            group: Text::new(alloc, group)?,
+            version: Text::new(alloc, version)?,
+            api_version: api_version(alloc, group, version)?,
+            kind: Text::new(alloc, kind)?,
+            plural: Text::new(alloc, plural)?,
+        })
+    }
 }
 
 impl TypeInfo for Arc<ApiResource> {

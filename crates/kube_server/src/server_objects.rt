@@ -68,25 +68,42 @@ fn deleted_by(alloc: Global, entry: &Entry) -> Result<DeleteAnswer<DynamicObject
 }
 
 impl<'a> ServerObjects<'a> {
-    /// The objects of a namespace, or those without one.
+    fn over(alloc: Global, server: &'a mut Server, namespace: Option<Text>) -> ServerObjects<'a>
+        ensures same_reference { result.server.ghost_name ≡ server.entry.ghost_name }
+        ensures server { result.server.now ≡ server.old }
+        ensures namespace { result.namespace ≡ namespace }
+        ensures told { map object_raw result.told.items ≡ [] }
+    {
+        ServerObjects {
+            server,
+            namespace,
+            told: Vec::new(alloc),
+        }
+    }
+}
+
+impl Server {
+    ghost use Rattle.std.specs.Borrow.{sem, RestsIfErr};
+    ghost use Rattle.kube_server.specs.contracts.server.Server.{the_row as server_row};
+
+    /// The objects of a namespace, or those without one, as an API of single objects.
     ///
-    /// Errors: `NoMemory`.
-    pub fn new(
+    /// # Errors
+    ///
+    /// `NoMemory` where there is none for the namespace; the server is as before.
+    pub fn objects_in(
+        &mut self,
         alloc: Global,
-        server: &'a mut Server,
         namespace: Option<&str>,
-    ) -> Result<ServerObjects<'a>, NoMemory>
-        ensures same_reference { IfOk result (λ o. o.server.ghost_name ≡ server.entry.ghost_name) }
-        ensures server { IfOk result (λ o. o.server.now ≡ server.old) }
+    ) -> Result<ServerObjects<'_>, NoMemory>
+        ensures* err { sem 𝓛 (RestsIfErr server_row self.entry (λ o. o.server.ghost_name) result (λ n. n ≡ self.old)) }
+        ensures same_reference { IfOk result (λ o. o.server.ghost_name ≡ self.entry.ghost_name) }
+        ensures server { IfOk result (λ o. o.server.now ≡ self.old) }
         ensures namespace { IfOk result (λ o. o.namespace ≡ option_copied namespace.entry) }
         ensures told { IfOk result (λ o. map object_raw o.told.items ≡ []) }
     {
         let namespace = owned(alloc, namespace)?;
-        Ok(ServerObjects {
-            server,
-            namespace,
-            told: Vec::new(alloc),
-        })
+        Ok(ServerObjects::over(alloc, self, namespace))
     }
 }
 

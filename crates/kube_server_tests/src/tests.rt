@@ -672,7 +672,7 @@ fn filled(alloc: Global) -> Result<Server, Fail> {
 /// Each call and its answer, up to the first that is answered otherwise.
 fn first_other_answer(alloc: Global, rows: &[(Request, &'static str)]) -> Result<String, Fail> {
     let mut server = filled(alloc)?;
-    let mut objects = ServerObjects::new(alloc, &mut server, None)?;
+    let mut objects = server.objects_in(alloc, None)?;
     for (number, (ask, wanted)) in rows.iter().enumerate() {
         let text = asked(alloc, &mut objects, *ask)?;
         if text.as_str() != *wanted {

@@ -4,6 +4,7 @@ pub mod Traced
 pub mod Records
 pub mod Ended
 pub mod Places
+pub mod Refusing
 pub mod Waits
 pub mod Fronts
 pub mod Asking

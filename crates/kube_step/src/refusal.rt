@@ -1,19 +1,17 @@
 //! Which turns are refused.
 
-ghost use Rattle.std.specs.Prelude.{◌≡◌, ◌<◌, [], ℕ, List, Option, None, length, map, option_map, IfOk, slice_set, true, false, ◌≤◌};
-ghost use Rattle.kube_meta.specs.Keys.{reference_of};
-ghost use Rattle.kube_model.specs.History.{Step};
-ghost use Rattle.kube_model.specs.Takes.{running};
+ghost use Rattle.std.specs.Prelude.{◌≡◌, ◌≤◌, ◌^◌, ◌||◌, nat_le, nat_lt, [], ℕ, List, None, length, map, option_map, IfOk, slice_set, true, false};
+ghost use Rattle.kube_model.specs.History.{Message, Step};
+ghost use Rattle.kube_model.specs.Queue.{QueueEvent};
+ghost use Rattle.kube_model.specs.Takes.{Running, running};
 ghost use Rattle.kube_model.specs.Traces.{last_moment, refusal, refused_finish};
-ghost use Rattle.kube_model.specs.World.{World};
 ghost use Rattle.kube_history.specs.CoreWorld.{CoreWorld};
-ghost use Rattle.kube_history.specs.CoreEvents.{CoreEvent, running_of};
-ghost use Rattle.kube_core.specs.Cores.{StandsFor};
+ghost use Rattle.kube_core.specs.Pendings.{Stands};
 ghost use Rattle.kube_turn.specs.Records.{finish_of, turn_of};
 ghost use Rattle.kube_step.specs.Errors.{refusal_of};
 ghost use Rattle.kube_step.specs.Marks.{is_marked};
 
-use kube_core::Core;
+use kube_core::Pending;
 use kube_meta::{Moment, NoMemory, Resource};
 use kube_turn::{Finish, Turn};
 use std::alloc::Global;
@@ -74,15 +72,15 @@ pub fn mark(marks: &mut Vec<bool>, place: usize)
 /// Why the first of these finishes that is refused is.
 fn refused_finish<K: Resource, E: Drop>(
     alloc: Global,
-    core: &Core<K>,
+    pending: &Pending<K>,
     finishes: &[Finish<K, E>],
 ) -> Result<Option<BadTurn>, NoMemory>
-    ensures { IfOk result (λ o. (world : CoreWorld K) (es : List (CoreEvent K)) → StandsFor K.type_of K.meta_of world es core.now
-        → option_map refusal_of o ≡ refused_finish (running_of es) [] 0 (map (finish_of K.type_of) finishes.now)) }
+    ensures { IfOk result (λ o. (core : CoreWorld K) (qs : List (QueueEvent Message)) (rs : List (Running K)) → Stands K.type_of core pending.now qs rs
+        → option_map refusal_of o ≡ refused_finish rs [] 0 (map (finish_of K.type_of) finishes.now)) }
 {
-    let mut marks = no_marks(alloc, core.running_len())?;
+    let mut marks = no_marks(alloc, pending.running_len())?;
     for (finish, ended) in finishes.iter().enumerate() {
-        let Some(place) = core.running_place(&ended.reference) else {
+        let Some(place) = pending.running_place(&ended.reference) else {
             return Ok(Some(BadTurn::NotRunning { finish }));
         };
         if is_marked(marks.as_slice(), place) {
@@ -93,6 +91,14 @@ fn refused_finish<K: Resource, E: Drop>(
     Ok(None)
 }
 
+/// Whether a turn's moment is too late, or before that of the last turn.
+fn is_bad(at: Moment, last: Moment) -> bool
+    ensures bad { result ≡ (nat_le (2 ^ 63) at.0 || nat_lt at.0 last.0) }
+    ensures later { result ≡ false → last.0 ≤ at.0 }
+{
+    at.0 >= MOMENT_END || at.0 < last.0
+}
+
 /// Why a turn is refused, if it is. `last` is the moment of the last turn.
 ///
 /// # Errors
@@ -100,16 +106,16 @@ fn refused_finish<K: Resource, E: Drop>(
 /// `NoMemory` where there is none for a mark of each reference that runs.
 pub fn refused<K: Resource, E: Drop>(
     alloc: Global,
-    core: &Core<K>,
+    pending: &Pending<K>,
     last: Moment,
     turn: &Turn<K, E>,
 ) -> Result<Option<BadTurn>, NoMemory>
-    ensures why { IfOk result (λ o. (world : CoreWorld K) (es : List (CoreEvent K)) (h : List (Step K)) → StandsFor K.type_of K.meta_of world es core.now → running_of es ≡ running h → last.0 ≡ last_moment h
+    ensures why { IfOk result (λ o. (core : CoreWorld K) (qs : List (QueueEvent Message)) (rs : List (Running K)) (h : List (Step K)) → Stands K.type_of core pending.now qs rs → rs ≡ running h → last.0 ≡ last_moment h
         → option_map refusal_of o ≡ refusal h (turn_of K.type_of turn.now)) }
     ensures later { IfOk result (λ o. o ≡ None → last.0 ≤ turn.now.at.0) }
 {
-    if turn.at.0 >= MOMENT_END || turn.at < last {
+    if is_bad(turn.at, last) {
         return Ok(Some(BadTurn::Moment { at: turn.at, last }));
     }
-    refused_finish(alloc, core, turn.finishes.as_slice())
+    refused_finish(alloc, pending, turn.finishes.as_slice())
 }

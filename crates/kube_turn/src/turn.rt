@@ -2,6 +2,7 @@
 
 use kube_meta::{Action, List, Moment, ObjectRef, Resource};
 use kube_model::turn::Shutdown;
+use std::alloc::Global;
 
 /// A turn of a controller.
 #[derive(Drop)]
@@ -20,6 +21,27 @@ pub struct Turn<K: Resource, E: Drop> {
     pub shutdown: Shutdown,
     /// Whether the record shows the store.
     pub show: bool,
+}
+
+impl<K: Resource, E: Drop> Turn<K, E> {
+    ghost use Rattle.std.specs.Prelude.{◌≡◌, [], false};
+    ghost use Rattle.kube_model.specs.declared.turn.Shutdown.TheVariants.{No};
+
+    /// A turn at a moment, with these budgets, in which nothing has ended, nothing is named or reloaded, no shutdown is
+    /// asked for and the store isn't shown.
+    pub fn new(alloc: Global, at: Moment, budget: List<u32>) -> Turn<K, E>
+        ensures { result ≡ record { at = at; budget = budget; finishes = []; reload = false; on = []; shutdown = No; show = false } }
+    {
+        Turn {
+            at,
+            budget,
+            finishes: List::new(alloc),
+            reload: false,
+            on: List::new(alloc),
+            shutdown: Shutdown::No,
+            show: false,
+        }
+    }
 }
 
 /// A reconcile that ended.

@@ -20,7 +20,7 @@ use std::sync::Arc;
 
 impl<R: RootSource, S: RelatedSet<R::Object>, B: Backoff> Controller<R, S, B> {
     /// The same with these sources after the others. It must not have run yet.
-    fn beside<T: RelatedSet<R::Object>>(
+    pub(crate) fn beside<T: RelatedSet<R::Object>>(
         self,
         alloc: Global,
         set: T,

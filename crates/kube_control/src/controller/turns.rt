@@ -80,7 +80,7 @@ where
     ensures starts_nothing { IfErr result (λ s. IfFaulted s (λ f. IfUnnamedAsk f (λ source. Rc.handed reconciler.new ≡ Rc.handed reconciler.old))) }
 {
     let last = last_moment(controller.last, controller.core.clock());
-    if let Some(why) = refused(alloc, &controller.core, last, &turn)? {
+    if let Some(why) = refused(alloc, controller.core.pending(), last, &turn)? {
         return Err(Stopped::Refused(why));
     }
     let at = turn.at;

@@ -16,6 +16,8 @@ use kube_meta::{
     TextMap,
 };
 use kube_step::Recorder;
+use kube_streams::watch_ext::WatchStreamExt;
+use kube_watch::watcher::watcher;
 use std::alloc::{AllocError, Global};
 use std::sync::Arc;
 use std::test::Fail;
@@ -175,10 +177,12 @@ fn all_turned<S: RelatedSet<DynamicObject>>(
     turned(alloc, &mut controller, budget)
 }
 
-/// How objects request nodes: by their owner, by a function of their label, or by their label, each from a source of its own.
+/// How objects request nodes: by their owner, by their owner where a stream gives them, by a function of their label, or by their
+/// label, each from a source of its own.
 #[derive(Clone, Copy)]
 enum By {
     Owner,
+    Stream,
     Function,
     Label,
 }
@@ -219,6 +223,28 @@ fn by_owner(alloc: Global, case: &Case) -> Result<String, NoMemory> {
     let (pods, pod) = pods(alloc, case.pods)?;
     match nodes(alloc, case.nodes) {
         Ok(nodes) => owned(alloc, nodes, pods, pod, case.budget),
+        Err(error) => Err(error),
+    }
+}
+
+fn streamed(
+    alloc: Global,
+    nodes: Tested<NoRelated>,
+    pods: Api,
+    pod: Arc<ApiResource>,
+    budget: &[u32],
+) -> Result<String, NoMemory> {
+    let stream = watcher(alloc, pods, watching(PLAIN)).settled_objects(alloc);
+    match nodes.owns_stream_with(alloc, stream, pod) {
+        Ok(controller) => all_turned(alloc, controller, budget),
+        Err(error) => Err(error),
+    }
+}
+
+fn by_stream(alloc: Global, case: &Case) -> Result<String, NoMemory> {
+    let (pods, pod) = pods(alloc, case.pods)?;
+    match nodes(alloc, case.nodes) {
+        Ok(nodes) => streamed(alloc, nodes, pods, pod, case.budget),
         Err(error) => Err(error),
     }
 }
@@ -312,12 +338,13 @@ fn by_label(alloc: Global, case: &Case) -> Result<String, NoMemory> {
 fn made(alloc: Global, case: &Case) -> Result<String, NoMemory> {
     match case.by {
         By::Owner => by_owner(alloc, case),
+        By::Stream => by_stream(alloc, case),
         By::Function => by_function(alloc, case),
         By::Label => by_label(alloc, case),
     }
 }
 
-const CASES: [Case; 4] = [
+const CASES: [Case; 5] = [
     // a pod with two references of its owner: with its namespace, and as the node is listed
     Case {
         name: "owners are requested in the object's namespace",
@@ -326,6 +353,19 @@ const CASES: [Case; 4] = [
         pods: &[("p", "ns", "n", "")],
         budget: &[1, 1],
         wanted: "0 1 
+Node.v1./n: object updated
+Node.v1./n.ns: related object updated: Pod.v1./p.ns
+1 ran
+",
+    },
+    // its watcher tells that a list begins, the pod, that the list is whole, and nothing of the watch
+    Case {
+        name: "owners of what a stream gives are requested",
+        by: By::Stream,
+        nodes: &[("n", "", "", "")],
+        pods: &[("p", "ns", "n", "")],
+        budget: &[1, 4],
+        wanted: "0 1 1 1 1 
 Node.v1./n: object updated
 Node.v1./n.ns: related object updated: Pod.v1./p.ns
 1 ran

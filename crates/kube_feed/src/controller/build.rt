@@ -29,7 +29,6 @@ pub(crate) fn fed<R: RootSource, B: Backoff>(
     backoff: B,
     config: Config,
 ) -> FedController<R, NoRelated, B>
-    requires kind { reader.kind ≡ R.kind root }
     ensures stands { (w : World R.Object B) → R.stands root [] → is_watched (R.feed root) ≡ false → NamesObjects R.RootSource ⟦<NoRelated as RelatedSet<R::Object>>⟧ w
         → IsWorldOfAsks R.RootSource ⟦<NoRelated as RelatedSet<R::Object>>⟧ B.Backoff R.Object.Resource w result.asks → w.backoff ≡ backoff → w.limit ≡ config.concurrency → w.debounce ≡ config.debounce
         → StandsFor R.RootSource ⟦<NoRelated as RelatedSet<R::Object>>⟧ B.Backoff R.Object.Resource w [] result }
@@ -56,15 +55,14 @@ impl<K: Resource, St: EventStream<Item = Arc<K>>> FedController<
     DefaultBackoff,
 > {
     /// A controller of the objects that a stream gives, of type `t`, which are looked up by a handle (kube-runtime's
-    /// `Controller::for_stream_with`): with no debounce, any number of reconciles at a time, and the default backoff. The handle
-    /// must be of that type.
+    /// `Controller::for_stream_with`): with no debounce, any number of reconciles at a time, and the default backoff. A handle of
+    /// another type finds none of them.
     pub fn for_stream_with(
         alloc: Global,
         trigger: St,
         reader: Store<K>,
         t: K::DynamicType,
     ) -> FedController<StreamRoot<K, St>, NoRelated, DefaultBackoff>
-        requires kind { reader.kind ≡ K.type_of t }
         ensures stands { (w : World K (ResetTimer Exponential)) → IsWorldOfAsks ⟦<StreamRoot<K, St> as RootSource>⟧ ⟦<NoRelated as RelatedSet<K>>⟧ ⟦<DefaultBackoff as Backoff>⟧ K.Resource w result.asks
             → w.backoff ≡ default_backoff → w.limit ≡ 0 → w.debounce ≡ 0
             → StandsFor ⟦<StreamRoot<K, St> as RootSource>⟧ ⟦<NoRelated as RelatedSet<K>>⟧ ⟦<DefaultBackoff as Backoff>⟧ K.Resource w [] result }
@@ -88,7 +86,6 @@ impl<K: Resource, St: EventStream<Item = Arc<K>>> FedController<
         reader: Store<K>,
         t: K::DynamicType,
     ) -> FedController<StreamRoot<K, St>, NoRelated, DefaultBackoff>
-        requires kind { reader.kind ≡ K.type_of t }
         ensures stands { (w : World K (ResetTimer Exponential)) → IsWorldOfAsks ⟦<StreamRoot<K, St> as RootSource>⟧ ⟦<NoRelated as RelatedSet<K>>⟧ ⟦<DefaultBackoff as Backoff>⟧ K.Resource w result.asks
             → w.backoff ≡ default_backoff → w.limit ≡ 0 → w.debounce ≡ 0
             → StandsFor ⟦<StreamRoot<K, St> as RootSource>⟧ ⟦<NoRelated as RelatedSet<K>>⟧ ⟦<DefaultBackoff as Backoff>⟧ K.Resource w [] result }
@@ -116,8 +113,6 @@ impl<K: Resource<DynamicType = ()>, St: EventStream<Item = Arc<K>>> FedControlle
         ensures root { result.asks.root ≡ record { feeding = record { stream = trigger; standing = Open }; kind = K.type_of tt } }
         ensures reader { result.reader ≡ reader }
     {
-        // (there is one such type, which is the handle's)
-        let _type = reader.dyntype();
         FedController::for_stream_with(alloc, trigger, reader, ())
     }
 
@@ -133,8 +128,6 @@ impl<K: Resource<DynamicType = ()>, St: EventStream<Item = Arc<K>>> FedControlle
         ensures root { result.asks.root ≡ record { feeding = record { stream = trigger; standing = Open }; kind = K.type_of tt } }
         ensures reader { result.reader ≡ reader }
     {
-        // (there is one such type, which is the handle's)
-        let _type = reader.dyntype();
         FedController::for_stream_with(alloc, trigger, reader, ())
     }
 }

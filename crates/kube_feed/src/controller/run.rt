@@ -98,13 +98,13 @@ impl<R: RootSource, S: RelatedSet<R::Object>, B: Backoff> FedController<R, S, B>
         ensures unnamed { IfErr result (λ e. IfUnnamed e (λ turn source. (turn ≡ length (records_before e))
             × ((w : World R.Object B) (h : List (Step R.Object)) → StandsFor R.RootSource S.RelatedSet B.Backoff R.Object.Resource w h self.old
             → (ms : List (Made R.Object)) × (records_in ms ≡ records_of R.Object.type_of (records_before e))
-            × WereBrokenOff R.RootSource S.RelatedSet B.Backoff R.Object.Resource w (AskFault.Unnamed source) h (turns_of R.Object.type_of turns.items) self.old ms self.new))) }
+            × WereBrokenOff R.RootSource S.RelatedSet B.Backoff R.Object.Resource w (AskFault.Unnamed source) h (turns_of R.Object.type_of turns.items) self.old ms self.new (Rc.handed reconciler.old) (Rc.handed reconciler.new)))) }
 
-        // After want of memory all turns that were done have their records, and the sources were asked at most once more than
-        // the turn under way owed.
+        // After want of memory all turns that were done have their records, the sources were asked at most once more than the
+        // turn under way owed, and the reconciler was handed at most the first takes of that turn, by what it read until then.
         ensures no_memory { IfErr result (λ e. IfNoMemory e ((w : World R.Object B) (h : List (Step R.Object)) → StandsFor R.RootSource S.RelatedSet B.Backoff R.Object.Resource w h self.old
             → (ms : List (Made R.Object)) × (records_in ms ≡ records_of R.Object.type_of (records_before e))
-            × WereBrokenOff R.RootSource S.RelatedSet B.Backoff R.Object.Resource w AskFault.NoMemory h (turns_of R.Object.type_of turns.items) self.old ms self.new)) }
+            × WereBrokenOff R.RootSource S.RelatedSet B.Backoff R.Object.Resource w AskFault.NoMemory h (turns_of R.Object.type_of turns.items) self.old ms self.new (Rc.handed reconciler.old) (Rc.handed reconciler.new))) }
 
         // A turn that is refused, and one in which such an object came, start nothing.
         ensures handed_refused { IfErr result (λ e. IfRefused e (λ turn why. Rc.handed reconciler.new ≡ grown_by (Rc.handed reconciler.old) (handed_by (taken_by (records_of R.Object.type_of (records_before e)))))) }

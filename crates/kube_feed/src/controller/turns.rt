@@ -23,12 +23,11 @@ ghost use Rattle.kube_feed.specs.Runs.{AreFinishedIn, HaveRun, IsBrokenOff, IsNe
 ghost use Rattle.kube_feed.specs.Stops.{IfFaulted, IfRefusedTurn};
 
 use crate::controller::FedController;
-use crate::refusal::refused;
 use crate::stopped::Stopped;
 use crate::turn::take_turn;
 use kube_asks::{Backoff, RelatedSet, RootSource};
 use kube_meta::{Action, NoMemory};
-use kube_step::Reconciler;
+use kube_step::{Reconciler, refused};
 use kube_turn::{Turn, TurnRecord};
 use std::alloc::Global;
 use std::sync::{Arc, Wait};
@@ -71,7 +70,8 @@ where
     ensures refused { IfErr result (λ s. IfRefusedTurn s (λ why. (controller.new ≡ controller.old) × (Rc.handed reconciler.new ≡ Rc.handed reconciler.old)
         × ((w : World R.Object B) (h : List (Step R.Object)) → StandsFor R.RootSource S.RelatedSet B.Backoff R.Object.Resource w h controller.old → refusal h (turn_of R.Object.type_of turn) ≡ Some why))) }
     ensures broken { IfErr result (λ s. IfFaulted s (λ f. (w : World R.Object B) (h : List (Step R.Object)) → StandsFor R.RootSource S.RelatedSet B.Backoff R.Object.Resource w h controller.old
-        → IsBrokenOff R.RootSource S.RelatedSet w f h (turn_of R.Object.type_of turn) controller.old.asks.root controller.old.asks.related controller.new.asks.root controller.new.asks.related)) }
+        → IsBrokenOff R.RootSource S.RelatedSet R.Object.Resource w f h (turn_of R.Object.type_of turn) controller.old.asks.root controller.old.asks.related controller.old.reader controller.new.asks.root controller.new.asks.related controller.new.reader
+        (Rc.handed reconciler.old) (Rc.handed reconciler.new))) }
     ensures starts_nothing { IfErr result (λ s. IfFaulted s (λ f. IfUnnamedAsk f (λ source. Rc.handed reconciler.new ≡ Rc.handed reconciler.old))) }
 {
     if let Some(why) = refused(alloc, &controller.parts.pending, controller.last, &turn)? {
@@ -144,7 +144,8 @@ where
     ensures refused { IfErr result (λ s. IfRefusedTurn s (λ why. (controller.new ≡ controller.old) × (Rc.handed reconciler.new ≡ Rc.handed reconciler.old)
         × ((w : World R.Object B) (h : List (Step R.Object)) → StandsFor R.RootSource S.RelatedSet B.Backoff R.Object.Resource w h controller.old → refusal h (turn_of R.Object.type_of turn) ≡ Some why))) }
     ensures broken { IfErr result (λ s. IfFaulted s (λ f. (w : World R.Object B) (h : List (Step R.Object)) → StandsFor R.RootSource S.RelatedSet B.Backoff R.Object.Resource w h controller.old
-        → IsBrokenOff R.RootSource S.RelatedSet w f h (turn_of R.Object.type_of turn) controller.old.asks.root controller.old.asks.related controller.new.asks.root controller.new.asks.related)) }
+        → IsBrokenOff R.RootSource S.RelatedSet R.Object.Resource w f h (turn_of R.Object.type_of turn) controller.old.asks.root controller.old.asks.related controller.old.reader controller.new.asks.root controller.new.asks.related controller.new.reader
+        (Rc.handed reconciler.old) (Rc.handed reconciler.new))) }
     ensures starts_nothing { IfErr result (λ s. IfFaulted s (λ f. IfUnnamedAsk f (λ source. Rc.handed reconciler.new ≡ Rc.handed reconciler.old))) }
 {
     if controller.ended {
@@ -206,7 +207,8 @@ where
         × WereRefused R.RootSource S.RelatedSet B.Backoff R.Object.Resource w h (turns_of R.Object.type_of turns.items) controller.old ms why controller.new))) }
     ensures broken { IfErr result (λ s. IfFaulted s (λ f. (w : World R.Object B) (h : List (Step R.Object)) → StandsFor R.RootSource S.RelatedSet B.Backoff R.Object.Resource w h controller.old
         → (ms : List (Made R.Object)) × (records_in ms ≡ records_of R.Object.type_of records.new.items)
-        × WereBrokenOff R.RootSource S.RelatedSet B.Backoff R.Object.Resource w f h (turns_of R.Object.type_of turns.items) controller.old ms controller.new)) }
+        × WereBrokenOff R.RootSource S.RelatedSet B.Backoff R.Object.Resource w f h (turns_of R.Object.type_of turns.items) controller.old ms controller.new
+        (Rc.handed reconciler.old) (Rc.handed reconciler.new))) }
     ensures starts_nothing { IfErr result (λ s. IfFaulted s (λ f. IfUnnamedAsk f (λ source. Rc.handed reconciler.new ≡ grown_by (Rc.handed reconciler.old) (handed_by (taken_by (records_of R.Object.type_of records.new.items)))))) }
 {
     for turn in turns {

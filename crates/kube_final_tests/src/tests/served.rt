@@ -120,7 +120,7 @@ fn polled(
 ) -> Result<String, NoMemory>
     requires unready { finalizer.old.is_over ≡ false }
 {
-    let mut objects = ServerObjects::new(alloc, server, None)?;
+    let mut objects = server.objects_in(alloc, None)?;
     polled_over(alloc, finalizer, &mut objects, branch)
 }
 
@@ -274,7 +274,7 @@ fn deleted(
 ) -> Result<String, NoMemory>
     requires unready { deletion.old.is_over ≡ false }
 {
-    let mut objects = ServerObjects::new(alloc, server, None)?;
+    let mut objects = server.objects_in(alloc, None)?;
     deleted_over(alloc, deletion, &mut objects)
 }
 

@@ -8,11 +8,6 @@ use Rattle.kube_watch.specs.Streams.{stream_answer}
 use Rattle.kube_feed.proofs.Named.{queued-named}
 use Rattle.kube_feed.proofs.queued.applier.Goals as goal
 
-pub fed-requires : goal.fed-requires
-fed-requires g c = record {
-  kind = sym c.dyntype.ensures ∙ (g.met.K.Resource.one_type _ _ c.in_ok-dyntype.ensures ∙ sym (ap (λ (r : RootFeeding _). r.kind) c.new-root.ensures));
-}
-
 pub returns-clause-stands : goal.returns-clause-stands
 returns-clause-stands g c w is limit debounce =
     c.fed.ensures.stands w (ap (λ (r : RootFeeding _). has_ended r.feeding.standing) c.new-root.ensures) refl

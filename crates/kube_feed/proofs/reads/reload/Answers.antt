@@ -19,6 +19,9 @@ returns-in_err-keys-clause-same g c = later-by c.args.reader.now c.keys.new.self
 pub returns-in_err-requests-clause-same : goal.returns-in_err-requests-clause-same
 returns-in_err-requests-clause-same g c = later-by c.args.reader.now c.keys.new.self c.in_ok-keys.ensures.own c.in_ok-keys.ensures.later
 
+pub returns-in_err-keys-2-clause-same : goal.returns-in_err-keys-2-clause-same
+returns-in_err-keys-2-clause-same g c = later-by c.args.reader.now c.keys.new.self c.in_ok-keys.ensures.own c.in_ok-keys.ensures.later
+
 pub returns-clause-same : goal.returns-clause-same
 returns-clause-same g c = later-by c.args.reader.now c.keys.new.self c.in_ok-keys.ensures.own c.in_ok-keys.ensures.later
 
@@ -35,7 +38,7 @@ returns-clause-reloaded g c =
       (read-by c.args.reader.now new e.own e.later e.readable, refl),
       λ core qs rs is s.
           subst (λ ms. Stands type_of core c.request_all.new.pending (with_requests qs at (map (requested_at at) ms)) rs)
-          (c.in_ok-requests.ensures ∙ ap (λ keys. map in_bulk (sorted_by reference_before keys)) (keys-in meta c.args.reader.now new core (map (reference_of type_of) c.in_ok-keys.keys.items) e.own.1 is e.read))
+          (c.in_ok-requests.ensures ∙ ap (λ keys. map in_bulk (sorted_by reference_before keys)) (keys-in meta new (type_of c.args.dyntype.now) core (map (reference_of type_of) c.in_ok-keys.keys.items) (map (reference_of type_of) c.in_ok-keys-2.keys.items) is c.in_ok-keys-2.ensures e.read))
           (stands core qs rs s),
     ))
     c.request_all.ensures

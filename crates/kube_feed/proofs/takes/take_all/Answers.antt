@@ -14,7 +14,7 @@ use Rattle.kube_step.proofs.Taking.{none-of, some-of, grown-nil, all-push, kept-
 use Rattle.kube_feed.specs.Reads.{AreFound}
 use Rattle.kube_feed.specs.Takes.{IsTake}
 use Rattle.kube_feed.proofs.Reading.{later-none, later-more}
-use Rattle.kube_feed.proofs.Taking.{HaveGone, all-taken, gone-more, gone-none, none-left, none-waits}
+use Rattle.kube_feed.proofs.Taking.{HaveGone, all-taken, first-taken, gone-more, gone-none, none-left, none-waits}
 use Rattle.kube_feed.proofs.takes.take_all.Goals as goal
 
 pub loop-take-init : goal.loop-take-init
@@ -99,7 +99,11 @@ pub returns-in_err-one-clause-lost : goal.returns-in_err-one-clause-lost
 returns-in_err-one-clause-lost g c =
     let ts = filter_map (taken_of g.K.Resource.type_of) c.loop-take.taken in
     let p = err_from_is_err_and c.from_residual.result c.from_residual.ensures.1 in
-    rw p.1 (ts, c.in_err-one.ensures.lost ∙ c.loop-take.invariant.handed)
+    rw p.1 (
+      ts,
+      c.in_err-one.ensures.lost ∙ c.loop-take.invariant.handed,
+      λ core qs rs s. first-taken g.K.Resource core qs rs c.args.reader.now ts c.loop-take.pending c.loop-take.reader c.take_next.new.reader (c.loop-take.invariant.gone core qs rs s) c.in_err-one.ensures.same,
+    )
 
 pub returns-in_err-push-clause-lost : goal.returns-in_err-push-clause-lost
 returns-in_err-push-clause-lost g c =
@@ -112,6 +116,12 @@ returns-in_err-push-clause-lost g c =
     rw p.1 (
       ts ++ some.0 ∷ [],
       handed-more (g.Rc.Reconciler.handed c.args.reconciler.now) (g.Rc.Reconciler.handed c.loop-take.reconciler) (g.Rc.Reconciler.handed c.take_next.new.reconciler) ts (taken_of type_of c.in_ok-one.one) some.0 some.1 i.handed e.handed,
+      λ core qs rs s.
+          let k = i.gone core qs rs s in
+          let more = gone-more g.K.Resource core qs rs c.args.reader.now ts c.loop-take.pending c.loop-take.reader some.0 c.take_next.new.pending c.take_next.new.reader k
+          (subst (λ o. IsTake g.K.Resource core (qs ++ took ts) (rs ++ filter_map started ts) o c.take_next.new.pending c.loop-take.reader c.take_next.new.reader) some.1
+          (e.took core (qs ++ took ts) (rs ++ filter_map started ts) k.stands)) in
+          first-taken g.K.Resource core qs rs c.args.reader.now (ts ++ some.0 ∷ []) c.take_next.new.pending c.take_next.new.reader c.take_next.new.reader more (later-none c.take_next.new.reader),
     )
 
 pub returns-clause-taken : goal.returns-clause-taken

@@ -1,5 +1,6 @@
 use Rattle.std.proofs.Common.{None, refl, sym, ap, subst, ◌∙◌}
 use Rattle.std.specs.List.{AllByRecursion, filter_map}
+use Rattle.std.proofs.lemmas.Result.{err_from_is_err_and}
 use Rattle.kube_model.specs.Raw.{grown_by}
 use Rattle.kube_turn.specs.Views.{taken_of}
 use Rattle.kube_core.specs.Pendings.{Stands}
@@ -7,7 +8,7 @@ use Rattle.kube_step.specs.HandOvers.{handed_by}
 use Rattle.kube_step.specs.Takes.{IsSomething}
 use Rattle.kube_step.proofs.Taking.{grown-nil}
 use Rattle.kube_feed.specs.Turns.{HaveReadAndTaken}
-use Rattle.kube_feed.proofs.Going.{read-none, read-some}
+use Rattle.kube_feed.proofs.Going.{read-first, read-none, read-some}
 use Rattle.kube_feed.proofs.Reading.{later-more, later-none}
 use Rattle.kube_feed.proofs.turn.read_and_take.Goals as goal
 
@@ -52,4 +53,18 @@ returns-clause-taken g c core qs rs s =
       k.0,
       k.4,
       read-some g.K.Resource core qs rs c.args.gave_up c.if-gave_up.false c.args.parts.now k.0 mid.reader mid.ready ts c.take_where.new.parts k.1 k.2 k.3 (e.looked_up core qs rs now) (e.taken core qs rs now) e.ready,
+    )
+
+pub returns-in_err-taken-clause-lost : goal.returns-in_err-taken-clause-lost
+returns-in_err-taken-clause-lost g c =
+    let p = err_from_is_err_and c.from_residual.result c.from_residual.ensures.1 in
+    let lost = c.in_err-taken.ensures.lost in
+    rw p.1 (
+      lost.0,
+      lost.1,
+      λ core qs rs s.
+          let mid = c.poll_ready-runner.new.parts in
+          let k = c.poll_ready-runner.ensures.polled in
+          let now = subst (λ p. Stands g.K.Resource.type_of core p qs rs) (sym c.poll_ready-runner.ensures.pending) s in
+          (k.0, read-first g.K.Resource core qs rs c.args.gave_up c.if-gave_up.false c.args.parts.now k.0 mid.reader mid.ready lost.0 c.take_where.new.parts k.1 k.2 k.3 (lost.2 core qs rs now)),
     )

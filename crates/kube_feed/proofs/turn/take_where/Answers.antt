@@ -1,12 +1,13 @@
 use Rattle.std.proofs.Common.{refl, sym, ap, subst, ◌∙◌}
 use Rattle.std.specs.List.{AllByRecursion, filter_map}
+use Rattle.std.proofs.lemmas.Result.{on_err_weaker}
 use Rattle.kube_model.specs.Raw.{grown_by}
 use Rattle.kube_turn.specs.Views.{taken_of}
 use Rattle.kube_step.specs.HandOvers.{handed_by}
 use Rattle.kube_step.specs.Takes.{IsSomething}
 use Rattle.kube_step.proofs.Taking.{grown-nil}
 use Rattle.kube_feed.specs.Reads.{AreFound}
-use Rattle.kube_feed.specs.Turns.{HaveTaken}
+use Rattle.kube_feed.specs.Turns.{HaveTaken, HaveTakenFirst}
 use Rattle.kube_feed.proofs.Going.{both, taken-all, taken-none}
 use Rattle.kube_feed.proofs.Reading.{later-none}
 use Rattle.kube_feed.proofs.turn.take_where.Goals as goal
@@ -36,3 +37,9 @@ returns-clause-taken g c =
     both c.take_all.result _ _ _
     (λ ts taken stands core qs rs s. taken-all g.K.Resource core qs rs c.args.takes c.if-not-takes.false (filter_map (taken_of type_of) ts) c.take_all.new.pending (taken core qs rs s) (stands core qs rs s))
     c.take_all.ensures.taken c.take_all.ensures.stands
+
+pub returns-clause-lost : goal.returns-clause-lost
+returns-clause-lost g c =
+    on_err_weaker c.take_all.result
+    (λ k. (k.0, k.1, λ core qs rs s. subst (λ b. HaveTakenFirst g.K.Resource.meta_of core b qs rs k.0 c.args.parts.now.reader c.take_all.new.reader) (sym c.if-not-takes.false) (k.2 core qs rs s)))
+    c.take_all.ensures.lost

@@ -2,7 +2,8 @@ use Rattle.std.proofs.Common.{◌≡◌, refl, sym, ap, subst, ◌∙◌, arith,
 use Rattle.std.proofs.lemmas.Result.{err_from_is_err_and}
 use Rattle.kube_meta.specs.declared.moment.Moment.{Moment}
 use Rattle.kube_history.specs.CoreWorld.{core_world}
-use Rattle.kube_history.specs.CoreEvents.{clock_of}
+use Rattle.kube_history.specs.CoreEvents.{clock_of, queue_of, running_of}
+use Rattle.kube_core.specs.Pendings.{Stands}
 use Rattle.kube_turn.specs.Records.{record_of, turn_of}
 use Rattle.kube_step.specs.Errors.{refusal_of}
 use Rattle.kube_control.specs.Runs.{IsWatching}
@@ -24,7 +25,8 @@ returns-in-Some-clause-refused g c = (
       let behind = k.may.parts.agrees.behind in
       let last = k.last in
       let is = ap (λ (m : Moment). m.0) (c.last_moment-last.ensures.last (omega (arith, clock, behind, last))) ∙ last in
-      let why = c.in_ok-why.ensures.why (core_world w) k.may.parts.events h k.may.parts.core_stands k.may.parts.agrees.running is in
+      let waits = subst (λ p. Stands g.R.Object.Resource.type_of (core_world w) p (queue_of (core_world w) k.may.parts.events) (running_of k.may.parts.events)) (sym c.pending.ensures) k.may.parts.core_stands.pending in
+      let why = c.in_ok-why.ensures.why (core_world w) (queue_of (core_world w) k.may.parts.events) (running_of k.may.parts.events) h waits k.may.parts.agrees.running is in
       sym why ∙ ap (option_map refusal_of) c.in-Some.is,
 )
 
@@ -38,7 +40,8 @@ returns-in_err-record-clause-broken g c =
     let behind = k.may.parts.agrees.behind in
     let last = k.last in
     let is = ap (λ (m : Moment). m.0) (c.last_moment-last.ensures.last (omega (arith, clock, behind, last))) ∙ last in
-    let why = c.in_ok-why.ensures.why (core_world w) k.may.parts.events h k.may.parts.core_stands k.may.parts.agrees.running is in
+    let waits = subst (λ p. Stands g.R.Object.Resource.type_of (core_world w) p (queue_of (core_world w) k.may.parts.events) (running_of k.may.parts.events)) (sym c.pending.ensures) k.may.parts.core_stands.pending in
+    let why = c.in_ok-why.ensures.why (core_world w) (queue_of (core_world w) k.may.parts.events) (running_of k.may.parts.events) h waits k.may.parts.agrees.running is in
     let valid = sym why ∙ ap (option_map refusal_of) c.in_default.is in
     broken-is g.R.RootSource g.S.RelatedSet g.B.Backoff g.R.Object.Resource w _ h (turn_of g.R.Object.Resource.type_of c.args.turn) c.args.controller.now _ c.take_turn.new.core.writer.kept c.take_turn.new.asks.root c.take_turn.new.asks.related
     (g.Rc.Reconciler.handed c.args.reconciler.now) (g.Rc.Reconciler.handed c.take_turn.new.reconciler) before.0 c.controller.view_is valid (c.in_err-record.ensures.ended w h k.may valid) (before.2 w h k.may valid) before.1)
@@ -50,7 +53,8 @@ returns-clause-next g c w h now going =
     let behind = k.may.parts.agrees.behind in
     let last = k.last in
     let is = ap (λ (m : Moment). m.0) (c.last_moment-last.ensures.last (omega (arith, clock, behind, last))) ∙ last in
-    let why = c.in_ok-why.ensures.why (core_world w) k.may.parts.events h k.may.parts.core_stands k.may.parts.agrees.running is in
+    let waits = subst (λ p. Stands g.R.Object.Resource.type_of (core_world w) p (queue_of (core_world w) k.may.parts.events) (running_of k.may.parts.events)) (sym c.pending.ensures) k.may.parts.core_stands.pending in
+    let why = c.in_ok-why.ensures.why (core_world w) (queue_of (core_world w) k.may.parts.events) (running_of k.may.parts.events) h waits k.may.parts.agrees.running is in
     let valid = sym why ∙ ap (option_map refusal_of) c.in_default.is in
     next-is g.R.RootSource g.S.RelatedSet g.B.Backoff g.R.Object.Resource w h (turn_of g.R.Object.Resource.type_of c.args.turn) c.args.controller.now _ (record_of g.R.Object.Resource.type_of c.in_ok-record.record) _ c.controller.view_is now going
     (c.in_ok-record.ensures.taken w h k.may valid) refl refl refl
@@ -62,6 +66,7 @@ returns-clause-finished g c w h now =
     let behind = k.may.parts.agrees.behind in
     let last = k.last in
     let is = ap (λ (m : Moment). m.0) (c.last_moment-last.ensures.last (omega (arith, clock, behind, last))) ∙ last in
-    let why = c.in_ok-why.ensures.why (core_world w) k.may.parts.events h k.may.parts.core_stands k.may.parts.agrees.running is in
+    let waits = subst (λ p. Stands g.R.Object.Resource.type_of (core_world w) p (queue_of (core_world w) k.may.parts.events) (running_of k.may.parts.events)) (sym c.pending.ensures) k.may.parts.core_stands.pending in
+    let why = c.in_ok-why.ensures.why (core_world w) (queue_of (core_world w) k.may.parts.events) (running_of k.may.parts.events) h waits k.may.parts.agrees.running is in
     let valid = sym why ∙ ap (option_map refusal_of) c.in_default.is in
     c.in_ok-record.ensures.finished w h k.may valid

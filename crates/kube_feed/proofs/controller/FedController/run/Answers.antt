@@ -47,7 +47,7 @@ returns-in-Err-Faulted-Unnamed-clause-unnamed g c =
       refl,
       λ w h s.
           let q = b w h s in
-          (q.0, q.1, broken-same g.R.RootSource g.S.RelatedSet g.B.Backoff g.R.Object.Resource w (faults.Unnamed arm.source) h (turns_of g.R.Object.Resource.type_of c.args.turns.items) c.args.self.now q.0 c.take_turns.new.controller c.fail.new.self (ap (λ (z : Feeding _ _ _ _ _). z.asks) c.fail.ensures.spent) q.2),
+          (q.0, q.1, broken-same g.R.RootSource g.S.RelatedSet g.B.Backoff g.R.Object.Resource w (faults.Unnamed arm.source) h (turns_of g.R.Object.Resource.type_of c.args.turns.items) c.args.self.now q.0 c.take_turns.new.controller c.fail.new.self (g.Rc.Reconciler.handed c.args.reconciler.now) (g.Rc.Reconciler.handed c.take_turns.new.reconciler) (ap (λ (z : Feeding _ _ _ _ _). z.asks) c.fail.ensures.spent) (ap (λ (z : Feeding _ _ _ _ _). z.reader) c.fail.ensures.spent) q.2),
     )
 
 pub returns-in-Err-Faulted-Unnamed-clause-handed_unnamed : goal.returns-in-Err-Faulted-Unnamed-clause-handed_unnamed
@@ -65,7 +65,7 @@ returns-in-Err-Faulted-NoMemory-clause-no_memory g c =
     let b = faulted-now arm.field-0 arm.field-0-0 faults.NoMemory _ arm.field-0-is arm.field-0-0-is arm.ensures.broken in
     rw (c.fail-in-Err-Faulted-NoMemory.ensures.error, c.trace_of-trace-in-Err-Faulted-NoMemory.ensures) (λ w h s.
     let q = b w h s in
-    (q.0, q.1, broken-same g.R.RootSource g.S.RelatedSet g.B.Backoff g.R.Object.Resource w faults.NoMemory h (turns_of g.R.Object.Resource.type_of c.args.turns.items) c.args.self.now q.0 c.take_turns.new.controller c.fail-in-Err-Faulted-NoMemory.new.self (ap (λ (z : Feeding _ _ _ _ _). z.asks) c.fail-in-Err-Faulted-NoMemory.ensures.spent) q.2))
+    (q.0, q.1, broken-same g.R.RootSource g.S.RelatedSet g.B.Backoff g.R.Object.Resource w faults.NoMemory h (turns_of g.R.Object.Resource.type_of c.args.turns.items) c.args.self.now q.0 c.take_turns.new.controller c.fail-in-Err-Faulted-NoMemory.new.self (g.Rc.Reconciler.handed c.args.reconciler.now) (g.Rc.Reconciler.handed c.take_turns.new.reconciler) (ap (λ (z : Feeding _ _ _ _ _). z.asks) c.fail-in-Err-Faulted-NoMemory.ensures.spent) (ap (λ (z : Feeding _ _ _ _ _). z.reader) c.fail-in-Err-Faulted-NoMemory.ensures.spent) q.2))
 
 pub returns-clause-something_before : goal.returns-clause-something_before
 returns-clause-something_before g c = rw (c.fail-in-Err-Faulted-Spent.ensures.error, c.trace_of-trace-in-Err-Faulted-Spent.ensures) c.take_turns.ensures.something
@@ -76,4 +76,4 @@ returns-clause-no_memory g c =
     let b = faulted-now arm.field-0 arm.field-0-0 faults.Spent _ arm.field-0-is arm.field-0-0-is arm.ensures.broken in
     rw (c.fail-in-Err-Faulted-Spent.ensures.error, c.trace_of-trace-in-Err-Faulted-Spent.ensures) (λ w h s.
     let q = b w h s in
-    absurd (never-spent g.R.RootSource g.S.RelatedSet g.B.Backoff g.R.Object.Resource w h (turns_of g.R.Object.Resource.type_of c.args.turns.items) c.args.self.now q.0 c.take_turns.new.controller q.2))
+    absurd (never-spent g.R.RootSource g.S.RelatedSet g.B.Backoff g.R.Object.Resource w h (turns_of g.R.Object.Resource.type_of c.args.turns.items) c.args.self.now q.0 c.take_turns.new.controller (g.Rc.Reconciler.handed c.args.reconciler.now) (g.Rc.Reconciler.handed c.take_turns.new.reconciler) q.2))

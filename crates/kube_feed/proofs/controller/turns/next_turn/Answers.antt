@@ -13,7 +13,7 @@ use Rattle.kube_feed.proofs.controller.turns.next_turn.Goals as goal
 pub returns-in_err-why-clause-broken : goal.returns-in_err-why-clause-broken
 returns-in_err-why-clause-broken g c =
     let p = err_from_is_err_and c.from_residual.result c.from_residual.ensures.1 in
-    rw (p.1, p.2) (λ w h k. nothing-lost g.R.RootSource g.S.RelatedSet g.B.Backoff g.R.Object.Resource w h (turn_of g.R.Object.Resource.type_of c.args.turn) c.args.controller.now k)
+    rw (p.1, p.2) (λ w h k. nothing-lost g.R.RootSource g.S.RelatedSet g.B.Backoff g.R.Object.Resource w h (turn_of g.R.Object.Resource.type_of c.args.turn) c.args.controller.now (g.Rc.Reconciler.handed c.args.reconciler.now) k)
 
 pub returns-in-Some-clause-refused : goal.returns-in-Some-clause-refused
 returns-in-Some-clause-refused g c = (
@@ -21,21 +21,23 @@ returns-in-Some-clause-refused g c = (
   refl,
   λ w h now.
       let k = subst (StandsFor g.R.RootSource g.S.RelatedSet g.B.Backoff g.R.Object.Resource w h) (sym c.controller.view_is) now in
-      sym (c.in_ok-why.ensures (core_world w) (events_of w h) (running h) h k.parts.waits refl k.last) ∙ ap (option_map refusal_of) c.in-Some.is,
+      sym (c.in_ok-why.ensures.why (core_world w) (events_of w h) (running h) h k.parts.waits refl k.last) ∙ ap (option_map refusal_of) c.in-Some.is,
 )
 
 pub returns-in_err-record-clause-broken : goal.returns-in_err-record-clause-broken
 returns-in_err-record-clause-broken g c =
     let p = err_from_is_err_and c.from_residual-in_err-record.result c.from_residual-in_err-record.ensures.1 in
+    let before = c.in_err-record.ensures.handed_before in
     rw (p.1, p.2) (λ w h now.
     let k = subst (StandsFor g.R.RootSource g.S.RelatedSet g.B.Backoff g.R.Object.Resource w h) (sym c.controller.view_is) now in
-    let valid = sym (c.in_ok-why.ensures (core_world w) (events_of w h) (running h) h k.parts.waits refl k.last) ∙ ap (option_map refusal_of) c.in_default.is in
-    broken-of g.R.RootSource g.S.RelatedSet g.B.Backoff g.R.Object.Resource w _ h (turn_of g.R.Object.Resource.type_of c.args.turn) _ c.args.controller.now c.take_turn.new.asks.root c.take_turn.new.asks.related c.controller.view_is valid (c.in_err-record.ensures.ended w h k.parts valid))
+    let valid = sym (c.in_ok-why.ensures.why (core_world w) (events_of w h) (running h) h k.parts.waits refl k.last) ∙ ap (option_map refusal_of) c.in_default.is in
+    broken-of g.R.RootSource g.S.RelatedSet g.B.Backoff g.R.Object.Resource w _ h (turn_of g.R.Object.Resource.type_of c.args.turn) _ c.args.controller.now c.take_turn.new.asks.root c.take_turn.new.asks.related
+    c.take_turn.new.parts.reader (g.Rc.Reconciler.handed c.args.reconciler.now) (g.Rc.Reconciler.handed c.take_turn.new.reconciler) before.0 c.controller.view_is valid (c.in_err-record.ensures.ended w h k.parts valid) (before.2 w h k.parts valid) before.1)
 
 pub returns-clause-next : goal.returns-clause-next
 returns-clause-next g c w h now going =
     let k = subst (StandsFor g.R.RootSource g.S.RelatedSet g.B.Backoff g.R.Object.Resource w h) (sym c.controller.view_is) now in
-    let valid = sym (c.in_ok-why.ensures (core_world w) (events_of w h) (running h) h k.parts.waits refl k.last) ∙ ap (option_map refusal_of) c.in_default.is in
+    let valid = sym (c.in_ok-why.ensures.why (core_world w) (events_of w h) (running h) h k.parts.waits refl k.last) ∙ ap (option_map refusal_of) c.in_default.is in
     let t = c.in_ok-record.ensures.taken w h k.parts valid in (
       t.0,
       subst (λ (x : Feeding g.row.R.Denot g.row.S.Denot g.row.B.Denot g.row.R-Object.Denot g.row.R-Object-DynamicType.Denot).
@@ -46,5 +48,5 @@ returns-clause-next g c w h now going =
 pub returns-clause-finished : goal.returns-clause-finished
 returns-clause-finished g c w h now =
     let k = subst (StandsFor g.R.RootSource g.S.RelatedSet g.B.Backoff g.R.Object.Resource w h) (sym c.controller.view_is) now in
-    let valid = sym (c.in_ok-why.ensures (core_world w) (events_of w h) (running h) h k.parts.waits refl k.last) ∙ ap (option_map refusal_of) c.in_default.is in
+    let valid = sym (c.in_ok-why.ensures.why (core_world w) (events_of w h) (running h) h k.parts.waits refl k.last) ∙ ap (option_map refusal_of) c.in_default.is in
     c.in_ok-record.ensures.finished w h k.parts valid

@@ -95,11 +95,12 @@ returns-in_err-add_turn-clause-broken g c =
     (YieldsList-turn road c.loop-turn.yielded c.loop-turn.turn-iterator c.loop-turn.yielded_by _ c.next.new.self c.in-Some.turn c.in-Some.is c.next.ensures.steps) in
     let err = c.in_err-add_turn.ensures.err in
     let type_of = g.R.Object.Resource.type_of in
+    let handed = c.loop-turn.invariant.handed ∙ ap (λ (rs : List (TurnRecord _ _ _)). grown_by (g.Rc.Reconciler.handed c.args.reconciler.now) (handed_by (taken_by (map (record_of type_of) rs)))) (sym err.0) in
     let p = err_from_is_err_and c.from_residual.result c.from_residual.ensures.1 in
     rw (p.1, p.2) (faulted-map c.in_err-add_turn.field-0.0 _ _
     (λ f b w h k.
     let now = done-at g.R.RootSource g.S.RelatedSet g.B.Backoff g.R.Object.Resource (Answers g.P.Fn c.args.error_policy.now (arc_value c.args.context.now)) c.in-Some.turn c.loop-turn.yielded c.loop-turn.records.items c.args.controller.now c.loop-turn.controller c.add_turn.new.controller (g.Rc.Reconciler.handed c.args.reconciler.now) (g.Rc.Reconciler.handed c.loop-turn.reconciler) (g.Rc.Reconciler.handed c.add_turn.new.reconciler) w h c.add_turn.new.records.items err.0 (c.loop-turn.invariant.done w h k) in
-    broken-end g.R.RootSource g.S.RelatedSet g.B.Backoff g.R.Object.Resource (Answers g.P.Fn c.args.error_policy.now (arc_value c.args.context.now)) c.in-Some.turn c.loop-turn.yielded c.add_turn.new.records.items c.args.controller.now c.loop-turn.controller c.add_turn.new.controller (g.Rc.Reconciler.handed c.args.reconciler.now) (g.Rc.Reconciler.handed c.loop-turn.reconciler) (g.Rc.Reconciler.handed c.add_turn.new.reconciler) c.args.turns.items split.0 split.1 w h now err.1 f (b w (h ++ steps (map (turn_of type_of) c.loop-turn.yielded) now.0) now.3.stands)
+    broken-end g.R.RootSource g.S.RelatedSet g.B.Backoff g.R.Object.Resource (Answers g.P.Fn c.args.error_policy.now (arc_value c.args.context.now)) c.in-Some.turn c.loop-turn.yielded c.add_turn.new.records.items c.args.controller.now c.loop-turn.controller c.add_turn.new.controller (g.Rc.Reconciler.handed c.args.reconciler.now) (g.Rc.Reconciler.handed c.loop-turn.reconciler) (g.Rc.Reconciler.handed c.add_turn.new.reconciler) c.args.turns.items split.0 split.1 w h now err.1 f handed (b w (h ++ steps (map (turn_of type_of) c.loop-turn.yielded) now.0) now.3.stands)
     ) c.in_err-add_turn.ensures.broken)
 
 pub returns-in_err-add_turn-clause-starts_nothing : goal.returns-in_err-add_turn-clause-starts_nothing

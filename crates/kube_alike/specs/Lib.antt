@@ -1,0 +1,4 @@
+-- the definitions that the contracts cite
+pub mod Settles
+pub mod Starts
+pub mod StartsRows
