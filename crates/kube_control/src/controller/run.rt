@@ -1,6 +1,6 @@
 //! Runs of a controller over turns.
 
-ghost use Rattle.std.specs.Prelude.{◌≡◌, ◌<◌, ◌+◌, ◌^◌, ◌++◌, [], Err, List, true, false, IfErr, IfOk, IsErrAnd, OnErr, OnOk, length, map, take};
+ghost use Rattle.std.specs.Prelude.{◌≡◌, ◌<◌, ◌+◌, ◌^◌, ◌++◌, [], Err, List, true, false, IfErr, IfOk, IsErrAnd, OnOk, length, map, take};
 ghost use Rattle.std.specs.Arc.{arc_value};
 ghost use Rattle.std.specs.List.{AllByRecursion};
 ghost use Rattle.kube_model.specs.World.{World};

@@ -8,7 +8,7 @@ ghost use Rattle.kube_model.specs.World.{World};
 ghost use Rattle.kube_model.specs.History.{Step};
 ghost use Rattle.kube_model.specs.Raw.{grown_by};
 ghost use Rattle.kube_model.specs.Takes.{running};
-ghost use Rattle.kube_model.specs.Traces.{IsRefusedAfter, IsTrace, refusal, steps, unread};
+ghost use Rattle.kube_model.specs.Traces.{IsRefusedAfter, refusal, unread};
 ghost use Rattle.kube_core.specs.Cores.{HasSameHandles};
 ghost use Rattle.kube_turn.specs.Records.{record_of, records_of, turn_of, turns_of};
 ghost use Rattle.kube_turn.specs.declared.record.TurnRecord.{TurnRecord};
