@@ -11,6 +11,7 @@ use Rattle.kube_model.specs.Raw.{grown_by}
 use Rattle.kube_model.specs.Reads.{Reads}
 use Rattle.kube_model.specs.Takes.{running}
 use Rattle.kube_model.specs.Traces.{Made, Refusal, refusal, steps}
+use Rattle.kube_history.proofs.Endings.{each-shuts}
 use Rattle.kube_streams.specs.declared.backoff.Backoff as backoff
 use Rattle.kube_asks.specs.declared.asks.AskFault.{AskFault}
 use Rattle.kube_asks.specs.declared.root.RootSource as root_source
@@ -20,12 +21,16 @@ use Rattle.kube_turn.specs.declared.record.TurnRecord.{TurnRecord as HeldRecord}
 use Rattle.kube_turn.specs.Records.{record_of, turn_of}
 use Rattle.kube_step.specs.Finishes.{AreFinished}
 use Rattle.kube_step.specs.HandOvers.{handed_by, taken_by}
+use Rattle.kube_step.specs.Policies.{answered_by}
 use Rattle.kube_step.specs.Takes.{IsSomething}
 use Rattle.kube_step.proofs.Taking.{all-push}
+use Rattle.kube_control.proofs.Budgets.{each-keeps}
+use Rattle.kube_control.proofs.Histories.{each-may}
+use Rattle.kube_control.proofs.Refusals.{refused-invalid, trace-valid}
 use Rattle.kube_control.proofs.Runs.{handed-push}
 use Rattle.kube_feed.specs.Fed.{Feeding, StandsFor}
 use Rattle.kube_feed.specs.Reads.{AreReadIn, IsReadIn}
-use Rattle.kube_feed.specs.Runs.{AreFinishedIn, HaveRun, IsBrokenOff, IsNextTurn, WereBrokenOff, WereRefused, records_in}
+use Rattle.kube_feed.specs.Runs.{AreFinishedIn, AreRecorded, HaveRun, IsBrokenOff, IsBrokenRun, IsNextTurn, IsRefusedRun, IsWholeRun, WereRefused, records_in}
 use Rattle.kube_feed.proofs.Runs.{finished-more, finished-push, read-push, run-broken, run-long, run-push, run-refused, run-stay}
 
 take-front : {A : Type 0} (ys zs : List A) → take (length ys) (ys ++ zs) ≡ ys
@@ -35,6 +40,24 @@ take-front (y ∷ ys) zs = ap (λ us. y ∷ us) (take-front ys zs)
 get-front : {A : Type 0} (ys : List A) (x : A) (zs : List A) → slice_get (ys ++ x ∷ zs) (length ys) ≡ Some x
 get-front [] x zs = refl
 get-front (y ∷ ys) x zs = get-front ys x zs
+
+module _ {R S B O D E : Type 0} (root : root_source.Ghosts R O D) (related : related_set.Ghosts S O D) (delays : backoff.Ghosts B) (object : resource.Ghosts O D) (policy : O → E → Action → Type 0)
+    (w : World O B) (h : List (Step O)) (ts : List (HeldTurn O E D)) (c : Feeding R S B O D) (rs : List (HeldRecord O E D)) (c' : Feeding R S B O D) where
+  -- all turns were taken
+  pub whole-run : (ms : List (Made O)) → AreRecorded object.type_of policy h ts rs ms → AreReadIn object.meta_of ms c.reader c'.reader
+      → HaveRun root related delays object w h (map (turn_of object.type_of) ts) c ms c' → IsWholeRun root related delays object policy w h ts c rs c'
+  whole-run ms recorded read ran =
+      let turns = map (turn_of object.type_of) ts in
+      let policies = answered_by (records_in ms) in record {
+        made = ms;
+        recorded = recorded;
+        read = read;
+        ran = ran;
+        valid = trace-valid w policies h turns ms ran.traced;
+        once = each-may w (h ++ steps turns ms) ran.stands.of_trace;
+        shuts = each-shuts w policies h turns ms ran.traced;
+        budget = each-keeps w policies h turns ms ran.traced;
+      }
 
 module _ {R S B O D E : Type 0} (root : root_source.Ghosts R O D) (related : related_set.Ghosts S O D) (delays : backoff.Ghosts B) (object : resource.Ghosts O D) (policy : O → E → Action → Type 0)
     (t : HeldTurn O E D) (ys : List (HeldTurn O E D)) (rs : List (HeldRecord O E D)) (c c' c'' : Feeding R S B O D) (had had' had'' : Option (List (Reference × O))) where
@@ -131,23 +154,34 @@ module _ {R S B O D E : Type 0} (root : root_source.Ghosts R O D) (related : rel
       front : map (turn_of object.type_of) ys ≡ take (length k.0) (map (turn_of object.type_of) all)
       front = sym (ap₂ (λ n us. take n us) long all-are ∙ take-front (map (turn_of object.type_of) ys) (turn_of object.type_of t ∷ map (turn_of object.type_of) rest))
 
-      pub refused-end : (why : Refusal) → c'' ≡ c' → refusal (h ++ steps (map (turn_of object.type_of) ys) k.0) (turn_of object.type_of t) ≡ Some why
-          → (ms : List (Made O)) × (records_in ms ≡ map (record_of object.type_of) rs) × AreReadIn object.meta_of ms c.reader c''.reader × WereRefused root related delays object w h (map (turn_of object.type_of) all) c ms why c''
-      refused-end why same e = (
-        k.0,
-        k.1,
-        subst (λ (d : Feeding R S B O D). AreReadIn object.meta_of k.0 c.reader d.reader) (sym same) k.2,
-        subst (λ d. WereRefused root related delays object w h (map (turn_of object.type_of) all) c k.0 why d) (sym same)
-            (run-refused root related delays object w h (map (turn_of object.type_of) ys) c k.0 c' k.3 going (map (turn_of object.type_of) all) (turn_of object.type_of t) (map (turn_of object.type_of) rest) all-are front why e),
-      )
+      recorded : AreRecorded object.type_of policy h all rs k.0
+      recorded = record {
+        records = k.1;
+        finished =
+            subst (λ us. AreFinishedIn object.type_of policy h us rs k.0) (sym whole)
+            (finished-more object.type_of policy h ys (t ∷ rest) rs k.0 (as-long rs k.0 k.1) k.4 (omega (arith, as-long rs k.0 k.1, long, length-map ys (turn_of object.type_of))));
+      }
+
+      pub refused-end : (why : Refusal) → c'' ≡ c' → refusal (h ++ steps (map (turn_of object.type_of) ys) k.0) (turn_of object.type_of t) ≡ Some why → IsRefusedRun root related delays object policy w h all c rs why c''
+      refused-end why same e =
+          let refused : WereRefused root related delays object w h (map (turn_of object.type_of) all) c k.0 why c'' =
+          subst (λ d. WereRefused root related delays object w h (map (turn_of object.type_of) all) c k.0 why d) (sym same)
+          (run-refused root related delays object w h (map (turn_of object.type_of) ys) c k.0 c' k.3 going (map (turn_of object.type_of) all) (turn_of object.type_of t) (map (turn_of object.type_of) rest) all-are front why e) in record {
+            made = k.0;
+            recorded = recorded;
+            read = subst (λ (d : Feeding R S B O D). AreReadIn object.meta_of k.0 c.reader d.reader) (sym same) k.2;
+            refused = refused;
+            invalid = refused-invalid w (answered_by (records_in k.0)) h (map (turn_of object.type_of) all) k.0 why refused.refused;
+          }
 
       pub broken-end : (f : AskFault) → had' ≡ grown_by had (handed_by (taken_by (map (record_of object.type_of) rs)))
           → IsBrokenOff root related object w f (h ++ steps (map (turn_of object.type_of) ys) k.0) (turn_of object.type_of t) c'.asks.root c'.asks.related c'.reader c''.asks.root c''.asks.related c''.reader had' had''
-          → (ms : List (Made O)) × (records_in ms ≡ map (record_of object.type_of) rs) × WereBrokenOff root related delays object w f h (map (turn_of object.type_of) all) c ms c'' had had''
-      broken-end f grew b = (
-        k.0,
-        k.1,
-        run-broken root related delays object w h (map (turn_of object.type_of) ys) c k.0 c' k.3 going (map (turn_of object.type_of) all) (turn_of object.type_of t) (map (turn_of object.type_of) rest) all-are front f c'' had had' had''
+          → IsBrokenRun root related delays object policy w f h all c rs c'' had had''
+      broken-end f grew b = record {
+        made = k.0;
+        recorded = recorded;
+        broken =
+            run-broken root related delays object w h (map (turn_of object.type_of) ys) c k.0 c' k.3 going (map (turn_of object.type_of) all) (turn_of object.type_of t) (map (turn_of object.type_of) rest) all-are front f c'' had had' had''
             (ap₂ (λ us n. slice_get us n) all-are long ∙ get-front (map (turn_of object.type_of) ys) (turn_of object.type_of t) (map (turn_of object.type_of) rest))
-            k.2 (grew ∙ ap (λ (qs : List (TurnRecord O)). grown_by had (handed_by (taken_by qs))) (sym k.1)) b,
-      )
+            k.2 (grew ∙ ap (λ (qs : List (TurnRecord O)). grown_by had (handed_by (taken_by qs))) (sym k.1)) b;
+      }

@@ -8,7 +8,8 @@ use Rattle.kube_model.specs.History.{Taken, Turn, TurnRecord, Step, dated, excha
 use Rattle.kube_model.specs.Named.{RootIsNamed, EachIsNamed, AreNamedTurns}
 use Rattle.kube_model.specs.Raw.{grown_by}
 use Rattle.kube_model.specs.Takes.{running}
-use Rattle.kube_model.specs.Traces.{IsRecord, IsTrace, IsRefusedAfter, IsValid, Made, Refusal, has_ended, step, steps}
+use Rattle.kube_model.specs.Traces.{AreValid, IsRecord, IsTrace, IsRefusedAfter, IsValid, Made, Refusal, has_ended, step, steps}
+use Rattle.kube_history.specs.Running.{EachShutsDown}
 use Rattle.kube_streams.specs.declared.backoff.Backoff as backoff
 use Rattle.kube_reflect.specs.Writers.{Reader}
 use Rattle.kube_asks.specs.declared.asks.AskFault.{AskFault}
@@ -16,12 +17,14 @@ use Rattle.kube_asks.specs.declared.root.RootSource as root_source
 use Rattle.kube_asks.specs.declared.set.RelatedSet as related_set
 use Rattle.kube_turn.specs.declared.turn.Turn.{Turn as HeldTurn}
 use Rattle.kube_turn.specs.declared.record.TurnRecord.{TurnRecord as HeldRecord}
-use Rattle.kube_turn.specs.Records.{turn_of}
+use Rattle.kube_turn.specs.Records.{records_of, turn_of, turns_of}
 use Rattle.kube_step.specs.Calls.{ArePolled, dated_in}
 use Rattle.kube_step.specs.Errors.{IfUnnamedAsk}
 use Rattle.kube_step.specs.Finishes.{AreFinished}
 use Rattle.kube_step.specs.HandOvers.{handed_by, taken_by}
 use Rattle.kube_step.specs.Policies.{answered_in, answered_by}
+use Rattle.kube_control.specs.Budgets.{EachKeepsBudget}
+use Rattle.kube_control.specs.Histories.{EachMayRun}
 use Rattle.kube_feed.specs.Asked.{AreEndedBy}
 use Rattle.kube_feed.specs.Fed.{Feeding, StandsFor}
 use Rattle.kube_feed.specs.Reads.{AreReadIn}
@@ -39,6 +42,11 @@ module _ {O E D : Type 0} (type_of : D → ObjectType) (policy : O → E → Act
   AreFinishedIn h (t ∷ ts) (r ∷ rs) [] = ⊥
   AreFinishedIn h (t ∷ ts) (r ∷ rs) (m ∷ ms) =
       AreFinished type_of policy (running h) t.finishes r.finished × AreFinishedIn (h ++ step (turn_of type_of t) m ∷ []) ts rs ms
+
+  -- these are the records of what the turns made, with what the error policy answered of each failed reconcile
+  pub record AreRecorded (h : List (Step O)) (ts : List (HeldTurn O E D)) (rs : List (HeldRecord O E D)) (ms : List (Made O)) : Type 0 where
+    pub records : records_in ms ≡ records_of type_of rs
+    pub finished : AreFinishedIn h ts rs ms
 
 module _ {R S B O D : Type 0} (root : root_source.Ghosts R O D) (related : related_set.Ghosts S O D) (object : resource.Ghosts O D) (w : World O B) where
   -- a fault broke a turn off after this history; where an object has no name the turn is valid. What is told of the sources is what was asked until then, old and new are the reader before the turn and after it, and had and has are what the reconciler tells that it was handed: the turn's first takes, at most
@@ -82,3 +90,29 @@ module _ {R S B O D : Type 0} (root : root_source.Ghosts R O D) (related : relat
     pub next : slice_get ts (length ms) ≡ Some turn
     pub going : has_ended (h ++ steps (take (length ms) ts) ms) ≡ false
     pub broken : IsBrokenOff root related object w f (h ++ steps (take (length ms) ts) ms) turn reached_root reached_related reached_reader c'.asks.root c'.asks.related c'.reader (grown_by had (handed_by (taken_by (records_in ms)))) has
+
+module _ {R S B O D E : Type 0} (root : root_source.Ghosts R O D) (related : related_set.Ghosts S O D) (delays : backoff.Ghosts B) (object : resource.Ghosts O D) (policy : O → E → Action → Type 0) (w : World O B) where
+  -- a run of these turns after this history gave these records: what the turns made is their trace, each read is one of the reader, in order, and the turns are valid. After each turn no two equal references run, and at most as many as the limit allows; after shutdown nothing is taken, and no record follows one that has ended; and each turn kept to its budget
+  pub record IsWholeRun (h : List (Step O)) (ts : List (HeldTurn O E D)) (c : Feeding R S B O D) (rs : List (HeldRecord O E D)) (c' : Feeding R S B O D) : Type 0 where
+    pub made : List (Made O)
+    pub recorded : AreRecorded object.type_of policy h ts rs made
+    pub read : AreReadIn object.meta_of made c.reader c'.reader
+    pub ran : HaveRun root related delays object w h (turns_of object.type_of ts) c made c'
+    pub valid : AreValid h (turns_of object.type_of ts) made
+    pub once : EachMayRun w (h ++ steps (turns_of object.type_of ts) made)
+    pub shuts : EachShutsDown w h (steps (turns_of object.type_of ts) made)
+    pub budget : EachKeepsBudget w (steps (turns_of object.type_of ts) made)
+
+  -- a run gave these records, of its first turns, and refused the next turn, which isn't valid
+  pub record IsRefusedRun (h : List (Step O)) (ts : List (HeldTurn O E D)) (c : Feeding R S B O D) (rs : List (HeldRecord O E D)) (why : Refusal) (c' : Feeding R S B O D) : Type 0 where
+    pub made : List (Made O)
+    pub recorded : AreRecorded object.type_of policy h ts rs made
+    pub read : AreReadIn object.meta_of made c.reader c'.reader
+    pub refused : WereRefused root related delays object w h (turns_of object.type_of ts) c made why c'
+    pub invalid : AreValid h (turns_of object.type_of ts) made → ⊥
+
+  -- a run gave these records, of its first turns, and a fault broke off the next turn. had and has are what the reconciler tells that it was handed
+  pub record IsBrokenRun (f : AskFault) (h : List (Step O)) (ts : List (HeldTurn O E D)) (c : Feeding R S B O D) (rs : List (HeldRecord O E D)) (c' : Feeding R S B O D) (had has : Option (List (Reference × O))) : Type 0 where
+    pub made : List (Made O)
+    pub recorded : AreRecorded object.type_of policy h ts rs made
+    pub broken : WereBrokenOff root related delays object w f h (turns_of object.type_of ts) c made c' had has

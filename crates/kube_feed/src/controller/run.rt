@@ -1,22 +1,19 @@
 //! Runs of a controller that is fed, over turns.
 
-ghost use Rattle.std.specs.Prelude.{◌≡◌, ◌<◌, ◌+◌, ◌^◌, ◌++◌, [], Err, List, true, false, IfErr, IfOk, IsErrAnd, OnOk, length};
+ghost use Rattle.std.specs.Prelude.{◌≡◌, ◌<◌, ◌+◌, ◌^◌, [], Err, List, true, false, IfErr, IfOk, IsErrAnd, OnOk, length};
 ghost use Rattle.std.specs.Arc.{arc_value};
 ghost use Rattle.std.specs.List.{AllByRecursion};
 ghost use Rattle.kube_model.specs.World.{World};
 ghost use Rattle.kube_model.specs.History.{Step};
 ghost use Rattle.kube_model.specs.Raw.{grown_by};
-ghost use Rattle.kube_model.specs.Traces.{AreValid, Made, steps};
-ghost use Rattle.kube_history.specs.Running.{EachShutsDown};
-ghost use Rattle.kube_turn.specs.Records.{records_of, turns_of};
+ghost use Rattle.kube_turn.specs.Records.{records_of};
 ghost use Rattle.kube_step.specs.HandOvers.{handed_by, taken_by};
 ghost use Rattle.kube_step.specs.Policies.{Answers};
 ghost use Rattle.kube_step.specs.Takes.{IsSomething};
 ghost use Rattle.kube_control.specs.Errors.{IfFatal, IfNoMemory, IfRefused, IfSpent, IfUnnamed, IsSpent, records_before};
-ghost use Rattle.kube_control.specs.Histories.{EachMayRun};
 ghost use Rattle.kube_feed.specs.Fed.{StandsFor};
-ghost use Rattle.kube_feed.specs.Reads.{AreReadIn, IsLater};
-ghost use Rattle.kube_feed.specs.Runs.{AreFinishedIn, HaveRun, WereBrokenOff, WereRefused, records_in};
+ghost use Rattle.kube_feed.specs.Reads.{IsLater};
+ghost use Rattle.kube_feed.specs.Runs.{IsRefusedRun, IsWholeRun, IsBrokenRun};
 ghost use Rattle.kube_asks.specs.declared.asks.AskFault.{AskFault};
 
 use crate::controller::FedController;
@@ -68,12 +65,9 @@ impl<R: RootSource, S: RelatedSet<R::Object>, B: Backoff> FedController<R, S, B>
         // that was asked, and each look-up, reload and shown store, and each poll of whether the store is ready, is one read, in
         // order, by a list that begins with that of the read before. For each failed reconcile the action is what the error policy
         // answered of the object that was handed over. After each turn no two equal references run, and at most as many as the
-        // limit allows. After shutdown nothing is taken, and no record follows one that has ended.
+        // limit allows. After shutdown nothing is taken, and no record follows one that has ended. Each turn kept to its budget.
         ensures trace { (w : World R.Object B) (h : List (Step R.Object)) → StandsFor R.RootSource S.RelatedSet B.Backoff R.Object.Resource w h self.old
-            → IfOk result (λ r. (ms : List (Made R.Object)) × (records_in ms ≡ records_of R.Object.type_of r.records) × AreReadIn R.Object.meta_of ms self.old.reader self.new.reader
-            × HaveRun R.RootSource S.RelatedSet B.Backoff R.Object.Resource w h (turns_of R.Object.type_of turns.items) self.old ms self.new
-            × AreFinishedIn R.Object.type_of (Answers P.Fn error_policy.now (arc_value context)) h turns.items r.records ms
-            × EachMayRun w (h ++ steps (turns_of R.Object.type_of turns.items) ms) × EachShutsDown w h (steps (turns_of R.Object.type_of turns.items) ms)) }
+            → IfOk result (λ r. IsWholeRun R.RootSource S.RelatedSet B.Backoff R.Object.Resource (Answers P.Fn error_policy.now (arc_value context)) w h turns.items self.old r.records self.new) }
 
         // Where the reconciler tells its list, it grew by what the trace started, in order.
         ensures handed { IfOk result (λ r. Rc.handed reconciler.new ≡ grown_by (Rc.handed reconciler.old) (handed_by (taken_by (records_of R.Object.type_of r.records)))) }
@@ -86,25 +80,24 @@ impl<R: RootSource, S: RelatedSet<R::Object>, B: Backoff> FedController<R, S, B>
         ensures reader { IsLater self.old.reader self.new.reader }
 
         // A turn is refused exactly for its cause, and so where the turns are not valid. It changed nothing and asked nothing: the
-        // turns before it were taken, and the controller goes on after them.
+        // turns before it were taken, with what the error policy answered, and the controller goes on after them.
         ensures refused { IfErr result (λ e. IfRefused e (λ turn why. (turn ≡ length (records_before e))
             × ((w : World R.Object B) (h : List (Step R.Object)) → StandsFor R.RootSource S.RelatedSet B.Backoff R.Object.Resource w h self.old
-            → (ms : List (Made R.Object)) × (records_in ms ≡ records_of R.Object.type_of (records_before e)) × AreReadIn R.Object.meta_of ms self.old.reader self.new.reader
-            × WereRefused R.RootSource S.RelatedSet B.Backoff R.Object.Resource w h (turns_of R.Object.type_of turns.items) self.old ms why self.new
-            × (AreValid h (turns_of R.Object.type_of turns.items) ms → ⊥)))) }
+            → IsRefusedRun R.RootSource S.RelatedSet B.Backoff R.Object.Resource (Answers P.Fn error_policy.now (arc_value context)) w h turns.items self.old (records_before e) why self.new))) }
 
         // An object without a name came from its source, or its stream told of one, asked by the next call of the turn after
-        // those that were taken.
+        // those that were taken, with what the error policy answered.
         ensures unnamed { IfErr result (λ e. IfUnnamed e (λ turn source. (turn ≡ length (records_before e))
             × ((w : World R.Object B) (h : List (Step R.Object)) → StandsFor R.RootSource S.RelatedSet B.Backoff R.Object.Resource w h self.old
-            → (ms : List (Made R.Object)) × (records_in ms ≡ records_of R.Object.type_of (records_before e))
-            × WereBrokenOff R.RootSource S.RelatedSet B.Backoff R.Object.Resource w (AskFault.Unnamed source) h (turns_of R.Object.type_of turns.items) self.old ms self.new (Rc.handed reconciler.old) (Rc.handed reconciler.new)))) }
+            → IsBrokenRun R.RootSource S.RelatedSet B.Backoff R.Object.Resource (Answers P.Fn error_policy.now (arc_value context)) w (AskFault.Unnamed source) h turns.items self.old (records_before e) self.new
+            (Rc.handed reconciler.old) (Rc.handed reconciler.new)))) }
 
-        // After want of memory all turns that were done have their records, the sources were asked at most once more than the
-        // turn under way owed, and the reconciler was handed at most the first takes of that turn, by what it read until then.
+        // After want of memory all turns that were done have their records, with what the error policy answered, the sources were
+        // asked at most once more than the turn under way owed, and the reconciler was handed at most the first takes of that
+        // turn, by what it read until then.
         ensures no_memory { IfErr result (λ e. IfNoMemory e ((w : World R.Object B) (h : List (Step R.Object)) → StandsFor R.RootSource S.RelatedSet B.Backoff R.Object.Resource w h self.old
-            → (ms : List (Made R.Object)) × (records_in ms ≡ records_of R.Object.type_of (records_before e))
-            × WereBrokenOff R.RootSource S.RelatedSet B.Backoff R.Object.Resource w AskFault.NoMemory h (turns_of R.Object.type_of turns.items) self.old ms self.new (Rc.handed reconciler.old) (Rc.handed reconciler.new))) }
+            → IsBrokenRun R.RootSource S.RelatedSet B.Backoff R.Object.Resource (Answers P.Fn error_policy.now (arc_value context)) w AskFault.NoMemory h turns.items self.old (records_before e) self.new
+            (Rc.handed reconciler.old) (Rc.handed reconciler.new))) }
 
         // A turn that is refused, and one in which such an object came, start nothing.
         ensures handed_refused { IfErr result (λ e. IfRefused e (λ turn why. Rc.handed reconciler.new ≡ grown_by (Rc.handed reconciler.old) (handed_by (taken_by (records_of R.Object.type_of (records_before e)))))) }

@@ -9,8 +9,8 @@ ghost use Rattle.kube_model.specs.History.{Step};
 ghost use Rattle.kube_model.specs.Raw.{grown_by};
 ghost use Rattle.kube_model.specs.Reads.{Reads};
 ghost use Rattle.kube_model.specs.Takes.{running};
-ghost use Rattle.kube_model.specs.Traces.{Made, refusal};
-ghost use Rattle.kube_turn.specs.Records.{record_of, records_of, turn_of, turns_of};
+ghost use Rattle.kube_model.specs.Traces.{refusal};
+ghost use Rattle.kube_turn.specs.Records.{record_of, records_of, turn_of};
 ghost use Rattle.kube_turn.specs.declared.record.TurnRecord.{TurnRecord};
 ghost use Rattle.kube_step.specs.Errors.{IfUnnamedAsk};
 ghost use Rattle.kube_step.specs.Finishes.{AreFinished};
@@ -18,8 +18,8 @@ ghost use Rattle.kube_step.specs.HandOvers.{handed_by, taken_by};
 ghost use Rattle.kube_step.specs.Policies.{Answers};
 ghost use Rattle.kube_step.specs.Takes.{IsSomething};
 ghost use Rattle.kube_feed.specs.Fed.{StandsFor};
-ghost use Rattle.kube_feed.specs.Reads.{AreReadIn, IsLater, IsReadIn};
-ghost use Rattle.kube_feed.specs.Runs.{AreFinishedIn, HaveRun, IsBrokenOff, IsNextTurn, WereBrokenOff, WereRefused, records_in};
+ghost use Rattle.kube_feed.specs.Reads.{IsLater, IsReadIn};
+ghost use Rattle.kube_feed.specs.Runs.{IsRefusedRun, IsWholeRun, IsBrokenOff, IsNextTurn, IsBrokenRun};
 ghost use Rattle.kube_feed.specs.Stops.{IfFaulted, IfRefusedTurn};
 
 use crate::controller::FedController;
@@ -196,18 +196,14 @@ where
     ensures same { IsLater controller.old.reader controller.new.reader }
     ensures spent { controller.new.is_spent ≡ controller.old.is_spent }
     ensures ran { OnOk result ((w : World R.Object B) (h : List (Step R.Object)) → StandsFor R.RootSource S.RelatedSet B.Backoff R.Object.Resource w h controller.old
-        → (ms : List (Made R.Object)) × (records_in ms ≡ records_of R.Object.type_of records.new.items) × AreReadIn R.Object.meta_of ms controller.old.reader controller.new.reader
-        × HaveRun R.RootSource S.RelatedSet B.Backoff R.Object.Resource w h (turns_of R.Object.type_of turns.items) controller.old ms controller.new
-        × AreFinishedIn R.Object.type_of (Answers P.Fn error_policy.now (arc_value context.now)) h turns.items records.new.items ms) }
+        → IsWholeRun R.RootSource S.RelatedSet B.Backoff R.Object.Resource (Answers P.Fn error_policy.now (arc_value context.now)) w h turns.items controller.old records.new.items controller.new) }
     ensures handed { OnOk result (Rc.handed reconciler.new ≡ grown_by (Rc.handed reconciler.old) (handed_by (taken_by (records_of R.Object.type_of records.new.items)))) }
     ensures something { AllByRecursion (λ r. AllByRecursion (IsSomething R.Object.type_of) r.taken) records.new.items }
     ensures refused { IfErr result (λ s. IfRefusedTurn s (λ why. (Rc.handed reconciler.new ≡ grown_by (Rc.handed reconciler.old) (handed_by (taken_by (records_of R.Object.type_of records.new.items))))
         × ((w : World R.Object B) (h : List (Step R.Object)) → StandsFor R.RootSource S.RelatedSet B.Backoff R.Object.Resource w h controller.old
-        → (ms : List (Made R.Object)) × (records_in ms ≡ records_of R.Object.type_of records.new.items) × AreReadIn R.Object.meta_of ms controller.old.reader controller.new.reader
-        × WereRefused R.RootSource S.RelatedSet B.Backoff R.Object.Resource w h (turns_of R.Object.type_of turns.items) controller.old ms why controller.new))) }
+        → IsRefusedRun R.RootSource S.RelatedSet B.Backoff R.Object.Resource (Answers P.Fn error_policy.now (arc_value context.now)) w h turns.items controller.old records.new.items why controller.new))) }
     ensures broken { IfErr result (λ s. IfFaulted s (λ f. (w : World R.Object B) (h : List (Step R.Object)) → StandsFor R.RootSource S.RelatedSet B.Backoff R.Object.Resource w h controller.old
-        → (ms : List (Made R.Object)) × (records_in ms ≡ records_of R.Object.type_of records.new.items)
-        × WereBrokenOff R.RootSource S.RelatedSet B.Backoff R.Object.Resource w f h (turns_of R.Object.type_of turns.items) controller.old ms controller.new
+        → IsBrokenRun R.RootSource S.RelatedSet B.Backoff R.Object.Resource (Answers P.Fn error_policy.now (arc_value context.now)) w f h turns.items controller.old records.new.items controller.new
         (Rc.handed reconciler.old) (Rc.handed reconciler.new))) }
     ensures starts_nothing { IfErr result (λ s. IfFaulted s (λ f. IfUnnamedAsk f (λ source. Rc.handed reconciler.new ≡ grown_by (Rc.handed reconciler.old) (handed_by (taken_by (records_of R.Object.type_of records.new.items)))))) }
 {

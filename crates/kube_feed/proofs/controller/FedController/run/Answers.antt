@@ -1,23 +1,13 @@
-use Rattle.std.proofs.Common.{◌++◌, refl, ap, ◌∙◌}
-use Rattle.kube_model.specs.Traces.{steps}
-use Rattle.kube_history.proofs.Endings.{each-shuts}
+use Rattle.std.proofs.Common.{refl, ap, ◌∙◌}
 use Rattle.kube_turn.specs.Records.{turns_of}
 use Rattle.kube_asks.specs.declared.asks.AskFault.TheVariants as faults
-use Rattle.kube_step.specs.Policies.{answered_by}
-use Rattle.kube_control.proofs.Histories.{each-may}
-use Rattle.kube_control.proofs.Refusals.{refused-invalid}
 use Rattle.kube_feed.specs.Fed.{Feeding}
-use Rattle.kube_feed.specs.Runs.{records_in}
 use Rattle.kube_feed.proofs.Runs.{broken-same, never-spent}
 use Rattle.kube_feed.proofs.Stops.{faulted-now, refused-now}
 use Rattle.kube_feed.proofs.controller.FedController.run.Goals as goal
 
 pub returns-in-Ok-clause-trace : goal.returns-in-Ok-clause-trace
-returns-in-Ok-clause-trace g c =
-    rw c.trace_of-in-Ok.ensures (λ w h s.
-    let k = c.in-Ok.ensures.ran w h s in
-    let turns = turns_of g.R.Object.Resource.type_of c.args.turns.items in
-    (k.0, k.1, k.2, k.3, k.4, each-may w (h ++ steps turns k.0) k.3.stands.of_trace, each-shuts w (answered_by (records_in k.0)) h turns k.0 k.3.traced))
+returns-in-Ok-clause-trace g c = rw c.trace_of-in-Ok.ensures c.in-Ok.ensures.ran
 
 pub returns-in-Ok-clause-something : goal.returns-in-Ok-clause-something
 returns-in-Ok-clause-something g c = rw c.trace_of-in-Ok.ensures c.take_turns.ensures.something
@@ -31,9 +21,7 @@ returns-in-Err-Refused-clause-refused g c =
     let r = refused-now arm.field-0 arm.why _ arm.field-0-is arm.ensures.refused in
     rw (c.trace_of-trace.ensures, c.len-turn.ensures ∙ c.take_turns.new.records.ok.0) (
       refl,
-      λ w h s.
-          let q = r.1 w h s in
-          (q.0, q.1, q.2, q.3, λ valid. refused-invalid w (answered_by (records_in q.0)) h (turns_of g.R.Object.Resource.type_of c.args.turns.items) q.0 _ q.3.refused valid),
+      r.1,
     )
 
 pub returns-in-Err-Faulted-Unnamed-clause-something_before : goal.returns-in-Err-Faulted-Unnamed-clause-something_before
@@ -47,7 +35,12 @@ returns-in-Err-Faulted-Unnamed-clause-unnamed g c =
       refl,
       λ w h s.
           let q = b w h s in
-          (q.0, q.1, broken-same g.R.RootSource g.S.RelatedSet g.B.Backoff g.R.Object.Resource w (faults.Unnamed arm.source) h (turns_of g.R.Object.Resource.type_of c.args.turns.items) c.args.self.now q.0 c.take_turns.new.controller c.fail.new.self (g.Rc.Reconciler.handed c.args.reconciler.now) (g.Rc.Reconciler.handed c.take_turns.new.reconciler) (ap (λ (z : Feeding _ _ _ _ _). z.asks) c.fail.ensures.spent) (ap (λ (z : Feeding _ _ _ _ _). z.reader) c.fail.ensures.spent) q.2),
+          record {
+            made = q.made;
+            recorded = q.recorded;
+            broken =
+                broken-same g.R.RootSource g.S.RelatedSet g.B.Backoff g.R.Object.Resource w (faults.Unnamed arm.source) h (turns_of g.R.Object.Resource.type_of c.args.turns.items) c.args.self.now q.made c.take_turns.new.controller c.fail.new.self (g.Rc.Reconciler.handed c.args.reconciler.now) (g.Rc.Reconciler.handed c.take_turns.new.reconciler) (ap (λ (z : Feeding _ _ _ _ _). z.asks) c.fail.ensures.spent) (ap (λ (z : Feeding _ _ _ _ _). z.reader) c.fail.ensures.spent) q.broken;
+          },
     )
 
 pub returns-in-Err-Faulted-Unnamed-clause-handed_unnamed : goal.returns-in-Err-Faulted-Unnamed-clause-handed_unnamed
@@ -64,8 +57,12 @@ returns-in-Err-Faulted-NoMemory-clause-no_memory g c =
     let arm = c.in-Err-Faulted-NoMemory in
     let b = faulted-now arm.field-0 arm.field-0-0 faults.NoMemory _ arm.field-0-is arm.field-0-0-is arm.ensures.broken in
     rw (c.fail-in-Err-Faulted-NoMemory.ensures.error, c.trace_of-trace-in-Err-Faulted-NoMemory.ensures) (λ w h s.
-    let q = b w h s in
-    (q.0, q.1, broken-same g.R.RootSource g.S.RelatedSet g.B.Backoff g.R.Object.Resource w faults.NoMemory h (turns_of g.R.Object.Resource.type_of c.args.turns.items) c.args.self.now q.0 c.take_turns.new.controller c.fail-in-Err-Faulted-NoMemory.new.self (g.Rc.Reconciler.handed c.args.reconciler.now) (g.Rc.Reconciler.handed c.take_turns.new.reconciler) (ap (λ (z : Feeding _ _ _ _ _). z.asks) c.fail-in-Err-Faulted-NoMemory.ensures.spent) (ap (λ (z : Feeding _ _ _ _ _). z.reader) c.fail-in-Err-Faulted-NoMemory.ensures.spent) q.2))
+    let q = b w h s in record {
+      made = q.made;
+      recorded = q.recorded;
+      broken =
+          broken-same g.R.RootSource g.S.RelatedSet g.B.Backoff g.R.Object.Resource w faults.NoMemory h (turns_of g.R.Object.Resource.type_of c.args.turns.items) c.args.self.now q.made c.take_turns.new.controller c.fail-in-Err-Faulted-NoMemory.new.self (g.Rc.Reconciler.handed c.args.reconciler.now) (g.Rc.Reconciler.handed c.take_turns.new.reconciler) (ap (λ (z : Feeding _ _ _ _ _). z.asks) c.fail-in-Err-Faulted-NoMemory.ensures.spent) (ap (λ (z : Feeding _ _ _ _ _). z.reader) c.fail-in-Err-Faulted-NoMemory.ensures.spent) q.broken;
+    })
 
 pub returns-clause-something_before : goal.returns-clause-something_before
 returns-clause-something_before g c = rw (c.fail-in-Err-Faulted-Spent.ensures.error, c.trace_of-trace-in-Err-Faulted-Spent.ensures) c.take_turns.ensures.something
@@ -76,4 +73,4 @@ returns-clause-no_memory g c =
     let b = faulted-now arm.field-0 arm.field-0-0 faults.Spent _ arm.field-0-is arm.field-0-0-is arm.ensures.broken in
     rw (c.fail-in-Err-Faulted-Spent.ensures.error, c.trace_of-trace-in-Err-Faulted-Spent.ensures) (λ w h s.
     let q = b w h s in
-    absurd (never-spent g.R.RootSource g.S.RelatedSet g.B.Backoff g.R.Object.Resource w h (turns_of g.R.Object.Resource.type_of c.args.turns.items) c.args.self.now q.0 c.take_turns.new.controller (g.Rc.Reconciler.handed c.args.reconciler.now) (g.Rc.Reconciler.handed c.take_turns.new.reconciler) q.2))
+    absurd (never-spent g.R.RootSource g.S.RelatedSet g.B.Backoff g.R.Object.Resource w h (turns_of g.R.Object.Resource.type_of c.args.turns.items) c.args.self.now q.made c.take_turns.new.controller (g.Rc.Reconciler.handed c.args.reconciler.now) (g.Rc.Reconciler.handed c.take_turns.new.reconciler) q.broken))

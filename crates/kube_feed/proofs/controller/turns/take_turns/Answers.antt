@@ -19,7 +19,7 @@ use Rattle.kube_feed.specs.Runs.{AreFinishedIn, HaveRun}
 use Rattle.kube_feed.proofs.Reading.{later-more, later-none}
 use Rattle.kube_feed.proofs.Runs.{run-none}
 use Rattle.kube_feed.proofs.Stops.{faulted-map, refused-map}
-use Rattle.kube_feed.proofs.Turns.{broken-end, done-at, done-more, handed-more, refused-end, short-more, something-more}
+use Rattle.kube_feed.proofs.Turns.{broken-end, done-at, done-more, handed-more, refused-end, short-more, something-more, whole-run}
 use Rattle.kube_feed.proofs.controller.turns.take_turns.Goals as goal
 
 pub loop-turn-init : goal.loop-turn-init
@@ -118,10 +118,8 @@ returns-clause-ran g c w h k =
     let whole = YieldsList-end road c.loop-turn.yielded c.loop-turn.turn-iterator c.loop-turn.yielded_by _ c.next.new.self c.in-None.is c.next.ensures.steps in
     let is : c.loop-turn.yielded ≡ c.args.turns.items = sym (map-id c.loop-turn.yielded) ∙ whole.0 in
     let type_of = g.R.Object.Resource.type_of in
-    let d = c.loop-turn.invariant.done w h k in (
-      d.0,
-      d.1,
-      d.2,
-      subst (λ ts. HaveRun g.R.RootSource g.S.RelatedSet g.B.Backoff g.R.Object.Resource w h (map (turn_of type_of) ts) c.args.controller.now d.0 c.loop-turn.controller) is d.3,
-      subst (λ ts. AreFinishedIn type_of (Answers g.P.Fn c.args.error_policy.now (arc_value c.args.context.now)) h ts c.loop-turn.records.items d.0) is d.4,
-    )
+    let policy = Answers g.P.Fn c.args.error_policy.now (arc_value c.args.context.now) in
+    let d = c.loop-turn.invariant.done w h k in
+    whole-run g.R.RootSource g.S.RelatedSet g.B.Backoff g.R.Object.Resource policy w h c.args.turns.items c.args.controller.now c.loop-turn.records.items c.loop-turn.controller d.0
+    (record { records = d.1; finished = subst (λ ts. AreFinishedIn type_of policy h ts c.loop-turn.records.items d.0) is d.4 }) d.2
+    (subst (λ ts. HaveRun g.R.RootSource g.S.RelatedSet g.B.Backoff g.R.Object.Resource w h (map (turn_of type_of) ts) c.args.controller.now d.0 c.loop-turn.controller) is d.3)
