@@ -2,7 +2,7 @@
 
 ghost use Rattle.std.specs.Prelude.{◌≡◌, IfOk};
 
-use super::objects::{Maps, Named, Reads, Stored, kind, make_stored, object, writer};
+use super::objects::{Maps, Named, Reads, Stored, kind, make_stored, object, opened, publish};
 use super::scripted::{Request, Said, Scripted};
 use super::shown::{records, told};
 use super::turns::{Answered, Ask, Row, bare_turn, run, turns};
@@ -183,12 +183,18 @@ fn ran<R: Wait>(
     Ok(told(alloc, &answered)?)
 }
 
-/// The same of a case.
-fn ran_case<R: Wait>(rt: &R, alloc: Global, case: &Case) -> Result<String, NoMemory> {
-    let (told, concurrency, script, rows, _end) = *case;
-    let (store, _writer) = make_stored(rt, alloc, told)?;
+/// The same of a case, over this store.
+fn ran_over<R: Wait>(rt: &R, alloc: Global, case: &Case, store: Reads) -> Result<String, NoMemory> {
+    let (_told, concurrency, script, rows, _end) = *case;
     let mut applier = make(alloc, store, concurrency, script)?;
     ran(rt, alloc, &mut applier, rows)
+}
+
+/// The same of a case.
+fn ran_case<R: Wait>(rt: &R, alloc: Global, case: &Case) -> Result<String, NoMemory> {
+    let (told, _concurrency, _script, _rows, _end) = *case;
+    let (store, _writer) = make_stored(rt, alloc, told)?;
+    ran_over(rt, alloc, case, store)
 }
 
 /// What a case's rows and end tell, a line each.
@@ -298,19 +304,16 @@ impl EventStream for Many {
 fn make_many<R: Wait>(
     rt: &R,
     alloc: Global,
-) -> Result<(Applier<DynamicObject, Many>, Maps), NoMemory> {
-    let mut writer = writer(alloc)?;
-    let Some(reader) = writer.as_reader() else {
-        return Err(NoMemory);
-    };
-    list_many(alloc, &mut writer)?;
-    writer.publish(rt, alloc)?;
+    reader: Reads,
+    writer: &mut Maps,
+) -> Result<Applier<DynamicObject, Many>, NoMemory> {
+    list_many(alloc, writer)?;
+    publish(rt, alloc, writer)?;
     let queue = Many {
         next: 0,
         fault: None,
     };
-    let applier = applier(alloc, reader, queue, Config::default())?;
-    Ok((applier, writer))
+    applier(alloc, reader, queue, Config::default())
 }
 
 /// A finish of what was started, which is made again at once.
@@ -378,16 +381,26 @@ fn finished(answered: &Option<Answered>) -> usize {
     }
 }
 
-/// How many references are finished in four turns.
-fn all_finished<R: Wait>(rt: &R, alloc: Global) -> Result<usize, NoMemory> {
-    let (mut applier, _writer) = make_many(rt, alloc)?;
+/// How many references an applier finishes in four turns.
+fn finished_by<R: Wait>(
+    rt: &R,
+    alloc: Global,
+    applier: &mut Applier<DynamicObject, Many>,
+) -> Result<usize, NoMemory> {
     let mut answered = None;
     let mut all: usize = 0;
     for _turn in 0..4 {
-        answered = Some(run_turn(rt, alloc, &mut applier, &answered)?);
+        answered = Some(run_turn(rt, alloc, applier, &answered)?);
         all = all.saturating_add(finished(&answered));
     }
     Ok(all)
+}
+
+/// The same of an applier over a store that has all.
+fn all_finished<R: Wait>(rt: &R, alloc: Global) -> Result<usize, NoMemory> {
+    let (reader, mut writer) = opened(alloc)?;
+    let mut applier = make_many(rt, alloc, reader, &mut writer)?;
+    finished_by(rt, alloc, &mut applier)
 }
 
 #[test]

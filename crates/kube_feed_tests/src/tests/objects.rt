@@ -103,8 +103,58 @@ fn list(alloc: Global, writer: &mut Maps, listed: &[Named]) -> Result<(), NoMemo
 }
 
 /// A writer of config maps, with one reader place.
-pub fn writer(alloc: Global) -> Result<Maps, NoMemory> {
+fn writer(alloc: Global) -> Result<Maps, NoMemory> {
     Writer::new(alloc, kind(alloc, "ConfigMap")?, 1)
+}
+
+/// A writer of config maps, and its one handle.
+pub fn opened(alloc: Global) -> Result<(Reads, Maps), NoMemory> {
+    let mut writer = writer(alloc)?;
+    match writer.as_reader() {
+        Some(reader) => Ok((reader, writer)),
+        None => Err(NoMemory),
+    }
+}
+
+/// What was applied is published.
+pub fn publish<R: Wait>(rt: &R, alloc: Global, writer: &mut Maps) -> Result<(), NoMemory> {
+    match writer.publish(rt, alloc) {
+        Ok(_published) => Ok(()),
+        Err(error) => Err(error),
+    }
+}
+
+/// A list of these is told and published.
+fn list_shown<R: Wait>(
+    rt: &R,
+    alloc: Global,
+    writer: &mut Maps,
+    listed: &[Named],
+) -> Result<(), NoMemory> {
+    list(alloc, writer, listed)?;
+    publish(rt, alloc, writer)
+}
+
+/// The writer, after a list of these.
+fn told_list<R: Wait>(
+    rt: &R,
+    alloc: Global,
+    writer: Maps,
+    listed: &[Named],
+) -> Result<Option<Maps>, NoMemory> {
+    let mut writer = writer;
+    match list_shown(rt, alloc, &mut writer, listed) {
+        Ok(()) => Ok(Some(writer)),
+        Err(error) => Err(error),
+    }
+}
+
+/// No writer, once it has ended.
+fn told_end<R: Wait>(rt: &R, alloc: Global, writer: Maps) -> Result<Option<Maps>, NoMemory> {
+    match writer.end(rt, alloc) {
+        Ok(_ended) => Ok(None),
+        Err(_) => Err(NoMemory),
+    }
 }
 
 /// A writer that tells this; it has ended where it is none.
@@ -114,20 +164,10 @@ fn told<R: Wait>(
     writer: Maps,
     stored: Stored,
 ) -> Result<Option<Maps>, NoMemory> {
-    let mut writer = writer;
     match stored {
-        Stored::Ended => {
-            match writer.end(rt, alloc) {
-                Ok(_ended) => Ok(None),
-                Err(_) => Err(NoMemory),
-            }
-        }
+        Stored::Ended => told_end(rt, alloc, writer),
         Stored::Nothing => Ok(Some(writer)),
-        Stored::Listed(listed) => {
-            list(alloc, &mut writer, listed)?;
-            writer.publish(rt, alloc)?;
-            Ok(Some(writer))
-        }
+        Stored::Listed(listed) => told_list(rt, alloc, writer, listed),
     }
 }
 
@@ -137,12 +177,9 @@ pub fn make_stored<R: Wait>(
     alloc: Global,
     stored: Stored,
 ) -> Result<(Reads, Option<Maps>), NoMemory> {
-    let mut writer = writer(alloc)?;
-    match writer.as_reader() {
-        Some(reader) => {
-            let writer = told(rt, alloc, writer, stored)?;
-            Ok((reader, writer))
-        }
-        None => Err(NoMemory),
+    let (reader, writer) = opened(alloc)?;
+    match told(rt, alloc, writer, stored) {
+        Ok(writer) => Ok((reader, writer)),
+        Err(error) => Err(error),
     }
 }

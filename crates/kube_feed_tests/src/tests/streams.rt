@@ -131,12 +131,18 @@ fn ran<R: Wait>(
     Ok(told(alloc, &answered)?)
 }
 
-/// The same of a case.
-fn ran_case<R: Wait>(rt: &R, alloc: Global, case: &Case) -> Result<String, NoMemory> {
-    let (told, of, root, related, rows, _end) = *case;
-    let (store, _writer) = make_stored(rt, alloc, told)?;
+/// The same of a case, over this store.
+fn ran_over<R: Wait>(rt: &R, alloc: Global, case: &Case, store: Reads) -> Result<String, NoMemory> {
+    let (_told, of, root, related, rows, _end) = *case;
     let mut controller = make(alloc, store, of, root, related)?;
     ran(rt, alloc, &mut controller, rows)
+}
+
+/// The same of a case.
+fn ran_case<R: Wait>(rt: &R, alloc: Global, case: &Case) -> Result<String, NoMemory> {
+    let (told, _of, _root, _related, _rows, _end) = *case;
+    let (store, _writer) = make_stored(rt, alloc, told)?;
+    ran_over(rt, alloc, case, store)
 }
 
 /// What a case's rows and end tell, a line each.

@@ -3,7 +3,7 @@
 
 ghost use Rattle.std.specs.Prelude.{◌≡◌, IfOk};
 
-use super::objects::{Maps, Named, Object, kind, object, writer};
+use super::objects::{Maps, Named, Object, kind, object, opened, publish};
 use super::shown::{all_taken, records};
 use super::turns::{Answered, Ask, Row, run, turns};
 use kube_api::{ApiError, Page, ResultPage, Sequence, SequenceStep, TestMode, WatchEvent};
@@ -114,13 +114,6 @@ struct Publishing<'a, R> {
     fault: Option<StreamFault>,
 }
 
-fn publish<R: Wait>(rt: &R, alloc: Global, writer: &mut Maps) -> Result<(), NoMemory> {
-    match writer.publish(rt, alloc) {
-        Ok(_published) => Ok(()),
-        Err(error) => Err(error),
-    }
-}
-
 impl<'a, R: Wait> Publishing<'a, R> {
     fn answer(
         &mut self,
@@ -163,20 +156,29 @@ type Fed<'a, R> = FedController<
     DefaultBackoff,
 >;
 
-/// A controller of what a watcher of such an API tells.
-fn fed<'a, R: Wait>(rt: &'a R, alloc: Global) -> Result<Fed<'a, R>, NoMemory> {
-    let mut writer = writer(alloc)?;
-    let Some(reader) = writer.as_reader() else {
-        return Err(NoMemory);
-    };
-    let watched = watcher(alloc, api(alloc)?, WatcherConfig::default());
+/// A stream of what a watcher of this API tells this writer.
+fn make_stream<'a, R: Wait>(
+    rt: &'a R,
+    alloc: Global,
+    api: Api,
+    writer: Maps,
+) -> Settled<Publishing<'a, R>> {
+    let watched = watcher(alloc, api, WatcherConfig::default());
     let stream = Publishing {
         stream: watched.reflect(writer),
         rt,
         fault: None,
     };
+    stream.settled_objects(alloc)
+}
+
+/// A controller of what a watcher of such an API tells.
+fn fed<'a, R: Wait>(rt: &'a R, alloc: Global) -> Result<Fed<'a, R>, NoMemory> {
     let dyntype = kind(alloc, "ConfigMap")?;
-    Ok(FedController::for_stream_with(alloc, stream.settled_objects(alloc), reader, dyntype))
+    let api = api(alloc)?;
+    let (reader, writer) = opened(alloc)?;
+    let stream = make_stream(rt, alloc, api, writer);
+    Ok(FedController::for_stream_with(alloc, stream, reader, dyntype))
 }
 
 fn ran_fed<R: Wait>(rt: &R, alloc: Global) -> Result<Answered, NoMemory> {
