@@ -8,7 +8,7 @@ use super::shown::{all_taken, records};
 use super::turns::{Answered, Ask, Row, run, turns};
 use kube_api::{ApiError, Page, ResultPage, Sequence, SequenceStep, TestMode, WatchEvent};
 use kube_control::{Controller, WatchRoot};
-use kube_feed::{DefaultBackoff, FedController, NoRelated, Recorder, StreamRoot};
+use kube_feed::{DefaultBackoff, FedController, NoRelated, Recorder, StreamRoot, Turn};
 use kube_meta::{Action, DynamicObject, Moment, Next, NoMemory};
 use kube_model::error::Error;
 use kube_streams::reflect::Reflect;
@@ -182,15 +182,10 @@ fn fed<'a, R: Wait>(rt: &'a R, alloc: Global) -> Result<Fed<'a, R>, NoMemory> {
 }
 
 fn ran_fed<R: Wait>(rt: &R, alloc: Global) -> Result<Answered, NoMemory> {
+    let turns = turns(alloc, ROWS)?;
     let mut controller = fed(rt, alloc)?;
     let mut recorder = Recorder::new(alloc);
-    run(
-        rt,
-        alloc,
-        &mut controller,
-        &mut recorder,
-        turns(alloc, ROWS)?,
-    )
+    run(rt, alloc, &mut controller, &mut recorder, turns)
 }
 
 type Watched = Controller<WatchRoot<Api>, NoRelated, DefaultBackoff>;
@@ -200,12 +195,25 @@ fn watched(alloc: Global) -> Result<Watched, NoMemory> {
     Controller::new_with(alloc, api(alloc)?, WatcherConfig::default(), dyntype)
 }
 
-fn ran_watched(alloc: Global) -> Result<Answered, NoMemory> {
-    let mut controller = watched(alloc)?;
-    let mut recorder = Recorder::new(alloc);
+fn run_watched(
+    alloc: Global,
+    controller: &mut Watched,
+    recorder: &mut Recorder<DynamicObject>,
+    turns: Vec<Turn<DynamicObject, u64>>,
+) -> Result<Answered, NoMemory> {
+    if turns.len() > 9 {
+        return Err(NoMemory);
+    }
     let context = Arc::new(alloc, ())?;
     let policy = |_object: Object, error: &u64, _context: Arc<()>| Action::requeue(*error);
-    Ok(controller.run(alloc, &mut recorder, &policy, context, turns(alloc, ROWS)?))
+    Ok(controller.run(alloc, recorder, &policy, context, turns))
+}
+
+fn ran_watched(alloc: Global) -> Result<Answered, NoMemory> {
+    let turns = turns(alloc, ROWS)?;
+    let mut controller = watched(alloc)?;
+    let mut recorder = Recorder::new(alloc);
+    run_watched(alloc, &mut controller, &mut recorder, turns)
 }
 
 /// What each turn of a run took, a line each.
