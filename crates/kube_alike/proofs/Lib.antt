@@ -1,4 +1,6 @@
 -- lemmas on controllers that are alike
+pub mod KeptEvents
+pub mod KeptTurns
 pub mod SettlesRequests
 pub mod SettlesHeard
 pub mod SettlesRests

@@ -1,12 +1,14 @@
 -- What a root requests that is fed by the settled objects of a watcher.
 use Rattle.std.proofs.Common.{◌≡◌, ℕ, Bool, true, false, List, [], ◌∷◌, ◌++◌, map, Option, Some, None, Ok, Err, refl, sym, ap, ap₂, subst, ◌∙◌, append_assoc, append-nil}
-use Rattle.std.specs.List.{flat_map, AllByRecursion}
+use Rattle.std.specs.List.{flat_map, fold, AllByRecursion}
 use Rattle.std.specs.Arc.{arc_value}
 use Rattle.std.specs.declared.sync.Arc.{Arc}
 use Rattle.std.specs.declared.alloc.Global.{Global}
 use Rattle.std.proofs.lemmas.Bool.{false≢true, true≢false}
 use Rattle.std.proofs.lemmas.List.{map-append}
 use Rattle.kube_meta.specs.declared.metadata.ObjectMeta.{ObjectMeta}
+use Rattle.kube_meta.specs.Keys.{key_of}
+use Rattle.kube_meta.specs.Reference.{Reference}
 use Rattle.kube_meta.specs.declared.poll.Next.TheVariants.{Item, NotReady, Spent, End}
 use Rattle.kube_model.specs.declared.call.Answer.{Answer as CallAnswer}
 use Rattle.kube_model.specs.declared.call.Answer.TheVariants as answers
@@ -15,14 +17,18 @@ use Rattle.kube_model.specs.History.{Dated, Exchange}
 use Rattle.kube_model.specs.Owed.{is_not_ready}
 use Rattle.kube_model.specs.Fits.{IsOfStream, updated}
 use Rattle.kube_model.specs.Named.{is_given_named}
+use Rattle.kube_model.specs.Store.{store_of}
 use Rattle.kube_model.specs.Streams.{IsStreamed}
 use Rattle.kube_watch.specs.declared.stream.StreamFault.TheVariants.{NoMemory, Unnamed}
 use Rattle.kube_watch.specs.Asking.{Said, fault_in}
 use Rattle.kube_watch.specs.Order.{AreMade}
 use Rattle.kube_watch.specs.Polls.{Api}
-use Rattle.kube_watch.specs.Stands.{StandsFor, exchanges_in, settings_in}
+use Rattle.kube_watch.specs.Stands.{StandsFor, exchanges_in, settings_in, waiting_in}
 use Rattle.kube_watch.specs.Streams.{Answer, stream_answer}
 use Rattle.kube_watch.specs.Watching.{told_of}
+use Rattle.kube_reflect.specs.Cached.{Kept, applied, nothing}
+use Rattle.kube_reflect.specs.Exchanged.{all_keyed}
+use Rattle.kube_reflect.proofs.Exchanging.{all-leave, made-come}
 use Rattle.kube_streams.specs.Adapts.{Adapted, Adapting, Advanced, GivenSoFar, Polled, Told, all_told, told_in}
 use Rattle.kube_streams.proofs.Given.{given-so-far}
 use Rattle.kube_fed.specs.declared.feeding.Standing.{Standing}
@@ -31,10 +37,12 @@ use Rattle.kube_fed.specs.declared.feeding.Feeding.{Feeding}
 use Rattle.kube_fed.specs.Feedings.{IsAskedAs}
 use Rattle.kube_fed.specs.Fed.{Came, IsFedPoll, RootFeeding}
 use Rattle.kube_fed.proofs.Fits.{some-is}
+use Rattle.kube_alike.specs.Keeps.{after_told}
 use Rattle.kube_alike.specs.Settles.{is_at_rest, AreOwed, ArePolls, IsUnpolled, RequestsAlike, Settling, all_settled, listed_through, objects_in, still_to_give, told_of_all, watcher_in}
+use Rattle.kube_alike.proofs.KeptEvents.{events_told, told-applied, told-events}
 use Rattle.kube_alike.proofs.SettlesRequests.{objects-append, settled-append, settled-requested}
 use Rattle.kube_alike.proofs.SettlesRests.{silent-rests}
-use Rattle.kube_alike.proofs.SettlesHeard.{ApplyPolls, Heard, NeverUnnamed, Takes, all-shared, heard-all, through-shared}
+use Rattle.kube_alike.proofs.SettlesHeard.{ApplyPolls, Heard, HeardAndApplied, NeverUnnamed, Takes, all-shared, heard-all, through-shared}
 
 abbrev HasAnswer : Option CallAnswer → Type 0
 HasAnswer None = ⊥
@@ -66,7 +74,7 @@ module _ {S T I J V : Type 0} (polls : S → ℕ → ℕ → Answer I → S → 
   abbrev StreamPolls : Adapting S T J → ℕ → ℕ → Answer J → Adapting S T J → Type 0
   StreamPolls = Said (λ a now fuel answer b. Adapted polls takes unnamed a.fault a now fuel answer b) (λ a. None)
 
-  abbrev RootPolls : RootFeeding (Adapting S T J) → List (Dated V) → ℕ → Exchange V → RootFeeding (Adapting S T J) → Type 0
+  abbrev pub RootPolls : RootFeeding (Adapting S T J) → List (Dated V) → ℕ → Exchange V → RootFeeding (Adapting S T J) → Type 0
   RootPolls old own now x new = IsFedPoll StreamPolls value is_named IsStreamed now old.feeding x new.feeding
 
   -- the root's stream was polled, and its exchanges have what was given
@@ -165,7 +173,7 @@ module _ {A V : Type 0} (meta : V → ObjectMeta) (is_named : V → Bool) (api :
   record Reached (a : Settling A V) (ds : List (Dated V)) (b : Settling A V) : Type 0 where
     pub fed : Given (ApplyPolls meta api) Takes NeverUnnamed arc_value is_named a ds b
     pub so_far : GivenSoFar (ApplyPolls meta api) Takes NeverUnnamed a fed.polls_made b
-    pub heard : Heard meta api (settings_in (watcher_in a)) [] (watcher_in a) a.adapt so_far.given (watcher_in b) b.adapt
+    pub all : HeardAndApplied meta api (settings_in (watcher_in a)) [] a.stream a.adapt so_far.given b.stream b.adapt
 
   reached : (old : RootFeeding (Settling A V)) (ds : List (Dated V)) (new : RootFeeding (Settling A V)) → IsUnpolled old → ArePolls FedPolls [] old ds new → Reached old.feeding.stream ds new.feeding.stream
   reached old ds new unpolled polled =
@@ -176,12 +184,16 @@ module _ {A V : Type 0} (meta : V → ObjectMeta) (is_named : V → Bool) (api :
       record {
         fed = fed;
         so_far = so_far;
-        heard = heard-all meta api (settings_in (watcher_in a)) [] a.stream a.adapt so_far.answers so_far.given b.stream b.adapt unpolled.watches refl so_far.came;
+        all = heard-all meta api (settings_in (watcher_in a)) [] a.stream a.adapt so_far.answers so_far.given b.stream b.adapt unpolled.watches refl so_far.came;
       }
 
-  -- one poll leaves the root open, and at rest where it was not ready
+  -- nothing is still to be given, and nothing waits in the watcher
+  abbrev IsDry : Settling A V → Type 0
+  IsDry s = (still_to_give s ≡ []) × (waiting_in (watcher_in s) ≡ [])
+
+  -- one poll leaves the root open, and dry where it was not ready
   one-rests : (own ds : List (Dated V)) (d : Dated V) (m new : RootFeeding (Settling A V)) → m.feeding.standing ≡ Open → m.feeding.stream.fault ≡ None → StandsFor ds (watcher_in m.feeding.stream)
-      → FedPolls m own d.at d.exchange new → (new.feeding.standing ≡ Open) × (is_not_ready d.exchange.answer ≡ true → still_to_give new.feeding.stream ≡ [])
+      → FedPolls m own d.at d.exchange new → (new.feeding.standing ≡ Open) × (is_not_ready d.exchange.answer ≡ true → IsDry new.feeding.stream)
   one-rests own ds d m new is_open sound stands p =
       go p.answer (subst (λ s. IsAskedAs (StreamPolls (ApplyPolls meta api) Takes NeverUnnamed arc_value is_named) s d.at m.feeding p.answer new.feeding) is_open p.asked) p.recorded
     where
@@ -190,30 +202,30 @@ module _ {A V : Type 0} (meta : V → ObjectMeta) (is_named : V → Bool) (api :
       advanced answer q = subst (λ f. Adapted (ApplyPolls meta api) Takes NeverUnnamed f m.feeding.stream d.at 1 answer new.feeding.stream) sound q
 
       go : (answer : Answer (Arc V Global)) → IsAskedAs (StreamPolls (ApplyPolls meta api) Takes NeverUnnamed arc_value is_named) Open d.at m.feeding answer new.feeding
-          → IsRecordedFrom arc_value is_named d.exchange answer → (new.feeding.standing ≡ Open) × (is_not_ready d.exchange.answer ≡ true → still_to_give new.feeding.stream ≡ [])
+          → IsRecordedFrom arc_value is_named d.exchange answer → (new.feeding.standing ≡ Open) × (is_not_ready d.exchange.answer ≡ true → IsDry new.feeding.stream)
       go (Ok (Item (Ok item))) q r = (q.1, λ n. absurd (ready-is d.exchange.answer answers.Item r.0.answer refl n))
       go (Ok (Item (Err error))) q r = (q.1, λ n. absurd (ready-is d.exchange.answer answers.Item r.0.answer refl n))
       go (Ok Spent) q r = (q.1, λ n. absurd (ready-is d.exchange.answer answers.Spent r.0.answer refl n))
-      go (Ok NotReady) q r = (q.1, λ n. (silent-rests meta api true ds d.at m.feeding.stream new.feeding.stream stands (advanced (Ok NotReady) q.0.0)).1)
+      go (Ok NotReady) q r = (q.1, λ n. let s = silent-rests meta api true ds d.at m.feeding.stream new.feeding.stream stands (advanced (Ok NotReady) q.0.0) in (s.1, s.2))
       go (Ok End) q r = absurd (false≢true (silent-rests meta api false ds d.at m.feeding.stream new.feeding.stream stands (advanced (Ok End) q.0.0)).0)
       go (Err Unnamed) q r = absurd (subst HasAnswer r.0.answer tt)
       go (Err NoMemory) q r = absurd r
 
   rests-after : (old : RootFeeding (Settling A V)) (front ds : List (Dated V)) (m new : RootFeeding (Settling A V)) → IsUnpolled old → ArePolls FedPolls [] old front m → m.feeding.standing ≡ Open
-      → ArePolls FedPolls front m ds new → is_at_rest ds ≡ true → still_to_give new.feeding.stream ≡ []
+      → ArePolls FedPolls front m ds new → is_at_rest ds ≡ true → IsDry new.feeding.stream
   rests-after old front [] m new unpolled p is_open q h = absurd (false≢true h)
   rests-after old front (d ∷ []) m new unpolled p is_open q h =
       let r = reached old front m unpolled p in
-      let one = one-rests front r.heard.asked d m q.0 is_open r.fed.sound r.heard.watches q.1 in
-      ap (λ (x : RootFeeding (Settling A V)). still_to_give x.feeding.stream) q.2 ∙ one.1 h
+      let one = one-rests front r.all.heard.asked d m q.0 is_open r.fed.sound r.all.heard.watches q.1 in
+      subst (λ (x : RootFeeding (Settling A V)). IsDry x.feeding.stream) (sym q.2) (one.1 h)
   rests-after old front (d ∷ e ∷ es) m new unpolled p is_open q h =
       let r = reached old front m unpolled p in
-      let one = one-rests front r.heard.asked d m q.0 is_open r.fed.sound r.heard.watches q.1 in
+      let one = one-rests front r.all.heard.asked d m q.0 is_open r.fed.sound r.all.heard.watches q.1 in
       rests-after old (front ++ d ∷ []) (e ∷ es) q.0 new unpolled (polls-then FedPolls [] front d old m q.0 p q.1) one.0 q.2 h
 
 module _ {A V B : Type 0} (meta : V → ObjectMeta) (is_named : V → Bool) (api : Api A V) (w : World V B) where
   pub fed-alike : (old : RootFeeding (Settling A V)) (ds : List (Dated V)) (new : RootFeeding (Settling A V)) → IsUnpolled old → AllByRecursion (λ d. IsOfStream w d.exchange) ds
-      → ArePolls (FedPolls meta is_named api) [] old ds new → RequestsAlike api w old ds new
+      → ArePolls (FedPolls meta is_named api) [] old ds new → RequestsAlike meta api w old ds new
   fed-alike old ds new unpolled streamed polled = record {
     asked = heard.asked;
     owed = heard.owed;
@@ -224,7 +236,9 @@ module _ {A V B : Type 0} (meta : V → ObjectMeta) (is_named : V → Bool) (api
         ∙ (sym (map-append (updated w) (flat_map (λ (d : Dated V). d.exchange.items) ds) (still_to_give b))
         ∙ (ap (map (updated w)) objects-are
         ∙ settled-requested w settings (exchanges_in heard.asked) (made-so settings [] heard.asked heard.owed)));
-    rest = rests-after meta is_named api old [] ds old new unpolled refl unpolled.is_open polled;
+    rest = λ h. (dry h).0;
+    kind = all.all.applied.kind;
+    stored = λ fresh h. stored-so fresh (dry h).1;
   }
     where
       a : Settling A V
@@ -246,7 +260,7 @@ module _ {A V B : Type 0} (meta : V → ObjectMeta) (is_named : V → Bool) (api
       so_far = all.so_far
 
       heard : Heard meta api settings [] (watcher_in a) a.adapt so_far.given (watcher_in b) b.adapt
-      heard = all.heard
+      heard = all.all.heard
 
       -- what was given, and what waits
       given-so : objects_in (all_told given.polls_made ++ b.waiting) ≡ objects_in (all_settled [] heard.came)
@@ -261,6 +275,23 @@ module _ {A V B : Type 0} (meta : V → ObjectMeta) (is_named : V → Bool) (api
 
       listed-so : map arc_value b.adapt ≡ listed_through [] (map told_of heard.came)
       listed-so = ap (map arc_value) (heard.lists ∙ ap (λ l. listed_through l heard.came) unpolled.listed) ∙ through-shared [] heard.came
+
+      dry : is_at_rest ds ≡ true → IsDry meta is_named api new.feeding.stream
+      dry = rests-after meta is_named api old [] ds old new unpolled refl unpolled.is_open polled
+
+      -- all that the exchanges tell was applied to the writer
+      stored-so : a.stream.writer.kept ≡ nothing → waiting_in (watcher_in b) ≡ []
+          → b.stream.writer.kept.cache ≡ all_keyed (λ o. key_of a.stream.writer.kind (meta o)) (store_of (λ o. key_of a.stream.writer.kind (meta o)) (exchanges_in heard.asked))
+      stored-so fresh dried =
+          let key : V → Reference = λ o. key_of a.stream.writer.kind (meta o) in
+          let told : map told_of heard.came ≡ told_of_all settings [] (exchanges_in heard.asked)
+          = sym (append-nil (map told_of heard.came)) ∙ (ap (λ ts. map told_of heard.came ++ ts) (sym dried) ∙ (heard.told ∙ ap (λ ts. ts ++ told_of_all settings [] (exchanges_in heard.asked)) unpolled.told)) in
+          ap (λ (k : Kept V). k.cache)
+          (all.all.applied.kept
+          ∙ (ap (λ k. fold (after_told arc_value key) k heard.came) fresh
+          ∙ (told-applied key nothing heard.came
+          ∙ ap (fold (applied key) nothing) (ap events_told told ∙ told-events settings [] (exchanges_in heard.asked)))))
+          ∙ (all-leave key settings (exchanges_in heard.asked) (made-come settings [] (exchanges_in heard.asked) (made-so settings [] heard.asked heard.owed))).stored
 
       objects-are : flat_map (λ (d : Dated V). d.exchange.items) ds ++ still_to_give b ≡ objects_in (all_settled [] (told_of_all settings [] (exchanges_in heard.asked)))
       objects-are =

@@ -25,7 +25,9 @@ use Rattle.kube_reflect.specs.Writers.{Writing}
 use Rattle.kube_streams.specs.Adapts.{Came, Gives, Told, told_in}
 use Rattle.kube_streams.specs.Applies.{AnswerApplied, Applied, Applying, IsApplied}
 use Rattle.kube_streams.specs.Decodes.{listed_after, settled}
+use Rattle.kube_alike.specs.Keeps.{HasApplied}
 use Rattle.kube_alike.specs.Settles.{AreCalled, AreOwed, all_settled, listed_through, objects_in, told_of_all}
+use Rattle.kube_alike.proofs.KeptEvents.{applied-all, applied-then}
 use Rattle.kube_alike.proofs.SettlesRequests.{objects-all, objects-append, settled-append}
 
 -- ---- one poll of a watcher
@@ -193,12 +195,12 @@ module _ {J : Type 0} where
   abbrev pub NeverUnnamed : List J → Told (Event J) → Type 0
   NeverUnnamed l told = ⊥
 
-  record Made (l : List J) (answer : Answer (Event J)) (given : List (Told J)) (m : List J) : Type 0 where
+  pub record Made (l : List J) (answer : Answer (Event J)) (given : List (Told J)) (m : List J) : Type 0 where
     pub sound : fault_in answer ≡ None
     pub gives : given ≡ all_settled l (told_in answer)
     pub lists : m ≡ listed_through l (told_in answer)
 
-  made-of : {S : Type 0} (polls : S → ℕ → ℕ → Answer (Event J) → S → Type 0) (now : ℕ) (l : List J) (answer : Answer (Event J)) (given : List (Told J)) (m : List J)
+  pub made-of : {S : Type 0} (polls : S → ℕ → ℕ → Answer (Event J) → S → Type 0) (now : ℕ) (l : List J) (answer : Answer (Event J)) (given : List (Told J)) (m : List J)
       → Gives polls Takes NeverUnnamed now l answer given m → Made l answer given m
   made-of polls now l (Ok (Item told)) given m g = record { sound = refl; gives = g.0 ∙ sym (append-nil (settled l told)); lists = g.1 }
   made-of polls now l (Ok NotReady) given m g = record { sound = refl; gives = g.0; lists = g.1 }
@@ -228,77 +230,106 @@ module _ {A V : Type 0} (meta : V → ObjectMeta) (api : Api A V) where
       pub lists : m ≡ listed_through l came
 
     heard-none : (ds : List (Dated V)) (a b : Watching A V) (l m : List (Arc V Global)) (given : List (Told (Arc V Global))) → StandsFor ds a → settings_in a ≡ settings
-        → given ≡ [] → b ≡ a → m ≡ l → Heard ds a l given b m
-    heard-none ds a b l m given stands config none same listed = record {
-      asked = [];
-      came = [];
-      owed = tt;
-      called = ap (λ (w : Watching A V). w.api) same;
-      watches = subst (λ d. StandsFor d b) (sym (append-nil ds)) (subst (StandsFor ds) (sym same) stands);
-      config = ap (λ (w : Watching A V). settings_in w) same ∙ config;
-      told = ap (λ (w : Watching A V). w.waiting) same ∙ sym (append-nil a.waiting);
-      gives = none;
-      lists = listed;
-    }
+        → given ≡ [] → b ≡ a → m ≡ l → (h : Heard ds a l given b m) × (h.came ≡ [])
+    heard-none ds a b l m given stands config none same listed = (
+      record {
+        asked = [];
+        came = [];
+        owed = tt;
+        called = ap (λ (w : Watching A V). w.api) same;
+        watches = subst (λ d. StandsFor d b) (sym (append-nil ds)) (subst (StandsFor ds) (sym same) stands);
+        config = ap (λ (w : Watching A V). settings_in w) same ∙ config;
+        told = ap (λ (w : Watching A V). w.waiting) same ∙ sym (append-nil a.waiting);
+        gives = none;
+        lists = listed;
+      },
+      refl,
+    )
 
     -- one poll of the watcher
     heard-one : (ds : List (Dated V)) (now : ℕ) (a : Watching A V) (l : List (Arc V Global)) (answer : Answer (Event (Arc V Global))) (given : List (Told (Arc V Global))) (b : Watching A V) (m : List (Arc V Global))
-        → StandsFor ds a → settings_in a ≡ settings → Made l answer given m → WatchPolls a now 1 answer b → Heard ds a l given b m
+        → StandsFor ds a → settings_in a ≡ settings → Made l answer given m → WatchPolls a now 1 answer b → (h : Heard ds a l given b m) × (h.came ≡ told_in answer)
     heard-one ds now a l (Err fault) given b m stands config made p = absurd (let f : Some fault ≡ None = made.sound in cc)
     heard-one ds now a l (Ok answer) given b m stands config made p =
         let q = p.0.1 in
         let xs = q.exchanges in
-        let e = q.exchanged in
-        record {
-          asked = map (dated_now now) xs;
-          came = told_in (Ok answer);
-          owed = owed-now settings now ds xs (subst (λ s. AreNext s ds now xs) config (e.made ds stands));
-          called = called-now api settings now a.api b.api xs (subst (λ s. AreCalls api s now a.api xs b.api) config e.calls);
-          watches = e.stands ds stands;
-          config = ap settings_of e.config ∙ config;
-          told =
-              ap (λ ts. ts ++ b.waiting) (next-told answer)
-              ∙ (polled-told a.waiting 1 (looks (settings_in a) (exchanges_in ds) xs) (next_told answer) b.waiting (q.answered ds stands)
-              ∙ ap (λ ts. a.waiting ++ ts)
-              (looks-told (settings_in a) (exchanges_in ds) xs
-              ∙ ap₂ (λ s ys. told_of_all s (exchanges_in ds) ys) config (sym (exchanges-now now xs))));
-          gives = made.gives;
-          lists = made.lists;
-        }
+        let e = q.exchanged in (
+          record {
+            asked = map (dated_now now) xs;
+            came = told_in (Ok answer);
+            owed = owed-now settings now ds xs (subst (λ s. AreNext s ds now xs) config (e.made ds stands));
+            called = called-now api settings now a.api b.api xs (subst (λ s. AreCalls api s now a.api xs b.api) config e.calls);
+            watches = e.stands ds stands;
+            config = ap settings_of e.config ∙ config;
+            told =
+                ap (λ ts. ts ++ b.waiting) (next-told answer)
+                ∙ (polled-told a.waiting 1 (looks (settings_in a) (exchanges_in ds) xs) (next_told answer) b.waiting (q.answered ds stands)
+                ∙ ap (λ ts. a.waiting ++ ts)
+                (looks-told (settings_in a) (exchanges_in ds) xs
+                ∙ ap₂ (λ s ys. told_of_all s (exchanges_in ds) ys) config (sym (exchanges-now now xs))));
+            gives = made.gives;
+            lists = made.lists;
+          },
+          refl,
+        )
 
-    heard-then : (ds : List (Dated V)) (a q b : Watching A V) (l v m : List (Arc V Global)) (first rest given : List (Told (Arc V Global))) → (h : Heard ds a l first q v) → Heard (ds ++ h.asked) q v rest b m
-        → given ≡ first ++ rest → Heard ds a l given b m
-    heard-then ds a q b l v m first rest given h k joined = record {
-      asked = h.asked ++ k.asked;
-      came = h.came ++ k.came;
-      owed = owed-then settings ds h.asked k.asked h.owed k.owed;
-      called = called-then api settings a.api q.api b.api h.asked k.asked h.called k.called;
-      watches = subst (λ d. StandsFor d b) (append_assoc ds h.asked k.asked) k.watches;
-      config = k.config;
-      told =
-          ap (λ ts. ts ++ b.waiting) (map-append told_of h.came k.came)
-          ∙ (append_assoc (map told_of h.came) (map told_of k.came) b.waiting
-          ∙ (ap (λ ts. map told_of h.came ++ ts) k.told
-          ∙ (sym (append_assoc (map told_of h.came) q.waiting (told_of_all settings (exchanges_in (ds ++ h.asked)) (exchanges_in k.asked)))
-          ∙ (ap (λ ts. ts ++ told_of_all settings (exchanges_in (ds ++ h.asked)) (exchanges_in k.asked)) h.told
-          ∙ (append_assoc a.waiting (told_of_all settings (exchanges_in ds) (exchanges_in h.asked)) (told_of_all settings (exchanges_in (ds ++ h.asked)) (exchanges_in k.asked))
-          ∙ ap (λ ts. a.waiting ++ ts)
-          (ap (λ b. told_of_all settings (exchanges_in ds) (exchanges_in h.asked) ++ told_of_all settings b (exchanges_in k.asked)) (map-append (λ (d : Dated V). d.exchange) ds h.asked)
-          ∙ (sym (all-told-then settings (exchanges_in ds) (exchanges_in h.asked) (exchanges_in k.asked))
-          ∙ ap (told_of_all settings (exchanges_in ds)) (sym (map-append (λ (d : Dated V). d.exchange) h.asked k.asked)))))))));
-      gives =
-          joined
-          ∙ (ap₂ (λ x y. x ++ y) h.gives (k.gives ∙ ap (λ y. all_settled y k.came) h.lists)
-          ∙ sym (settled-append l h.came k.came));
-      lists = k.lists ∙ (ap (λ y. listed_through y k.came) h.lists ∙ sym (fold-append listed_after l h.came k.came));
-    }
+    heard-then : (ds : List (Dated V)) (a q b : Watching A V) (l v m : List (Arc V Global)) (first rest given : List (Told (Arc V Global))) → (h : Heard ds a l first q v) → (k : Heard (ds ++ h.asked) q v rest b m)
+        → given ≡ first ++ rest → (j : Heard ds a l given b m) × (j.came ≡ h.came ++ k.came)
+    heard-then ds a q b l v m first rest given h k joined = (
+      record {
+        asked = h.asked ++ k.asked;
+        came = h.came ++ k.came;
+        owed = owed-then settings ds h.asked k.asked h.owed k.owed;
+        called = called-then api settings a.api q.api b.api h.asked k.asked h.called k.called;
+        watches = subst (λ d. StandsFor d b) (append_assoc ds h.asked k.asked) k.watches;
+        config = k.config;
+        told =
+            ap (λ ts. ts ++ b.waiting) (map-append told_of h.came k.came)
+            ∙ (append_assoc (map told_of h.came) (map told_of k.came) b.waiting
+            ∙ (ap (λ ts. map told_of h.came ++ ts) k.told
+            ∙ (sym (append_assoc (map told_of h.came) q.waiting (told_of_all settings (exchanges_in (ds ++ h.asked)) (exchanges_in k.asked)))
+            ∙ (ap (λ ts. ts ++ told_of_all settings (exchanges_in (ds ++ h.asked)) (exchanges_in k.asked)) h.told
+            ∙ (append_assoc a.waiting (told_of_all settings (exchanges_in ds) (exchanges_in h.asked)) (told_of_all settings (exchanges_in (ds ++ h.asked)) (exchanges_in k.asked))
+            ∙ ap (λ ts. a.waiting ++ ts)
+            (ap (λ b. told_of_all settings (exchanges_in ds) (exchanges_in h.asked) ++ told_of_all settings b (exchanges_in k.asked)) (map-append (λ (d : Dated V). d.exchange) ds h.asked)
+            ∙ (sym (all-told-then settings (exchanges_in ds) (exchanges_in h.asked) (exchanges_in k.asked))
+            ∙ ap (told_of_all settings (exchanges_in ds)) (sym (map-append (λ (d : Dated V). d.exchange) h.asked k.asked)))))))));
+        gives =
+            joined
+            ∙ (ap₂ (λ x y. x ++ y) h.gives (k.gives ∙ ap (λ y. all_settled y k.came) h.lists)
+            ∙ sym (settled-append l h.came k.came));
+        lists = k.lists ∙ (ap (λ y. listed_through y k.came) h.lists ∙ sym (fold-append listed_after l h.came k.came));
+      },
+      refl,
+    )
+
+    -- the same, and what the writer has applied of it
+    pub record HeardAndApplied (ds : List (Dated V)) (a : Applying V (Watching A V)) (l : List (Arc V Global)) (given : List (Told (Arc V Global))) (b : Applying V (Watching A V)) (m : List (Arc V Global)) : Type 0 where
+      pub heard : Heard ds a.stream l given b.stream m
+      pub applied : HasApplied arc_value meta a.writer heard.came b.writer
 
     -- all answers of what applies the watcher's events
     pub heard-all : (ds : List (Dated V)) (a : Applying V (Watching A V)) (l : List (Arc V Global)) (came : List (ℕ × Answer (Event (Arc V Global)))) (given : List (Told (Arc V Global)))
         (b : Applying V (Watching A V)) (m : List (Arc V Global)) → StandsFor ds a.stream → settings_in a.stream ≡ settings
-        → Came ApplyPolls Takes NeverUnnamed a l came given b m → Heard ds a.stream l given b.stream m
-    heard-all ds a l [] given b m stands config c = heard-none ds a.stream b.stream l m given stands config c.0 (ap (λ (x : Applying V (Watching A V)). x.stream) c.1) c.2
+        → Came ApplyPolls Takes NeverUnnamed a l came given b m → HeardAndApplied ds a l given b m
+    heard-all ds a l [] given b m stands config c =
+        let none = heard-none ds a.stream b.stream l m given stands config c.0 (ap (λ (x : Applying V (Watching A V)). x.stream) c.1) c.2 in
+        record {
+          heard = none.0;
+          applied =
+              subst (λ ts. HasApplied arc_value meta a.writer ts b.writer) (sym none.1)
+              (record { kind = ap (λ (x : Applying V (Watching A V)). x.writer.kind) c.1; kept = ap (λ (x : Applying V (Watching A V)). x.writer.kept) c.1 });
+        }
     heard-all ds a l (x ∷ came) given b m stands config c =
         let made = made-of ApplyPolls x.0 l x.1 c.2 c.1 c.5 in
-        let h = heard-one ds x.0 a.stream l x.1 c.2 c.0.stream c.1 stands config made (passed-same arc_value meta WatchPolls a.fault x.0 a x.1 c.0 made.sound c.4.0) in
-        heard-then ds a.stream c.0.stream b.stream l c.1 m c.2 c.3 given h (heard-all (ds ++ h.asked) c.0 c.1 came c.3 b m h.watches h.config c.6) c.7
+        let one = heard-one ds x.0 a.stream l x.1 c.2 c.0.stream c.1 stands config made (passed-same arc_value meta WatchPolls a.fault x.0 a x.1 c.0 made.sound c.4.0) in
+        let rest = heard-all (ds ++ one.0.asked) c.0 c.1 came c.3 b m one.0.watches one.0.config c.6 in
+        let all = heard-then ds a.stream c.0.stream b.stream l c.1 m c.2 c.3 given one.0 rest.heard c.7 in
+        record {
+          heard = all.0;
+          applied =
+              subst (λ ts. HasApplied arc_value meta a.writer ts b.writer) (sym all.1)
+              (applied-then arc_value meta a.writer c.0.writer b.writer one.0.came rest.heard.came
+              (subst (λ ts. HasApplied arc_value meta a.writer ts c.0.writer) (sym one.1) (applied-all arc_value meta WatchPolls a x.0 1 x.1 c.0 c.4.0 made.sound))
+              rest.applied);
+        }

@@ -6,7 +6,7 @@ use Rattle.kube_meta.specs.declared.poll.Next.{Next}
 use Rattle.kube_meta.specs.declared.poll.Next.TheVariants.{Item, NotReady, Spent, End}
 use Rattle.kube_model.specs.History.{Dated}
 use Rattle.kube_watch.specs.Polls.{Api, Look, Quiet, Tells, Waits, answered_by, looks, polled}
-use Rattle.kube_watch.specs.Stands.{StandsFor, exchanges_in, settings_in}
+use Rattle.kube_watch.specs.Stands.{StandsFor, exchanges_in, settings_in, waiting_in}
 use Rattle.kube_watch.specs.Streams.{Answer}
 use Rattle.kube_watch.specs.Watching.{Watching}
 use Rattle.kube_streams.specs.Adapts.{Adapting, Advanced, AreQuiet, Asked, ComesTo, Gave, Told}
@@ -114,12 +114,12 @@ module _ {A V : Type 0} (meta : V → ObjectMeta) (api : Api A V) where
 
   -- a silent poll was one that was not ready, and nothing is still to be given
   pub silent-rests : (e : Bool) (ds : List (Dated V)) (now : ℕ) (a b : Settling A V) → StandsFor ds (watcher_in a) → Advanced (ApplyPolls meta api) Takes NeverUnnamed a.waiting a now 1 (silent e) b
-      → (e ≡ true) × (still_to_give b ≡ [])
+      → (e ≡ true) × (still_to_give b ≡ []) × (waiting_in (watcher_in b) ≡ [])
   silent-rests true ds now a b stands p =
       let q = advanced-silent (ApplyPolls meta api) Takes NeverUnnamed true a.waiting a now b p in
       let idle = watch-silent true ds now (watcher_in a) (watcher_in b) stands (passed-same arc_value meta (WatchPolls meta api) a.stream.fault now a.stream (Ok NotReady) b.stream refl q.1.0) in
-      (refl, ap₂ (λ ws ts. map arc_value (objects_in ws) ++ objects_in (all_settled (map arc_value b.adapt) ts)) q.0 idle.1)
+      (refl, ap₂ (λ ws ts. map arc_value (objects_in ws) ++ objects_in (all_settled (map arc_value b.adapt) ts)) q.0 idle.1, idle.1)
   silent-rests false ds now a b stands p =
       let q = advanced-silent (ApplyPolls meta api) Takes NeverUnnamed false a.waiting a now b p in
       let idle = watch-silent false ds now (watcher_in a) (watcher_in b) stands (passed-same arc_value meta (WatchPolls meta api) a.stream.fault now a.stream (Ok End) b.stream refl q.1.0) in
-      (idle.0, ap₂ (λ ws ts. map arc_value (objects_in ws) ++ objects_in (all_settled (map arc_value b.adapt) ts)) q.0 idle.1)
+      (idle.0, ap₂ (λ ws ts. map arc_value (objects_in ws) ++ objects_in (all_settled (map arc_value b.adapt) ts)) q.0 idle.1, idle.1)

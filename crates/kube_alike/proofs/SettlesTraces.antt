@@ -14,10 +14,10 @@ use Rattle.kube_alike.specs.Settles.{ArePolls}
 
 -- An exchange is the root's own, or another source's.
 module _ {O : Type 0} (d : Dated O) (ds : List (Dated O)) where
-  mine : d.exchange.source ≡ 0 → dated_of 0 (d ∷ ds) ≡ d ∷ dated_of 0 ds
+  pub mine : d.exchange.source ≡ 0 → dated_of 0 (d ∷ ds) ≡ d ∷ dated_of 0 ds
   mine e = ap (λ b. if b then d ∷ dated_of 0 ds else dated_of 0 ds) (ap (λ n. n == 0) e)
 
-  theirs : (place : ℕ) → d.exchange.source ≡ suc place → dated_of 0 (d ∷ ds) ≡ dated_of 0 ds
+  pub theirs : (place : ℕ) → d.exchange.source ≡ suc place → dated_of 0 (d ∷ ds) ≡ dated_of 0 ds
   theirs place e = ap (λ b. if b then d ∷ dated_of 0 ds else dated_of 0 ds) (ap (λ n. n == 0) e ∙ eqb-suc-zero place)
 
 -- The root's polls, of those of all sources.
@@ -41,13 +41,13 @@ module _ {O R S : Type 0} (root_polls : R → List (Dated O) → ℕ → Exchang
 
 -- The root's exchanges in a trace are those of a stream.
 module _ {O B : Type 0} (w : World O B) (streamed : feed_of w 0 ≡ Streamed) where
-  abbrev IsStreamOfRoot : Dated O → Type 0
+  abbrev pub IsStreamOfRoot : Dated O → Type 0
   IsStreamOfRoot d = d.exchange.source ≡ 0 → IsOfStream w d.exchange
 
   of-stream : (before : List (Dated O)) (at : ℕ) (x : Exchange O) → IsFitting w before at x → x.source ≡ 0 → IsOfStream w x
   of-stream before at x f root = subst (λ feed. IsOfRoot w feed (exchanges_of 0 before) x) streamed (subst (λ n. IsOfSource w n (exchanges_of n before) x) root f.content)
 
-  each-streamed : (h : List (Step O)) (t : Turn) (before xs : List (Exchange O)) (at : ℕ) → EachIsNext w h t before xs → AllByRecursion IsStreamOfRoot (dated at xs)
+  pub each-streamed : (h : List (Step O)) (t : Turn) (before xs : List (Exchange O)) (at : ℕ) → EachIsNext w h t before xs → AllByRecursion IsStreamOfRoot (dated at xs)
   each-streamed h t before [] at k = tt
   each-streamed h t before (x ∷ xs) at k = (of-stream (exchanges_with h t before) t.at x k.0.fits, each-streamed h t (before ++ x ∷ []) xs at k.1)
 

@@ -5,6 +5,9 @@ use Rattle.std.specs.Option.{option_map_or}
 use Rattle.std.specs.Arc.{arc_value}
 use Rattle.std.specs.declared.sync.Arc.{Arc}
 use Rattle.std.specs.declared.alloc.Global.{Global}
+use Rattle.kube_meta.specs.declared.metadata.ObjectMeta.{ObjectMeta}
+use Rattle.kube_meta.specs.Keys.{key_of}
+use Rattle.kube_meta.specs.Reference.{Reference}
 use Rattle.kube_model.specs.declared.call.Call.TheVariants.{List as ListCall, Watch, Next}
 use Rattle.kube_model.specs.declared.call.Answer.TheVariants.{Page, Opened, Added, Modified, Deleted, Bookmark}
 use Rattle.kube_model.specs.declared.error.Error.TheVariants.{NoResourceVersion}
@@ -13,11 +16,15 @@ use Rattle.kube_model.specs.History.{Dated, Exchange, Message}
 use Rattle.kube_model.specs.Cuts.{last}
 use Rattle.kube_model.specs.Owed.{is_not_ready}
 use Rattle.kube_model.specs.Fits.{requests_of_watch, updated}
+use Rattle.kube_model.specs.Store.{store_of}
 use Rattle.kube_watch.specs.declared.event.Event.{Event}
 use Rattle.kube_watch.specs.Polls.{Api, IsCall, IsNext, told_by}
 use Rattle.kube_watch.specs.Stands.{StandsFor, api_of, exchanges_in, row_of, settings_in, waiting_in}
 use Rattle.kube_watch.specs.Units.{bare}
 use Rattle.kube_watch.specs.Watching.{Watching}
+use Rattle.kube_reflect.specs.Cached.{nothing}
+use Rattle.kube_reflect.specs.Exchanged.{all_keyed}
+use Rattle.kube_reflect.specs.Writers.{Writing}
 use Rattle.kube_streams.specs.Adapts.{Adapting, Told}
 use Rattle.kube_streams.specs.Applies.{Applying}
 use Rattle.kube_streams.specs.Decodes.{listed_after, settled}
@@ -58,6 +65,14 @@ Settling A V = Adapting (Applying V (Watching A V)) (List (Arc V Global)) (Arc V
 abbrev pub watcher_in : {A V : Type 0} → Settling A V → Watching A V
 watcher_in s = s.stream.stream
 
+-- the writer of such a root
+abbrev pub reflecting_writer : {A V : Type 0} → RootFeeding (Settling A V) → Writing V
+reflecting_writer root = root.feeding.stream.stream.writer
+
+-- the reference of an object, with the type of the writer's
+abbrev pub key_in : {A V : Type 0} → (V → ObjectMeta) → RootFeeding (Settling A V) → V → Reference
+key_in meta root o = key_of (reflecting_writer root).kind (meta o)
+
 -- such a root, whose stream has not been polled
 pub record IsUnpolled {A V : Type 0} (root : RootFeeding (Settling A V)) : Type 0 where
   pub is_open : root.feeding.standing ≡ Open
@@ -91,14 +106,16 @@ AreCalled {A = A} api settings old (d ∷ ds) new = (middle : A) × IsCall api s
 abbrev pub is_at_rest : {O : Type 0} → List (Dated O) → Bool
 is_at_rest ds = option_map_or (λ d. is_not_ready d.exchange.answer) (last ds) false
 
--- the API of the root's watcher was asked, each time by the call that was owed; and what the root requested in its exchanges, and after it what is still to be given, is what a watched root requests of what the API was asked. Where the root was not ready at last nothing is still to be given
-pub record RequestsAlike {A V B : Type 0} (api : Api A V) (w : World V B) (old : RootFeeding (Settling A V)) (ds : List (Dated V)) (new : RootFeeding (Settling A V)) : Type 0 where
+-- the API of the root's watcher was asked, each time by the call that was owed; and what the root requested in its exchanges, and after it what is still to be given, is what a watched root requests of what the API was asked. Where the root was not ready at last nothing is still to be given, and a writer that had nothing at first stores what a watched root stores of what the API was asked
+pub record RequestsAlike {A V B : Type 0} (meta : V → ObjectMeta) (api : Api A V) (w : World V B) (old : RootFeeding (Settling A V)) (ds : List (Dated V)) (new : RootFeeding (Settling A V)) : Type 0 where
   pub asked : List (Dated V)
   pub owed : AreOwed (settings_in (watcher_in old.feeding.stream)) [] asked
   pub called : AreCalled api (settings_in (watcher_in old.feeding.stream)) (api_of (watcher_in old.feeding.stream)) asked (api_of (watcher_in new.feeding.stream))
   pub watches : StandsFor asked (watcher_in new.feeding.stream)
   pub requests : flat_map (λ d. d.exchange.requests) ds ++ map (updated w) (still_to_give new.feeding.stream) ≡ requests_after w [] (exchanges_in asked)
   pub rest : is_at_rest ds ≡ true → still_to_give new.feeding.stream ≡ []
+  pub kind : (reflecting_writer new).kind ≡ (reflecting_writer old).kind
+  pub stored : (reflecting_writer old).kept ≡ nothing → is_at_rest ds ≡ true → (reflecting_writer new).kept.cache ≡ all_keyed (key_in meta old) (store_of (key_in meta old) (exchanges_in asked))
 
 -- ---- worked rows, of objects that are numbers
 

@@ -59,7 +59,7 @@ pub fn fed_by_a_watcher_requests_alike<A: ApiMode, B>()
     ensures { (w : World A.Value B) (old new : RootFeeding (Settling A A.Value)) (ds : List (Dated A.Value)) → IsUnpolled old
         → AllByRecursion (λ d. IsOfStream w d.exchange) ds
         → ArePolls ⟦<StreamRoot<A::Value, Settled<Reflect<Watcher<A>, A::Value>>> as RootSource>⟧.polls [] old ds new
-        → RequestsAlike (record { moves = A.moves; talk = A.talk; faults = A.faults; version = version_of A.Value.meta_of }) w old ds new }
+        → RequestsAlike A.Value.meta_of (record { moves = A.moves; talk = A.talk; faults = A.faults; version = version_of A.Value.meta_of }) w old ds new }
 {}
 
 /// So it is in each trace of a controller whose root is so fed, whatever its related sources are: what the root requested by
@@ -69,7 +69,7 @@ pub fn fed_controllers_request_alike<A: ApiMode, S: RelatedSet<A::Value>, B>()
     ensures { (w : World A.Value B) (policies : ℕ → ℕ → A.Value → Option ℕ) (ts : List Turn) (ms : List (Made A.Value)) → feed_of w 0 ≡ Streamed → IsTrace w policies [] ts ms
         → (old new : RootFeeding (Settling A A.Value)) (s u : S) → IsUnpolled old
         → ArePolled ⟦<StreamRoot<A::Value, Settled<Reflect<Watcher<A>, A::Value>>> as RootSource>⟧.polls S.polls [] old s (dated_in (map (λ (m : Made A.Value). m.0) ms)) new u
-        → RequestsAlike (record { moves = A.moves; talk = A.talk; faults = A.faults; version = version_of A.Value.meta_of }) w old (dated_of 0 (dated_in (map (λ (m : Made A.Value). m.0) ms))) new }
+        → RequestsAlike A.Value.meta_of (record { moves = A.moves; talk = A.talk; faults = A.faults; version = version_of A.Value.meta_of }) w old (dated_of 0 (dated_in (map (λ (m : Made A.Value). m.0) ms))) new }
 {}
 
 /// Worked rows. A list in two pages is given at its last page, as it came, and each change after it as it comes; one that breaks

@@ -6,9 +6,10 @@ use kube_api::{
     ApiError, ApiMode, Bookmark, ListParams, Page, Recording, ResultPage, Sequence, SequenceStep,
     TestMode, WatchEvent, WatchParams,
 };
-use kube_meta::{DynamicObject, List, Moment, NoMemory, ObjectMeta, Polled, Text, TextMap};
+use kube_meta::{DynamicObject, List, Moment, ObjectMeta, Polled, Text, TextMap};
 use std::alloc::Global;
 use std::collections::VecDeque;
+use std::panic::Expect;
 use std::process::Abort;
 use std::sync::Arc;
 use std::test::Fail;
@@ -17,12 +18,13 @@ type Listed = Result<Page<DynamicObject>, ApiError>;
 
 type Event = Result<WatchEvent<DynamicObject>, ApiError>;
 
-fn any_list() -> ListParams {
+/// The parameters of a list's page.
+fn page_after(token: Option<Text>) -> ListParams {
     ListParams {
         label_selector: None,
         field_selector: None,
         limit: None,
-        continue_token: None,
+        continue_token: token,
         resource_version: None,
         version_match: None,
     }
@@ -38,39 +40,49 @@ fn any_watch() -> WatchParams {
     }
 }
 
-fn fault(alloc: Global, text: &str) -> Result<ApiError, NoMemory> {
-    Ok(ApiError::Transport(Text::new(alloc, text)?))
+fn fault(rt: &impl Abort, alloc: Global, text: &str) -> ApiError {
+    ApiError::Transport(Text::new(alloc, text).expect(rt, "memory"))
 }
 
-fn object(alloc: Global, name: &str) -> Result<DynamicObject, NoMemory> {
-    Ok(DynamicObject::bare(ObjectMeta {
-        name: Some(Text::new(alloc, name)?),
-        ..ObjectMeta::empty()
-    }))
+fn object(rt: &impl Abort, alloc: Global, name: &str) -> Arc<DynamicObject> {
+    let metadata = ObjectMeta {
+        name: Some(Text::new(alloc, name).expect(rt, "memory")),
+        namespace: None,
+        uid: None,
+        resource_version: None,
+        deletion_timestamp: None,
+        generation: None,
+        labels: None,
+        annotations: None,
+        finalizers: None,
+        owner_references: None,
+    };
+    Arc::new(alloc, DynamicObject::bare(metadata)).expect(rt, "memory")
 }
 
 /// A list with one object of a name.
-fn objects(alloc: Global, name: &str) -> Result<List<Arc<DynamicObject>>, NoMemory> {
+fn objects(rt: &impl Abort, alloc: Global, name: &str) -> List<Arc<DynamicObject>> {
+    let object = object(rt, alloc, name);
     let mut items = List::new(alloc);
-    items.push(Arc::new(alloc, object(alloc, name)?)?)?;
-    Ok(items)
+    items.push(object).expect(rt, "memory");
+    items
 }
 
 /// A page with one object of a name, and a version.
-fn page(alloc: Global, name: &str, version: &str) -> Result<Page<DynamicObject>, NoMemory> {
-    Ok(Page {
-        items: objects(alloc, name)?,
+fn page(rt: &impl Abort, alloc: Global, name: &str, version: &str) -> Page<DynamicObject> {
+    Page {
+        items: objects(rt, alloc, name),
         token: None,
-        version: Some(Text::new(alloc, version)?),
-    })
+        version: Some(Text::new(alloc, version).expect(rt, "memory")),
+    }
 }
 
 /// An entry of the lists: a page of one object of a name and a version, or a fault where the version is empty.
-fn entry(alloc: Global, name: &str, version: &str) -> Result<Listed, NoMemory> {
+fn entry(rt: &impl Abort, alloc: Global, name: &str, version: &str) -> Listed {
     if version.is_empty() {
-        return Ok(Err(fault(alloc, name)?));
+        return Err(fault(rt, alloc, name));
     }
-    Ok(Ok(page(alloc, name, version)?))
+    Ok(page(rt, alloc, name, version))
 }
 
 /// A step of a watch.
@@ -83,45 +95,42 @@ enum Step {
     Wait(u64),
 }
 
-fn bookmark(alloc: Global, version: &str) -> Result<Bookmark, NoMemory> {
-    Ok(Bookmark {
-        version: Text::new(alloc, version)?,
+fn bookmark(rt: &impl Abort, alloc: Global, version: &str) -> Bookmark {
+    Bookmark {
+        version: Text::new(alloc, version).expect(rt, "memory"),
         annotations: TextMap::new(alloc),
-    })
+    }
 }
 
 /// A step with one event.
-fn one(alloc: Global, event: Event) -> Result<SequenceStep<DynamicObject>, NoMemory> {
+fn one(rt: &impl Abort, alloc: Global, event: Event) -> SequenceStep<DynamicObject> {
     let mut events = VecDeque::new(alloc);
-    events.push_back(event)?;
-    Ok(SequenceStep::List(events))
+    events.push_back(event).expect(rt, "memory");
+    SequenceStep::List(events)
 }
 
-fn make_step(alloc: Global, step: Step) -> Result<SequenceStep<DynamicObject>, NoMemory> {
+fn make_step(rt: &impl Abort, alloc: Global, step: Step) -> SequenceStep<DynamicObject> {
     match step {
-        Step::Added(name) => {
-            let object = Arc::new(alloc, object(alloc, name)?)?;
-            one(alloc, Ok(WatchEvent::Added(object)))
-        }
+        Step::Added(name) => { one(rt, alloc, Ok(WatchEvent::Added(object(rt, alloc, name)))) }
         Step::Bookmark(version) => {
-            let bookmark = bookmark(alloc, version)?;
-            one(alloc, Ok(WatchEvent::Bookmark(bookmark)))
+            one(
+                rt,
+                alloc,
+                Ok(WatchEvent::Bookmark(bookmark(rt, alloc, version))),
+            )
         }
-        Step::Fault(text) => {
-            let fault = fault(alloc, text)?;
-            one(alloc, Err(fault))
-        }
-        Step::Nothing => Ok(SequenceStep::List(VecDeque::new(alloc))),
-        Step::Wait(nanos) => Ok(SequenceStep::Wait(nanos)),
+        Step::Fault(text) => one(rt, alloc, Err(fault(rt, alloc, text))),
+        Step::Nothing => SequenceStep::List(VecDeque::new(alloc)),
+        Step::Wait(nanos) => SequenceStep::Wait(nanos),
     }
 }
 
-fn sequence(alloc: Global, steps: &[Step]) -> Result<Sequence<DynamicObject>, NoMemory> {
+fn sequence(rt: &impl Abort, alloc: Global, steps: &[Step]) -> Sequence<DynamicObject> {
     let mut all = Vec::new(alloc);
     for step in steps {
-        all.push(make_step(alloc, *step)?)?;
+        all.push(make_step(rt, alloc, *step)).expect(rt, "memory");
     }
-    Ok(Sequence::new(all))
+    Sequence::new(all)
 }
 
 /// The name of an object, or that it has none.
@@ -168,49 +177,43 @@ fn shown(answer: &Polled<Option<Event>>) -> &str {
     }
 }
 
-/// The parameters of a list's second page.
-fn second_page(alloc: Global) -> Result<ListParams, NoMemory> {
-    Ok(ListParams {
-        continue_token: Some(Text::new(alloc, "t")?),
-        ..any_list()
-    })
-}
-
 /// A list call is answered so.
-fn lists<R: Abort + AllocGlobal>(
-    rt: &R,
+fn lists(
+    rt: &impl Abort,
+    alloc: Global,
     api: &mut TestMode<DynamicObject>,
     params: &ListParams,
     wanted: &str,
-) -> Result<(), Fail> {
-    let answer = api.list(rt.alloc(), params, Moment(0))?;
+) {
+    let answer = api.list(alloc, params, Moment(0)).expect(rt, "memory");
     assert_eq!(rt; shown_list(&answer), wanted);
-    Ok(())
 }
 
 /// A watch call at a moment is answered so.
-fn watches<R: Abort + AllocGlobal>(
-    rt: &R,
+fn watches(
+    rt: &impl Abort,
+    alloc: Global,
     api: &mut TestMode<DynamicObject>,
     version: &str,
     moment: u64,
     wanted: &str,
-) -> Result<(), Fail> {
-    let answer = api.watch(rt.alloc(), &any_watch(), version, Moment(moment))?;
+) {
+    let answer = api
+        .watch(alloc, &any_watch(), version, Moment(moment))
+        .expect(rt, "memory");
     assert_eq!(rt; shown_watch(&answer), wanted);
-    Ok(())
 }
 
 /// A poll of the open watch at a moment is answered so.
-fn polls<R: Abort + AllocGlobal>(
-    rt: &R,
+fn polls(
+    rt: &impl Abort,
+    alloc: Global,
     api: &mut TestMode<DynamicObject>,
     moment: u64,
     wanted: &str,
-) -> Result<(), Fail> {
-    let answer = api.next(rt.alloc(), Moment(moment))?;
+) {
+    let answer = api.next(alloc, Moment(moment)).expect(rt, "memory");
     assert_eq!(rt; shown(&answer), wanted, "at {moment}");
-    Ok(())
 }
 
 /// A call.
@@ -222,45 +225,68 @@ enum Ask {
     Next,
 }
 
+/// A list call for the page after a token, where there is one, is answered so.
+fn lists_after(
+    rt: &impl Abort,
+    alloc: Global,
+    api: &mut TestMode<DynamicObject>,
+    token: Option<Text>,
+    wanted: &str,
+) {
+    let params = page_after(token);
+    lists(rt, alloc, api, &params, wanted);
+}
+
 /// A call at a moment is answered so.
-fn asks<R: Abort + AllocGlobal>(
-    rt: &R,
+fn asks(
+    rt: &impl Abort,
+    alloc: Global,
     api: &mut TestMode<DynamicObject>,
     ask: Ask,
     moment: u64,
     wanted: &str,
-) -> Result<(), Fail> {
+) {
     match ask {
-        Ask::List => lists(rt, api, &any_list(), wanted),
-        Ask::SecondPage => lists(rt, api, &second_page(rt.alloc())?, wanted),
-        Ask::Watch(version) => watches(rt, api, version, moment, wanted),
-        Ask::Next => polls(rt, api, moment, wanted),
+        Ask::List => lists_after(rt, alloc, api, None, wanted),
+        Ask::SecondPage => {
+            let token = Text::new(alloc, "t").expect(rt, "memory");
+            lists_after(rt, alloc, api, Some(token), wanted);
+        }
+        Ask::Watch(version) => watches(rt, alloc, api, version, moment, wanted),
+        Ask::Next => polls(rt, alloc, api, moment, wanted),
     }
 }
 
-/// Calls, their moments and their answers.
-fn plays<R: Abort + AllocGlobal>(
-    rt: &R,
-    api: &mut TestMode<DynamicObject>,
-    calls: &[(Ask, u64, &str)],
-) -> Result<(), Fail> {
+/// A call, its moment and its answer.
+type Called = (Ask, u64, &'static str);
+
+/// Calls of an API are answered so.
+fn plays(rt: &impl Abort, alloc: Global, api: &mut TestMode<DynamicObject>, calls: &[Called]) {
     for (ask, moment, wanted) in calls {
-        asks(rt, api, *ask, *moment, wanted)?;
+        asks(rt, alloc, api, *ask, *moment, wanted);
     }
-    Ok(())
+}
+
+/// The same of an API that is let go then.
+fn plays_once(rt: &impl Abort, alloc: Global, api: TestMode<DynamicObject>, calls: &[Called]) {
+    let mut api = api;
+    plays(rt, alloc, &mut api, calls);
 }
 
 /// An API that answers two pages, and a fault between them.
-fn listed(alloc: Global) -> Result<TestMode<DynamicObject>, NoMemory> {
+fn listed(rt: &impl Abort, alloc: Global) -> TestMode<DynamicObject> {
     let mut lists = Vec::new(alloc);
     for (name, version) in [("a", "1"), ("unreachable", ""), ("b", "2")] {
-        lists.push(entry(alloc, name, version)?)?;
+        lists
+            .push(entry(rt, alloc, name, version))
+            .expect(rt, "memory");
     }
-    Ok(TestMode::new(alloc, lists, Vec::new(alloc)))
+    TestMode::new(alloc, lists, Vec::new(alloc))
 }
 
 #[test]
 fn lists_are_answered_until_none_is_left(rt: HostRuntime) -> Result<(), Fail> {
+    let alloc = rt.alloc();
     let calls = [
         (Ask::List, 0, "a"),
         (Ask::List, 0, "unreachable"),
@@ -268,7 +294,8 @@ fn lists_are_answered_until_none_is_left(rt: HostRuntime) -> Result<(), Fail> {
         (Ask::List, 0, "empty"),
         (Ask::List, 0, "empty"),
     ];
-    plays(&rt, &mut listed(rt.alloc())?, &calls)
+    plays_once(&rt, alloc, listed(&rt, alloc), &calls);
+    Ok(())
 }
 
 /// A silence of 5 from the poll that meets it, one of 0, and a step without events.
@@ -282,10 +309,12 @@ const WAITING: [Step; 6] = [
 ];
 
 /// An API that is watched once.
-fn watched(alloc: Global) -> Result<TestMode<DynamicObject>, NoMemory> {
+fn watched(rt: &impl Abort, alloc: Global) -> TestMode<DynamicObject> {
     let mut watches = Vec::new(alloc);
-    watches.push(sequence(alloc, &WAITING)?)?;
-    Ok(TestMode::new(alloc, Vec::new(alloc), watches))
+    watches
+        .push(sequence(rt, alloc, &WAITING))
+        .expect(rt, "memory");
+    TestMode::new(alloc, Vec::new(alloc), watches)
 }
 
 #[test]
@@ -303,19 +332,24 @@ fn silences_and_events_come_in_their_order(rt: HostRuntime) -> Result<(), Fail> 
         (Ask::Next, 15, "end"),
         (Ask::Next, 16, "end"),
     ];
-    plays(&rt, &mut watched(rt.alloc())?, &calls)
+    plays_once(&rt, rt.alloc(), watched(&rt, rt.alloc()), &calls);
+    Ok(())
 }
 
 /// Two bookmarks.
 const BOOKMARKS: [Step; 2] = [Step::Bookmark("8"), Step::Bookmark("9")];
 
 /// An API that is watched three times, the last time without an event.
-fn watched_thrice(alloc: Global) -> Result<TestMode<DynamicObject>, NoMemory> {
+fn watched_thrice(rt: &impl Abort, alloc: Global) -> TestMode<DynamicObject> {
     let mut watches = Vec::new(alloc);
-    watches.push(sequence(alloc, &WAITING)?)?;
-    watches.push(sequence(alloc, &BOOKMARKS)?)?;
-    watches.push(Sequence::default(alloc))?;
-    Ok(TestMode::new(alloc, Vec::new(alloc), watches))
+    watches
+        .push(sequence(rt, alloc, &WAITING))
+        .expect(rt, "memory");
+    watches
+        .push(sequence(rt, alloc, &BOOKMARKS))
+        .expect(rt, "memory");
+    watches.push(Sequence::default(alloc)).expect(rt, "memory");
+    TestMode::new(alloc, Vec::new(alloc), watches)
 }
 
 #[test]
@@ -330,7 +364,8 @@ fn a_watch_takes_the_place_of_the_open_one(rt: HostRuntime) -> Result<(), Fail> 
         (Ask::Watch("1"), 0, "TestMode watch sequence exhausted"),
         (Ask::Next, 0, "end"),
     ];
-    plays(&rt, &mut watched_thrice(rt.alloc())?, &calls)
+    plays_once(&rt, rt.alloc(), watched_thrice(&rt, rt.alloc()), &calls);
+    Ok(())
 }
 
 #[test]
@@ -340,7 +375,8 @@ fn a_watch_that_fails_leaves_the_open_one(rt: HostRuntime) -> Result<(), Fail> {
         (Ask::Watch("1"), 0, "TestMode watch sequence exhausted"),
         (Ask::Next, 0, "a"),
     ];
-    plays(&rt, &mut watched(rt.alloc())?, &calls)
+    plays_once(&rt, rt.alloc(), watched(&rt, rt.alloc()), &calls);
+    Ok(())
 }
 
 /// Which call it is.
@@ -365,11 +401,7 @@ fn text_of(call: &Recording) -> &str {
 }
 
 /// The calls of an API, in order.
-fn check_calls(
-    rt: &impl Abort,
-    api: &TestMode<DynamicObject>,
-    wanted: &[(&str, &str)],
-) -> Result<(), Fail> {
+fn check_calls(rt: &impl Abort, api: &TestMode<DynamicObject>, wanted: &[(&str, &str)]) {
     let recordings = api.get_recordings();
     assert_eq!(rt; recordings.len(), wanted.len());
     for (call, wanted) in recordings.iter().zip(wanted) {
@@ -377,7 +409,6 @@ fn check_calls(
         assert_eq!(rt; kind_of(call), kind);
         assert_eq!(rt; text_of(call), text);
     }
-    Ok(())
 }
 
 /// An API that answers by nothing.
@@ -395,7 +426,7 @@ fn calls_are_recorded_in_their_order(rt: HostRuntime) -> Result<(), Fail> {
         (Ask::Watch(""), 2, "TestMode watch sequence exhausted"),
     ];
     let mut api = empty(rt.alloc());
-    plays(&rt, &mut api, &calls)?;
+    plays(&rt, rt.alloc(), &mut api, &calls);
     let wanted = [
         ("list", "first"),
         ("list", "t"),
@@ -403,12 +434,15 @@ fn calls_are_recorded_in_their_order(rt: HostRuntime) -> Result<(), Fail> {
         ("next", ""),
         ("watch", ""),
     ];
-    check_calls(&rt, &api, &wanted)
+    check_calls(&rt, &api, &wanted);
+    Ok(())
 }
 
 #[test]
 fn no_call_is_recorded_before_the_first(rt: HostRuntime) -> Result<(), Fail> {
-    check_calls(&rt, &empty(rt.alloc()), &[])
+    let api = empty(rt.alloc());
+    check_calls(&rt, &api, &[]);
+    Ok(())
 }
 
 /// The names of a page's objects, its token and its version.
@@ -418,52 +452,63 @@ fn check_page(
     names: &[&str],
     token: Option<&str>,
     version: Option<&str>,
-) -> Result<(), Fail> {
+) {
     assert_eq!(rt; page.items.len(), names.len());
     for (object, name) in page.items.as_slice().iter().zip(names) {
         assert_eq!(rt; name_of(&**object), *name);
     }
     assert_eq!(rt; page.token.as_ref().map(|t| t.as_str()), token);
     assert_eq!(rt; page.version.as_ref().map(|t| t.as_str()), version);
-    Ok(())
 }
 
 #[test]
 fn an_empty_page_has_nothing(rt: HostRuntime) -> Result<(), Fail> {
     let empty = ResultPage::empty(rt.alloc()).into_page();
-    check_page(&rt, &empty, &[], None, None)
+    check_page(&rt, &empty, &[], None, None);
+    Ok(())
 }
 
 /// Two objects.
-fn two_objects(alloc: Global) -> Result<Vec<Arc<DynamicObject>>, NoMemory> {
+fn two_objects(rt: &impl Abort, alloc: Global) -> Vec<Arc<DynamicObject>> {
     let mut items = Vec::new(alloc);
     for name in ["a", "b"] {
-        items.push(Arc::new(alloc, object(alloc, name)?)?)?;
+        items.push(object(rt, alloc, name)).expect(rt, "memory");
     }
-    Ok(items)
+    items
 }
 
 /// A page of them with a token and a version.
-fn whole_page(alloc: Global) -> Result<Page<DynamicObject>, NoMemory> {
-    let items = two_objects(alloc)?;
-    let page = ResultPage::empty(alloc).continue_token(alloc, Some("t"))?;
-    let page = page.resource_version(alloc, Some("9"))?;
-    Ok(page.items(items).into_page())
+fn whole_page(rt: &impl Abort, alloc: Global) -> Page<DynamicObject> {
+    let items = two_objects(rt, alloc);
+    ResultPage::empty(alloc)
+        .continue_token(alloc, Some("t"))
+        .expect(rt, "memory")
+        .resource_version(alloc, Some("9"))
+        .expect(rt, "memory")
+        .items(items)
+        .into_page()
 }
 
 #[test]
 fn pages_are_made_part_by_part(rt: HostRuntime) -> Result<(), Fail> {
-    let page = whole_page(rt.alloc())?;
-    check_page(&rt, &page, &["a", "b"], Some("t"), Some("9"))
+    let page = whole_page(&rt, rt.alloc());
+    check_page(&rt, &page, &["a", "b"], Some("t"), Some("9"));
+    Ok(())
 }
 
 /// A page whose token was taken away.
-fn last_page(alloc: Global) -> Result<Page<DynamicObject>, NoMemory> {
-    let page = ResultPage::empty(alloc).continue_token(alloc, Some("t"))?;
-    Ok(page.continue_token(alloc, None)?.into_page())
+fn last_page(rt: &impl Abort, alloc: Global) -> Page<DynamicObject> {
+    ResultPage::empty(alloc)
+        .continue_token(alloc, Some("t"))
+        .expect(rt, "memory")
+        .continue_token(alloc, None)
+        .expect(rt, "memory")
+        .into_page()
 }
 
 #[test]
 fn the_last_token_stays(rt: HostRuntime) -> Result<(), Fail> {
-    check_page(&rt, &last_page(rt.alloc())?, &[], None, None)
+    let page = last_page(&rt, rt.alloc());
+    check_page(&rt, &page, &[], None, None);
+    Ok(())
 }

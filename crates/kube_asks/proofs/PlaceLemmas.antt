@@ -1,8 +1,12 @@
 -- What one place of a list becomes.
-use Rattle.std.proofs.Common.{◌≡◌, ◌≢◌, ℕ, zero, suc, ◌<◌, List, [], ◌∷◌, length, map, slice_set, get_or, refl, sym, ap, subst, ◌∙◌, arith}
+use Rattle.std.proofs.Common.{◌≡◌, ◌≢◌, ℕ, zero, suc, ◌<◌, List, [], ◌∷◌, length, map, slice_set, slice_get, unwrap_or, Option, None, get_or, refl, sym, ap, subst, ◌∙◌, arith}
+use mathlib.Core.HLevel.{is_prop→PathP}
+use native.Mathlib.Nat.{ℕ_set}
 use Rattle.std.specs.List.{AllByRecursion}
+use Rattle.std.specs.Global.{Vec}
+use Rattle.std.specs.Vec.{with_item}
+use Rattle.std.proofs.lemmas.List.{length-set}
 use Rattle.kube_model.specs.World.{Settings}
-use Rattle.std.specs.Prelude.{Option}
 use Rattle.kube_asks.specs.Places.{HoldsAt, ChangesAt}
 use Rattle.kube_asks.specs.Sources.{fed, feed_at}
 
@@ -50,3 +54,40 @@ module _ {T : Type 0} where
   feed-get settings [] place u l e = absurd (omega arith)
   feed-get settings (t ∷ ts) zero u l e = ap (λ z. fed (settings z)) (sym e)
   feed-get settings (t ∷ ts) (suc place) u l e = feed-get settings ts place u (omega arith) e
+
+  pub set-same : (ts : List T) (place : ℕ) (t u : T) → u ≡ get_or ts place u → t ≡ u → slice_set ts place t ≡ ts
+  set-same [] place t u e k = refl
+  set-same (v ∷ ts) zero t u e k = ap (λ z. z ∷ ts) (k ∙ e)
+  set-same (v ∷ ts) (suc place) t u e k = ap (λ r. v ∷ r) (set-same ts place t u e k)
+
+  -- a vector whose elements stay is the same
+  pub item-same : (v : Vec T) (place : ℕ) (t : T) → slice_set v.items place t ≡ v.items → with_item v place t ≡ v
+  item-same v place t e = λ j. record {
+    ptr = v.ptr;
+    len = v.len;
+    cap = v.cap;
+    alloc = v.alloc;
+    items = e j;
+    ok = (is_prop→PathP (λ k. v.len ≡ length (e k)) (λ k. ℕ_set v.len (length (e k))) (v.ok.0 ∙ sym (length-set v.items place t)) v.ok.0 j, v.ok.1);
+    small = v.small;
+  }
+
+  -- what is told of the element at a place, or nothing where there is none
+  module _ {A : Type 0} (told : T → Option A) where
+    pub told-get : (ts : List T) (place : ℕ) (u : T) → place < length ts → u ≡ get_or ts place u → unwrap_or (slice_get (map told ts) place) None ≡ told u
+    told-get [] place u l e = absurd (omega arith)
+    told-get (t ∷ ts) zero u l e = ap told (sym e)
+    told-get (t ∷ ts) (suc place) u l e = told-get ts place u (omega arith) e
+
+    pub told-set : (ts : List T) (place : ℕ) (t : T) → place < length ts → unwrap_or (slice_get (map told (slice_set ts place t)) place) None ≡ told t
+    told-set [] place t l = absurd (omega arith)
+    told-set (u ∷ ts) zero t l = refl
+    told-set (u ∷ ts) (suc place) t l = told-set ts place t (omega arith)
+
+    pub told-other : (ts : List T) (place p : ℕ) (t : T) → p ≢ place
+        → unwrap_or (slice_get (map told (slice_set ts place t)) p) None ≡ unwrap_or (slice_get (map told ts) p) None
+    told-other [] place p t n = refl
+    told-other (u ∷ ts) zero zero t n = absurd (n refl)
+    told-other (u ∷ ts) zero (suc p) t n = refl
+    told-other (u ∷ ts) (suc place) zero t n = refl
+    told-other (u ∷ ts) (suc place) (suc p) t n = told-other ts place p t (λ e. n (ap suc e))

@@ -32,6 +32,9 @@ asking_begun a budget = record a { kept = begun a.kept budget }
 abbrev pub with_pause : {R S B : Type 0} → Asking R S B → Pause B → Asking R S B
 with_pause a p = record a { kept = record a.kept { pause = p } }
 
+abbrev pub with_marks : {R S B : Type 0} → Asking R S B → List Bool → List Bool → Asking R S B
+with_marks a quiet dry = record a { kept = record a.kept { quiet = quiet; dry = dry } }
+
 -- the objects, the sources and the backoff of this world are these
 pub record IsWorldOf {O B : Type 0} (w : World O B) (t : ObjectType) (meta : O → ObjectMeta) (feed : Feed) (feeds : List (Option Settings)) (delay : B → ℕ → Option ℕ) (delayed : B → ℕ → B) (restarted : B → B) : Type 0 where
   pub fed_so : w.feeds ≡ feed ∷ map fed feeds

@@ -7,12 +7,13 @@ ghost use Rattle.kube_model.specs.World.{World, is_queue, is_watched, feed_of};
 ghost use Rattle.kube_model.specs.History.{Dated, Exchange};
 ghost use Rattle.kube_model.specs.Fits.{IsFitting};
 ghost use Rattle.kube_model.specs.Pause.{gave_up, pause_asked};
+ghost use Rattle.kube_model.specs.Owed.{is_not_ready};
 ghost use Rattle.kube_model.specs.Asks.{next_asked, stops_of};
 ghost use Rattle.kube_watch.specs.Polls.{dated_now};
 ghost use Rattle.kube_turn.specs.Views.{exchange_of};
 ghost use Rattle.kube_asks.specs.Sources.{is_stream};
 ghost use Rattle.kube_asks.specs.Kept.{is_marked, with_mark, may_ask_by, is_quiet_by, has_budget_by, stop_by, noted, spent_at, pause_noted, marked_where, is_stream_end as ended, is_root_queue, total, asked_where, reset_where};
-ghost use Rattle.kube_asks.specs.Asking.{AskStands, IsNextAsked, IsWorldOf, Asking, asking_at_first, asking_begun, with_asked, SourcesStand, of_source, with_pause, IsPolledAt, IsBrokenAt, IsLostAt, IfUnnamed};
+ghost use Rattle.kube_asks.specs.Asking.{AskStands, IsNextAsked, IsWorldOf, Asking, asking_at_first, asking_begun, with_asked, SourcesStand, of_source, with_pause, with_marks, IsPolledAt, IsBrokenAt, IsLostAt, IfUnnamed};
 
 use crate::root::RootSource;
 use crate::set::RelatedSet;
@@ -114,23 +115,14 @@ fn spend(left: &mut Vec<u32>, source: u32)
 
 /// Marks a source.
 fn mark(marks: &mut Vec<bool>, source: u32) -> Result<(), NoMemory>
-    ensures { OnOk result (marks.new.items ≡ with_mark marks.old.items source) }
+    ensures ok { OnOk result (marks.new.items ≡ with_mark marks.old.items source) }
+    ensures err { OnErr result (marks.new.items ≡ marks.old.items) }
 {
     let place = source as usize;
-    for _missing in marks.len()..place + 1 {
-        marks.push(false)?;
+    if marks.len() <= place {
+        marks.resize(place + 1, false)?;
     }
     marks[place] = true;
-    Ok(())
-}
-
-/// Marks a source, where this holds.
-fn mark_where(holds: bool, marks: &mut Vec<bool>, source: u32) -> Result<(), NoMemory>
-    ensures { OnOk result (marks.new.items ≡ marked_where holds marks.old.items source) }
-{
-    if holds {
-        mark(marks, source)?;
-    }
     Ok(())
 }
 
@@ -313,7 +305,26 @@ impl<R: RootSource, S: RelatedSet<R::Object>, B: Backoff> Asks<R, S, B> {
         }
     }
 
-    /// Keeps what an exchange leaves.
+    /// Marks the source of an exchange that told not ready, or that is a stream which has ended.
+    fn note_marks(
+        &mut self,
+        source: u32,
+        exchange: &SourceExchange<R::Object>,
+    ) -> Result<(), NoMemory>
+        ensures ok { OnOk result (self.new ≡ with_marks self.old (marked_where (is_not_ready (exchange_of R.Object.type_of exchange.now).answer) self.old.kept.quiet source)
+            (marked_where (ended (exchange_of R.Object.type_of exchange.now)) self.old.kept.dry source)) }
+        ensures err { OnErr result (self.new ≡ self.old) }
+    {
+        if matches!(&exchange.answer, Answer::NotReady) {
+            return mark(&mut self.quiet, source);
+        }
+        if is_stream_end(exchange) {
+            return mark(&mut self.dry, source);
+        }
+        Ok(())
+    }
+
+    /// Keeps what an exchange leaves: first what takes memory.
     fn note(
         &mut self,
         now: Moment,
@@ -325,14 +336,14 @@ impl<R: RootSource, S: RelatedSet<R::Object>, B: Backoff> Asks<R, S, B> {
         ensures root { self.new.root ≡ self.old.root }
         ensures related { self.new.related ≡ self.old.related }
         ensures spent { self.new.is_spent ≡ self.old.is_spent }
+        ensures err { OnErr result (self.new.kept ≡ self.old.kept) }
     {
+        self.note_marks(source, exchange)?;
         let queue = self.is_root_queue(source);
         self.note_pause(now, queue, exchange);
         self.after = source + 1;
         spend(&mut self.left, source);
-        let unready = matches!(&exchange.answer, Answer::NotReady);
-        mark_where(unready, &mut self.quiet, source)?;
-        mark_where(is_stream_end(exchange), &mut self.dry, source)
+        Ok(())
     }
 
     /// The first source in turn that may be asked.
@@ -451,8 +462,8 @@ impl<R: RootSource, S: RelatedSet<R::Object>, B: Backoff> Asks<R, S, B> {
     ///
     /// # Errors
     ///
-    /// `Unnamed` exactly where an item of that exchange must become a reference and has no name; `NoMemory`. After any
-    /// fault only `Spent`.
+    /// `Unnamed` exactly where an item of that exchange must become a reference and has no name; `NoMemory`. A fault leaves
+    /// the pause, the backoff, the budgets, the marks and whose turn it is as they were. After one only `Spent`.
     pub fn next(
         &mut self,
         alloc: Global,
@@ -494,6 +505,8 @@ impl<R: RootSource, S: RelatedSet<R::Object>, B: Backoff> Asks<R, S, B> {
         ensures unspent { OnOk result (self.new.is_spent ≡ false) }
         ensures only { IfErr result (λ f. f ≡ AskFault.Spent → self.old.is_spent ≡ true) }
         ensures err { OnErr result (self.new.is_spent ≡ true) }
+        // no fault touches the pause, the order, the budgets or the marks
+        ensures kept { OnErr result (self.new.kept ≡ self.old.kept) }
     {
         if self.spent {
             return Err(AskFault::Spent);

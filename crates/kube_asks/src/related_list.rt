@@ -38,7 +38,7 @@ impl<T: Drop> RelatedList<T> {
 }
 
 impl<K: Resource, T: Related<K>> RelatedSet<K> for RelatedList<T> {
-    ghost use Rattle.std.specs.Prelude.{map};
+    ghost use Rattle.std.specs.Prelude.{map, slice_get, unwrap_or, None};
     ghost use Rattle.std.specs.List.{AllByRecursion, AllZip};
     ghost use Rattle.kube_asks.specs.Places.{HoldsAt, ChangesAt};
 
@@ -49,6 +49,8 @@ impl<K: Resource, T: Related<K>> RelatedSet<K> for RelatedList<T> {
     ghost alike = { λ s u. AllZip T.alike s.items.items u.items.items };
 
     ghost stands = { λ s p own. HoldsAt (λ t. T.stands t own) s.items.items p };
+
+    ghost fault_at = { λ s p. unwrap_or (slice_get (map T.fault s.items.items) p) None };
 
     ghost polls = { λ s p own now x s'. ChangesAt (λ t u. T.polls t own now x u) p s.items.items s'.items.items };
 

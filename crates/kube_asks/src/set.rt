@@ -11,13 +11,13 @@ use std::alloc::Global;
 
 /// Related sources at numbered places, from 0 on. A poll at a place is one of the source there and changes no other.
 pub trait RelatedSet<K: Resource>: Drop {
-    ghost use Rattle.std.specs.Prelude.{ℕ, List, Option, ◌∷◌, [], ◌++◌, IfOk, IsErrOf, ◌≡◌, ◌≢◌, ◌<◌, ◌^◌, length, ⊤};
+    ghost use Rattle.std.specs.Prelude.{ℕ, List, Option, Some, Err, ◌∷◌, [], ◌++◌, IfOk, IsErrOf, ◌≡◌, ◌≢◌, ◌<◌, ◌^◌, length, ⊤};
     ghost use Rattle.kube_model.specs.World.{Settings};
     ghost use Rattle.kube_model.specs.History.{Dated, Exchange};
     ghost use Rattle.kube_watch.specs.Polls.{dated_now};
     ghost use Rattle.kube_watch.specs.declared.stream.StreamFault.{StreamFault};
     ghost use Rattle.kube_turn.specs.Views.{exchange_of};
-    ghost use Rattle.kube_asks.specs.Sources.{IsRelatedNext, IsSame, feed_at};
+    ghost use Rattle.kube_asks.specs.Sources.{IsRelatedNext, IsSame, feed_at, fault_answered};
 
     /// How the source at each place lists and watches, or none where it is a stream. There are as many places.
     ghost feeds: { Self → List (Option Settings) };
@@ -30,6 +30,10 @@ pub trait RelatedSet<K: Resource>: Drop {
 
     /// What the source at a place stands for: exchanges of its own.
     ghost stands: { Self → ℕ → List (Dated K) → Type 0 };
+
+    /// The fault that the source at a place answered last, which is all that it answers from then on; none where there was
+    /// no fault.
+    ghost fault_at: { Self → ℕ → Option StreamFault };
 
     /// What an exchange of the source at a place, after its own before, at a moment, makes of the set.
     ghost polls: { Self → ℕ → List (Dated K) → ℕ → Exchange K → Self → Type 0 };
@@ -47,7 +51,7 @@ pub trait RelatedSet<K: Resource>: Drop {
 
     /// Makes the exchange that is next for the source at a place, at a moment.
     ///
-    /// Errors: those of the source. After one it must not be polled any more.
+    /// Errors: those of the source. After one a poll at that place answers only that, and asks and changes nothing.
     fn poll_at(
         &mut self,
         alloc: Global,
@@ -66,5 +70,8 @@ pub trait RelatedSet<K: Resource>: Drop {
         ensures polls { IfOk result (λ x. (own : List (Dated K)) (y : Exchange K) → stands self.old place own → IsSame (exchange_of K.type_of x) y
             → polls self.old place own now.0 y self.new) }
         ensures unnamed { IsErrOf result StreamFault.Unnamed → breaks self.old place now.0 self.new }
-        ensures lost { IsErrOf result StreamFault.NoMemory → loses self.old place now.0 self.new };
+        ensures lost { IsErrOf result StreamFault.NoMemory → loses self.old place now.0 self.new }
+        ensures fault { fault_at self.new place ≡ fault_answered result }
+        ensures after { (f : StreamFault) → fault_at self.old place ≡ Some f → (result ≡ Err f) × (self.new ≡ self.old) }
+        ensures other_faults { (p : ℕ) → p ≢ place → fault_at self.new p ≡ fault_at self.old p };
 }

@@ -16,7 +16,7 @@ use std::alloc::Global;
 pub struct NoRelated;
 
 impl<K: Resource> RelatedSet<K> for NoRelated {
-    ghost use Rattle.std.specs.Prelude.{[], ⊤};
+    ghost use Rattle.std.specs.Prelude.{[], None, ⊤};
 
     ghost feeds = { λ s. [] };
 
@@ -25,6 +25,8 @@ impl<K: Resource> RelatedSet<K> for NoRelated {
     ghost alike = { λ s u. ⊤ };
 
     ghost stands = { λ s p own. ⊤ };
+
+    ghost fault_at = { λ s p. None };
 
     ghost polls = { λ s p own now x s'. ⊥ };
 
@@ -54,7 +56,7 @@ impl<K: Resource> RelatedSet<K> for NoRelated {
 pub struct One<T>(pub T);
 
 impl<K: Resource, T: Related<K>> RelatedSet<K> for One<T> {
-    ghost use Rattle.std.specs.Prelude.{◌∷◌, [], ◌==◌, ⊤};
+    ghost use Rattle.std.specs.Prelude.{◌∷◌, [], ◌==◌, None, if◌then◌else◌, ⊤};
     ghost use Rattle.kube_asks.specs.Places.{Either};
 
     ghost feeds = { λ s. T.settings s.0 ∷ [] };
@@ -64,6 +66,8 @@ impl<K: Resource, T: Related<K>> RelatedSet<K> for One<T> {
     ghost alike = { λ s u. T.alike s.0 u.0 };
 
     ghost stands = { λ s p own. Either (p == 0) (T.stands s.0 own) ⊤ };
+
+    ghost fault_at = { λ s p. (if p == 0 then T.fault s.0 else None) };
 
     ghost polls = { λ s p own now x s'. Either (p == 0) (T.polls s.0 own now x s'.0) ⊥ };
 
@@ -93,7 +97,7 @@ pub struct Beside<S, T> {
 }
 
 impl<K: Resource, S: RelatedSet<K>, T: RelatedSet<K>> RelatedSet<K> for Beside<S, T> {
-    ghost use Rattle.std.specs.Prelude.{◌≡◌, ◌++◌, ◌-◌, nat_lt, length};
+    ghost use Rattle.std.specs.Prelude.{◌≡◌, ◌++◌, ◌-◌, nat_lt, length, if◌then◌else◌};
     ghost use Rattle.kube_asks.specs.Places.{Either};
 
     ghost feeds = { λ s. S.feeds s.first ++ T.feeds s.rest };
@@ -103,6 +107,8 @@ impl<K: Resource, S: RelatedSet<K>, T: RelatedSet<K>> RelatedSet<K> for Beside<S
     ghost alike = { λ s u. S.alike s.first u.first × T.alike s.rest u.rest };
 
     ghost stands = { λ s p own. Either (nat_lt p (length (S.feeds s.first))) (S.stands s.first p own) (T.stands s.rest (p - length (S.feeds s.first)) own) };
+
+    ghost fault_at = { λ s p. (if nat_lt p (length (S.feeds s.first)) then S.fault_at s.first p else T.fault_at s.rest (p - length (S.feeds s.first))) };
 
     ghost polls = { λ s p own now x s'. Either (nat_lt p (length (S.feeds s.first)))
         (S.polls s.first p own now x s'.first × (s'.rest ≡ s.rest))

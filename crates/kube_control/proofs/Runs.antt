@@ -7,11 +7,11 @@ use Rattle.kube_meta.specs.Reference.{Reference, ObjectType}
 use Rattle.kube_meta.specs.declared.action.Action.{Action}
 use Rattle.kube_meta.specs.declared.resource.Resource as resource
 use Rattle.kube_model.specs.World.{World}
-use Rattle.kube_model.specs.History.{Taken, Turn, TurnRecord, Step, dated, exchanges, exchanges_of}
+use Rattle.kube_model.specs.History.{Turn, TurnRecord, Step, dated, exchanges, exchanges_of}
 use Rattle.kube_model.specs.Named.{AreNamedTurns, RootIsNamed}
 use Rattle.kube_model.specs.Raw.{grown_by}
 use Rattle.kube_model.specs.Takes.{running}
-use Rattle.kube_model.specs.Traces.{IsRefusedAfter, IsTrace, IsValid, Refusal, has_ended, refusal, step, steps, unread}
+use Rattle.kube_model.specs.Traces.{IsRefusedAfter, IsTrace, Refusal, has_ended, refusal, step, steps, unread}
 use Rattle.kube_streams.specs.declared.backoff.Backoff as backoff
 use Rattle.kube_reflect.specs.Cached.{Kept}
 use Rattle.kube_reflect.specs.Exchanged.{IsLeftBy}
@@ -23,19 +23,17 @@ use Rattle.kube_asks.specs.declared.root.RootSource as root_source
 use Rattle.kube_asks.specs.declared.set.RelatedSet as related_set
 use Rattle.kube_turn.specs.declared.turn.Turn.{Turn as HeldTurn}
 use Rattle.kube_turn.specs.declared.record.TurnRecord.{TurnRecord as HeldRecord}
-use Rattle.kube_turn.specs.Records.{record_of, turn_of}
-use Rattle.kube_step.specs.Asked.{AllStand, AllStored, AreEndedBy, NotAsked}
+use Rattle.kube_turn.specs.Records.{record_of, turn_of, turns_of}
 use Rattle.kube_step.specs.Calls.{ArePolled, dated_in}
 use Rattle.kube_step.specs.Finishes.{AreFinished}
 use Rattle.kube_step.specs.HandOvers.{handed, handed_by, taken_by}
 use Rattle.kube_step.specs.Policies.{answered_in, answered_by}
-use Rattle.kube_step.specs.Turns.{AreFirstTakes, IsTaken, NoneTaken}
+use Rattle.kube_step.specs.Turns.{IsTaken}
 use Rattle.kube_step.proofs.Asking.{polled-append}
-use Rattle.kube_step.proofs.Taking.{grown-nil, grown-append}
-use Rattle.kube_step.proofs.Turned.{if-unnamed}
+use Rattle.kube_step.proofs.Taking.{grown-append}
 use Rattle.kube_step.proofs.Traced.{exchanges-are, exchanges-more, named-push, steps-end, steps-push, trace-ends, trace-long, trace-push}
 use Rattle.kube_control.specs.Controllers.{Controlling}
-use Rattle.kube_control.specs.Runs.{AreFinishedIn, HaveRun, IsBrokenOff, IsNextTurn, IsWatching, WereBrokenOff}
+use Rattle.kube_control.specs.Runs.{AreFinishedIn, HaveRun, IsBrokenOff, OfValid, Untold, IsNextTurn, IsWatching, WereBrokenOff}
 use Rattle.kube_control.proofs.Histories.{one-more}
 use Rattle.kube_control.proofs.Refusals.{ended-push, moment-push, refused-after}
 
@@ -90,40 +88,15 @@ module _ {R S B O D : Type 0} (root : root_source.Ghosts R O D) (related : relat
         };
       }
 
-  -- a turn that was broken off
-  pub broken-is : (f : AskFault) (h : List (Step O)) (t : Turn) (c c0 : Con) (kept : Kept O) (r : R) (s : S) (had has : Option (List (Reference × O))) (ts : List (Taken O)) → c0 ≡ c
-      → IsValid h t → AreEndedBy root related w h t f kept [] c0.asks.root c0.asks.related r s → AreFirstTakes w h t ts → has ≡ grown_by had (handed_by ts)
-      → IsBrokenOff root related delays object w f h t c.asks.root c.asks.related kept r s had has
-  broken-is f h t c c0 kept r s had has ts same valid ended first handed-so = record {
-    valid = if-unnamed f (IsValid h t) valid;
-    ended = subst (λ (z : Con). AreEndedBy root related w h t f kept [] z.asks.root z.asks.related r s) same ended;
-    taken = ts;
-    first = first;
-    handed = handed-so;
-  }
-
   -- nothing was asked, and nothing handed over
-  pub nothing-lost : (h : List (Step O)) (t : Turn) (c : Con) (had : Option (List (Reference × O))) → IsWatching root related delays object w h c
-      → IsBrokenOff root related delays object w faults.NoMemory h t c.asks.root c.asks.related c.core.writer.kept c.asks.root c.asks.related had had
-  nothing-lost h t c had k = record {
-    valid = tt;
-    ended = (
-      record {
-        made = [];
-        asked = tt;
-        each_named = tt;
-        reached_root = c.asks.root;
-        reached_related = c.asks.related;
-        polled = (refl, refl);
-        stand = subst (AllStand root related c.asks.root c.asks.related) (k.may.parts.joined ∙ sym (append-nil (exchanges h))) k.may.parts.asks_stand.sources;
-        rest = NotAsked refl refl;
-      },
-      AllStored (subst (λ ds. IsLeftBy w.key (exchanges_of 0 ds) c.core.writer.kept) (k.may.parts.agrees.answers ∙ sym (append-nil (exchanges h))) k.may.parts.core_stands.stored),
-    );
-    taken = [];
-    first = NoneTaken refl;
-    handed = sym (grown-nil had);
-  }
+  pub nothing-lost : {E : Type 0} (policy : O → E → Action → Type 0) (h : List (Step O)) (t : HeldTurn O E D) (c : Con) (had : Option (List (Reference × O))) → IsWatching root related delays object w h c
+      → IsBrokenOff root related object policy w faults.NoMemory h t c.asks.root c.asks.related c.core.writer.kept c.asks.root c.asks.related had had
+  nothing-lost policy h t c had k = Untold refl refl refl refl (subst (λ ds. IsLeftBy w.key (exchanges_of 0 ds) c.core.writer.kept) k.may.parts.agrees.answers k.may.parts.core_stands.stored)
+
+  -- a turn that was broken off, of the same controller
+  pub broken-is : {E : Type 0} (policy : O → E → Action → Type 0) (f : AskFault) (h : List (Step O)) (t : HeldTurn O E D) (c c0 : Con) (kept : Kept O) (r : R) (s : S) (had has : Option (List (Reference × O))) → c0 ≡ c
+      → IsBrokenOff root related object policy w f h t c0.asks.root c0.asks.related kept r s had has → IsBrokenOff root related object policy w f h t c.asks.root c.asks.related kept r s had has
+  broken-is policy f h t c c0 kept r s had has same b = subst (λ (z : Con). IsBrokenOff root related object policy w f h t z.asks.root z.asks.related kept r s had has) same b
 
   pub run-none : (h : List (Step O)) (c : Con) → IsWatching root related delays object w h c → HaveRun root related delays object w h [] c [] c
   run-none h c k = record {
@@ -178,42 +151,47 @@ module _ {R S B O D : Type 0} (root : root_source.Ghosts R O D) (related : relat
         subst (λ us. HaveRun root related delays object w h us c rs c') front k,
       )
 
-      pub run-broken : (f : AskFault) (c'' : Con) (had has' has : Option (List (Reference × O))) → slice_get all (length rs) ≡ Some t → has' ≡ grown_by had (handed_by (taken_by rs))
-          → IsBrokenOff root related delays object w f (h ++ so-far) t c'.asks.root c'.asks.related c''.core.writer.kept c''.asks.root c''.asks.related has' has → WereBrokenOff root related delays object w f h all c rs c'' had has
-      run-broken f c'' had has' has next grew b = record {
-        traced = subst (λ us. IsTrace w (answered_by rs) h us (map unread rs)) front k.traced;
-        all_named = subst (λ us. AreNamedTurns w (RootIsNamed w) h (steps us (map unread rs))) front k.all_named;
-        reached_root = c'.asks.root;
-        reached_related = c'.asks.related;
-        polled = k.polled;
-        turn = t;
-        next = next;
-        going = subst (λ us. has_ended (h ++ steps us (map unread rs)) ≡ false) front (open-yet going);
+    pub run-broken : {E : Type 0} (policy : O → E → Action → Type 0) → c'.has_ended ≡ false → (all : List (HeldTurn O E D)) (t : HeldTurn O E D) → ts ≡ take (length rs) (turns_of object.type_of all) → slice_get all (length rs) ≡ Some t
+        → (f : AskFault) (c'' : Con) (had has' has : Option (List (Reference × O))) → has' ≡ grown_by had (handed_by (taken_by rs))
+        → IsBrokenOff root related object policy w f (h ++ so-far) t c'.asks.root c'.asks.related c''.core.writer.kept c''.asks.root c''.asks.related has' has → WereBrokenOff root related object policy w f h all c rs c'' had has
+    run-broken policy going all t front next f c'' had has' has grew b = record {
+      traced = subst (λ us. IsTrace w (answered_by rs) h us (map unread rs)) front k.traced;
+      all_named = subst (λ us. AreNamedTurns w (RootIsNamed w) h (steps us (map unread rs))) front k.all_named;
+      reached_root = c'.asks.root;
+      reached_related = c'.asks.related;
+      polled = k.polled;
+      turn = t;
+      next = next;
+      going = subst (λ us. has_ended (h ++ steps us (map unread rs)) ≡ false) front (open-yet going);
+      broken =
+          subst (λ us. IsBrokenOff root related object policy w f (h ++ steps us (map unread rs)) t c'.asks.root c'.asks.related c''.core.writer.kept c''.asks.root c''.asks.related (grown_by had (handed_by (taken_by rs))) has) front
+          (subst (λ z. IsBrokenOff root related object policy w f (h ++ so-far) t c'.asks.root c'.asks.related c''.core.writer.kept c''.asks.root c''.asks.related z has) grew b);
+    }
+
+module _ {R S B O D E : Type 0} (root : root_source.Ghosts R O D) (related : related_set.Ghosts S O D) (object : resource.Ghosts O D) (policy : O → E → Action → Type 0) (w : World O B) (h : List (Step O)) (all : List (HeldTurn O E D))
+    (c : Controlling R S B O D) (rs : List (TurnRecord O)) (c' : Controlling R S B O D) (had has : Option (List (Reference × O))) where
+  -- what is said of the sources alone holds of any controller with the same
+  pub broken-same : (f : AskFault) (c'' : Controlling R S B O D) → c''.asks ≡ c'.asks → c''.core ≡ c'.core
+      → WereBrokenOff root related object policy w f h all c rs c' had has → WereBrokenOff root related object policy w f h all c rs c'' had has
+  broken-same f c'' e same b =
+      let before = h ++ steps (take (length rs) (turns_of object.type_of all)) (map unread rs) in record {
+        traced = b.traced;
+        all_named = b.all_named;
+        reached_root = b.reached_root;
+        reached_related = b.reached_related;
+        polled = b.polled;
+        turn = b.turn;
+        next = b.next;
+        going = b.going;
         broken =
-            subst (λ us. IsBrokenOff root related delays object w f (h ++ steps us (map unread rs)) t c'.asks.root c'.asks.related c''.core.writer.kept c''.asks.root c''.asks.related (grown_by had (handed_by (taken_by rs))) has) front
-            (subst (λ z. IsBrokenOff root related delays object w f (h ++ so-far) t c'.asks.root c'.asks.related c''.core.writer.kept c''.asks.root c''.asks.related z has) grew b);
+            subst (λ (a : Asking R S B). IsBrokenOff root related object policy w f before b.turn b.reached_root b.reached_related c''.core.writer.kept a.root a.related (grown_by had (handed_by (taken_by rs))) has) (sym e)
+            (subst (λ (p : Parts O D). IsBrokenOff root related object policy w f before b.turn b.reached_root b.reached_related p.writer.kept c'.asks.root c'.asks.related (grown_by had (handed_by (taken_by rs))) has) (sym same) b.broken);
       }
 
-  -- what is said of the sources alone holds of any controller with the same
-  pub broken-same : (f : AskFault) (h : List (Step O)) (all : List Turn) (c : Con) (rs : List (TurnRecord O)) (c' c'' : Con) (had has : Option (List (Reference × O))) → c''.asks ≡ c'.asks → c''.core ≡ c'.core
-      → WereBrokenOff root related delays object w f h all c rs c' had has → WereBrokenOff root related delays object w f h all c rs c'' had has
-  broken-same f h all c rs c' c'' had has e same b = record {
-    traced = b.traced;
-    all_named = b.all_named;
-    reached_root = b.reached_root;
-    reached_related = b.reached_related;
-    polled = b.polled;
-    turn = b.turn;
-    next = b.next;
-    going = b.going;
-    broken =
-        subst
-        (λ (a : Asking R S B). IsBrokenOff root related delays object w f (h ++ steps (take (length rs) all) (map unread rs)) b.turn b.reached_root b.reached_related c''.core.writer.kept a.root a.related (grown_by had (handed_by (taken_by rs))) has)
-        (sym e)
-        (subst
-        (λ (p : Parts O D). IsBrokenOff root related delays object w f (h ++ steps (take (length rs) all) (map unread rs)) b.turn b.reached_root b.reached_related p.writer.kept c'.asks.root c'.asks.related (grown_by had (handed_by (taken_by rs))) has)
-        (sym same) b.broken);
-  }
+  none-spent : (t : HeldTurn O E D) (r : R) (s : S) (kept : Kept O) (r' : R) (s' : S) (o o' : Option (List (Reference × O)))
+      → IsBrokenOff root related object policy w faults.Spent (h ++ steps (take (length rs) (turns_of object.type_of all)) (map unread rs)) t r s kept r' s' o o' → ⊥
+  none-spent t r s kept r' s' o o' (OfValid valid taken handed ended) = ended
+  none-spent t r s kept r' s' o o' (Untold f a b n l) = absurd (cc)
 
-  pub never-spent : (h : List (Step O)) (all : List Turn) (c : Con) (rs : List (TurnRecord O)) (c' : Con) (had has : Option (List (Reference × O))) → WereBrokenOff root related delays object w faults.Spent h all c rs c' had has → ⊥
-  never-spent h all c rs c' had has b = b.broken.ended
+  pub never-spent : WereBrokenOff root related object policy w faults.Spent h all c rs c' had has → ⊥
+  never-spent b = none-spent b.turn b.reached_root b.reached_related c'.core.writer.kept c'.asks.root c'.asks.related (grown_by had (handed_by (taken_by rs))) has b.broken

@@ -141,8 +141,8 @@ module _ {R S B O D E : Type 0} (root : root_source.Ghosts R O D) (related : rel
             )
 
         pub broken-end : (f : AskFault) → had' ≡ grown_by had (handed_by (taken_by (map (record_of object.type_of) rs)))
-            → IsBrokenOff root related delays object w f (h ++ steps (map turn-of ys) (map unread (map (record_of object.type_of) rs))) (turn-of t) c'.asks.root c'.asks.related c''.core.writer.kept c''.asks.root c''.asks.related had' had''
-            → WereBrokenOff root related delays object w f h (map turn-of all) c (map (record_of object.type_of) rs) c'' had had''
+            → IsBrokenOff root related object policy w f (h ++ steps (map turn-of ys) (map unread (map (record_of object.type_of) rs))) t c'.asks.root c'.asks.related c''.core.writer.kept c''.asks.root c''.asks.related had' had''
+            → WereBrokenOff root related object policy w f h all c (map (record_of object.type_of) rs) c'' had had''
         broken-end f grew b =
-            run-broken root related delays object w h (map turn-of ys) c (map (record_of object.type_of) rs) c' k.0 going (map turn-of all) (turn-of t) (map turn-of rest) all-are front f c'' had had' had''
-            (ap₂ (λ us n. slice_get us n) all-are long ∙ get-front (map turn-of ys) (turn-of t) (map turn-of rest)) grew b
+            run-broken root related delays object w h (map turn-of ys) c (map (record_of object.type_of) rs) c' k.0 policy going all t front
+            (ap₂ (λ us n. slice_get us n) whole (long ∙ length-map ys turn-of) ∙ get-front ys t rest) f c'' had had' had'' grew b

@@ -1,5 +1,5 @@
 -- A take with what is stored for it.
-use Rattle.std.proofs.Common.{◌≡◌, Bool, true, false, cond, List, [], ◌∷◌, Option, Some, None, option_map, refl, ap, ◌∙◌}
+use Rattle.std.proofs.Common.{◌≡◌, Bool, true, false, cond, List, [], ◌∷◌, Option, Some, None, Result, Ok, Err, OnErr, is_some, option_map, refl, ap, ◌∙◌}
 use Rattle.std.specs.Option.{option_or}
 use Rattle.kube_meta.specs.Reference.{Reference, same_reference, without_namespace}
 use Rattle.kube_model.specs.History.{Message}
@@ -8,6 +8,14 @@ use Rattle.kube_reflect.specs.Cached.{keyed}
 use Rattle.kube_reflect.specs.Exchanged.{all_keyed}
 use Rattle.kube_reflect.specs.Reads.{object_at}
 use Rattle.kube_core.specs.Cores.{looked_up}
+
+pub on-err : {T E : Type 0} (r : Result T E) (P : Type 0) → P → OnErr r P
+on-err (Ok t) P p = tt
+on-err (Err e) P p = p
+
+pub some-mapped : {A B : Type 0} (f : A → B) (o : Option A) → is_some o ≡ true → is_some (option_map f o) ≡ true
+some-mapped f None e = absurd (cc)
+some-mapped f (Some a) e = refl
 
 module _ {O : Type 0} (key : O → Reference) (store : List O) where
   -- no candidate, one for which nothing is stored, and one for which an object is
@@ -18,6 +26,10 @@ module _ {O : Type 0} (key : O → Reference) (store : List O) where
   pub none-next : (m : Option Message) → None ≡ option_map (λ n. found key store n.reference) m → m ≡ None
   none-next None e = refl
   none-next (Some m) e = absurd (cc)
+
+  pub some-found : (o : Option O) (m : Option Message) → Some o ≡ option_map (λ n. found key store n.reference) m → is_some m ≡ true
+  some-found o None e = absurd (cc)
+  some-found o (Some m) e = refl
 
   pub one-looked : (o : Option O) (m : Option Message) → Some o ≡ option_map (λ n. found key store n.reference) m
       → option_map (λ (n : Message). record { message = n; object = o }) m ≡ option_map (looked_up key store) m

@@ -1,7 +1,7 @@
 //! What decides in a controller: what is stored, what waits, and what runs (kube-runtime's `Controller` and `applier`,
 //! without their streams).
 
-ghost use Rattle.std.specs.Prelude.{◌≡◌, ◌↔◌, ◌⊎◌, ◌≤◌, ◌+◌, ◌-◌, ◌++◌, ◌∷◌, ◌&&◌, not, true, false, [], List, Some, None, IfOk, IfSome, IsNone, OnOk, OnErr, option_copied, length, map};
+ghost use Rattle.std.specs.Prelude.{◌≡◌, ◌↔◌, ◌⊎◌, ◌≤◌, ◌+◌, ◌-◌, ◌++◌, ◌∷◌, ◌&&◌, not, true, false, [], List, Some, None, IfOk, IfSome, IsNone, OnOk, OnErr, option_copied, length, map, is_some};
 ghost use Rattle.std.specs.Option.{option_map};
 ghost use Rattle.std.specs.Arc.{arc_value};
 ghost use Rattle.kube_meta.specs.Keys.{reference_of};
@@ -294,7 +294,8 @@ impl<K: Resource> Core<K> {
     ///
     /// # Errors
     ///
-    /// `NoMemory` where there is none for it, or for the request of its finish; all is then as before.
+    /// `NoMemory` where there is none for it, or for the request of its finish; all is then as before, and there is
+    /// something to take.
     pub fn take(&mut self, alloc: Global, now: Moment) -> Result<Taken<K>, NoMemory>
         requires { self.old.clock.0 ≤ now.0 }
         ensures next { IfOk result (λ t. (core : CoreWorld K) (es : List (CoreEvent K)) → StandsFor K.type_of K.meta_of core es self.old
@@ -304,6 +305,7 @@ impl<K: Resource> Core<K> {
         ensures clock { OnOk result (self.new.clock ≡ now) }
         ensures writer { self.new.writer ≡ self.old.writer }
         ensures err { OnErr result (self.new ≡ self.old) }
+        ensures wanted { OnErr result ((core : CoreWorld K) (es : List (CoreEvent K)) → StandsFor K.type_of K.meta_of core es self.old → is_some (next_taken core es) ≡ true) }
     {
         if !self.may_take() {
             self.clock = now;

@@ -1,6 +1,6 @@
 //! The take of one message, with what is stored for it.
 
-ghost use Rattle.std.specs.Prelude.{◌≡◌, ◌++◌, List, Some, None, IfOk, OnErr};
+ghost use Rattle.std.specs.Prelude.{◌≡◌, ◌++◌, List, Some, None, IfOk, OnErr, is_some, true};
 ghost use Rattle.std.specs.Option.{option_map};
 ghost use Rattle.std.specs.Arc.{arc_value};
 ghost use Rattle.kube_model.specs.History.{Message};
@@ -33,9 +33,11 @@ fn next_object<K: Resource>(
     pending: &Pending<K>,
     cache: &Cache<K>,
 ) -> Result<Option<Option<Arc<K>>>, NoMemory>
-    ensures { IfOk result (λ o. (core : CoreWorld K) (store : List K) (qs : List (QueueEvent Message)) (rs : List (Running K)) → Stands K.type_of core pending.now qs rs
+    ensures found { IfOk result (λ o. (core : CoreWorld K) (store : List K) (qs : List (QueueEvent Message)) (rs : List (Running K)) → Stands K.type_of core pending.now qs rs
         → cache.now ≡ all_keyed core.key store
         → option_map (option_map arc_value) o ≡ option_map (λ m. found core.key store m.reference) (next_candidate core qs rs)) }
+    ensures wanted { OnErr result ((core : CoreWorld K) (qs : List (QueueEvent Message)) (rs : List (Running K)) → Stands K.type_of core pending.now qs rs
+        → is_some (next_candidate core qs rs) ≡ true) }
 {
     let Some(request) = pending.candidate() else {
         return Ok(None);
@@ -107,6 +109,9 @@ pub fn take_next<K: Resource>(
         → cache.now ≡ all_keyed core.key store
         → Stands K.type_of core pending.new (qs ++ queue_with core (Took 0 (taken_of K.type_of t))) (running_with rs (Took 0 (taken_of K.type_of t)))) }
     ensures err { OnErr result (pending.new ≡ pending.old) }
+    // memory is wanted only where there is a candidate
+    ensures wanted { OnErr result ((core : CoreWorld K) (store : List K) (qs : List (QueueEvent Message)) (rs : List (Running K)) → Stands K.type_of core pending.old qs rs
+        → cache.now ≡ all_keyed core.key store → is_some (next_candidate core qs rs) ≡ true) }
 {
     let Some(found) = next_object(pending, cache)? else {
         return Ok(Taken::Nothing);

@@ -1,10 +1,11 @@
 -- One turn, by the calls that take it.
-use Rattle.std.proofs.Common.{◌≡◌, ℕ, Bool, true, false, not, ◌||◌, ◌&&◌, ◌==◌, List, [], ◌++◌, length, Option, None, if◌then◌else◌, is_some, refl, sym, ap, ap₂, subst, ◌∙◌, append-nil}
+use Rattle.std.proofs.Common.{◌≡◌, ℕ, Bool, true, false, not, ◌||◌, ◌&&◌, ◌==◌, List, [], ◌∷◌, ◌++◌, map, length, Option, None, if◌then◌else◌, is_some, refl, sym, ap, ap₂, subst, ◌∙◌, append-nil}
 use Rattle.std.specs.List.{filter_map}
+use Rattle.std.proofs.lemmas.List.{map-append}
 use Rattle.kube_meta.specs.declared.resource.Resource as resource
 use Rattle.kube_model.specs.declared.error.RunnerError.{RunnerError}
 use Rattle.kube_model.specs.World.{World}
-use Rattle.kube_model.specs.Reads.{Reads, told_ready, failure_in}
+use Rattle.kube_model.specs.Reads.{Readiness, Reads, is_told_ready, told_ready, failure_in}
 use Rattle.kube_model.specs.History.{Dated, Exchange, Finished, Message, same_message, Taken, Turn, TurnRecord, Step, dated, exchanges, exchanges_with}
 use Rattle.kube_model.specs.Asks.{stops_of}
 use Rattle.kube_model.specs.Named.{EachIsNamed, RootIsNamed}
@@ -34,9 +35,10 @@ use Rattle.kube_step.specs.Policies.{answered_in}
 use Rattle.kube_feed.specs.declared.parts.Parts.{Parts}
 use Rattle.kube_feed.specs.Asked.{AreEndedBy}
 use Rattle.kube_feed.specs.Fed.{PartsStand}
-use Rattle.kube_feed.specs.Reads.{AreListed, IsLater, IsReadIn}
+use Rattle.kube_feed.specs.Reads.{AreListed, IsLater, IsReadFirst, IsReadIn}
 use Rattle.kube_feed.specs.Requests.{finish_requests}
-use Rattle.kube_feed.specs.Turns.{AreFirstReads, AreFirstTaken, AreFirstTakes, AreTakenWhere, FrontTaken, HasGoneOn, HasTakenFirst, IsTaken, MayGoOn, NoneTaken, TookNone, TookThese, queue_asked}
+use Rattle.kube_feed.specs.Turns.{AmongTakes, AreFirstReads, AreFirstTaken, AreTakenWhere, BeforeTakes, HasAsked, HaveReadAndTaken, HaveReadAndTakenFirst, IsEndedBy, IsTaken, MayGoOn, only_reloaded, queue_asked}
+use Rattle.kube_feed.proofs.Going.{HasGoneOn, may-take, next-so, read-first-of, read-whole, reads-first, reads_of, taken-so}
 use Rattle.kube_feed.proofs.Requested.{queue-is, ready-is}
 use Rattle.kube_feed.proofs.Taking.{all-first, waits-once}
 use Rattle.kube_feed.proofs.Turned.{closed-is, first-is, made, open-over, parts-after, record-is}
@@ -61,6 +63,22 @@ where-first false limit debounce qs rs ts k = sym k
 -- with what a turn shows
 abbrev pub with_shown : {O : Type 0} → Reads O → Option (List O) → Reads O
 with_shown r store = record r { shown = store }
+
+pub not-true : (b : Bool) → not b ≡ false → b ≡ true
+not-true true e = refl
+not-true false e = absurd (cc)
+
+-- where what would be shut in a closed turn isn't, the turn is open
+pub still-open : (b s : Bool) → (not b ≡ false → s ≡ true) → s ≡ false → b ≡ false
+still-open true s shuts e = absurd (let z : false ≡ true = sym e ∙ shuts refl in cc)
+still-open false s shuts e = refl
+
+-- a fault before the takes ends the turn so
+pub before-takes : {R S O D B : Type 0} (root : root_source.Ghosts R O D) (related : related_set.Ghosts S O D) (w : World O B) (h : List (Step O)) (t : Turn) (Left : List (Exchange O) → List (Taken O) → Type 0)
+    (f : AskFault) (r : R) (s : S) (r' : R) (s' : S) → AreEndedBy root related w h t f [] r s r' s' → IsEndedBy root related w h t Left f [] r s r' s'
+before-takes root related w h t Left faults.NoMemory r s r' s' e = (e, BeforeTakes refl)
+before-takes root related w h t Left (faults.Unnamed source) r s r' s' e = (e, refl)
+before-takes root related w h t Left faults.Spent r s r' s' e = absurd e
 
 module _ {R S B O D : Type 0} (root : root_source.Ghosts R O D) (related : related_set.Ghosts S O D) (delays : backoff.Ghosts B) (object : resource.Ghosts O D) (w : World O B) (h : List (Step O)) (t : Turn)
     (a : Asking R S B) (p : Parts O D) (may : PartsStand root related delays object w h a p) (a1 : Asking R S B) (budget : List ℕ) (same : budget ≡ t.budget) (begun : a1 ≡ asking_begun a budget)
@@ -136,10 +154,101 @@ module _ {R S B O D : Type 0} (root : root_source.Ghosts R O D) (related : relat
       shut = shut ∙ e;
     }
 
-    -- takes of a turn under way are those that it makes first
-    pub front-first : AreFinishesOf (answered_in fs) (running h) t.finishes fs → closed ≡ false → (ts : List (Taken O)) (old new : Reader O) → HasTakenFirst object.meta_of w h t finished_queue ts old new → AreFirstTakes object.meta_of w h t ts old new
-    front-first z e ts old new (TookNone none) = NoneTaken none
-    front-first z e ts old new (TookThese xs r k) = FrontTaken fs xs r z k.asked k.done k.reads k.read (first-is w may.is_fed h t r fs xs ts (closed-now ∙ e) k.reads k.taken)
+    -- what follows was done up to the takes
+    module _ (p2 : Parts O D) (pending : p2.pending ≡ p1) (reader : p2.reader ≡ p.reader) (ready : p2.ready ≡ p.ready) (shut : p2.shut ≡ closed) (xs : List (Exchange O)) (a' : Asking R S B) (p3 : Parts O D)
+        (stayed : not closed ≡ false → (xs ≡ []) × (a' ≡ a1) × (p3 ≡ p2))
+        (went : not closed ≡ true → MayGoOn root related delays object w h t finished_queue a1 p2 → (found : Option (List O)) × HasAsked root related delays object w h t finished_queue a1 p2 found xs a' p3) where
+      may-go : closed ≡ false → MayGoOn root related delays object w h t finished_queue a1 p2
+      may-go e = may-go-on e p2 pending reader ready shut
+
+      pub went-now : closed ≡ false → (found : Option (List O)) × HasAsked root related delays object w h t finished_queue a1 p2 found xs a' p3
+      went-now e = went (ap not e) (may-go e)
+
+      cut-now : closed ≡ false → AreCutOff root related w h t (IsLostNext root related) [] a1.root a1.related a'.root a'.related
+      cut-now e =
+          let g = (went-now e).1 in record {
+            made = xs;
+            asked = g.asked;
+            each_named = g.each_named;
+            reached_root = a'.root;
+            reached_related = a'.related;
+            polled = subst (λ ds. ArePolled root.polls related.polls ds a1.root a1.related (dated t.at xs) a'.root a'.related) (sym (append-nil (exchanges h))) g.polled;
+            stand = g.asks_stand.sources;
+            rest = NotAsked refl refl;
+          }
+
+      -- and then memory was wanting
+      pub lost-asked : AreCutOff root related w h t (IsLostNext root related) [] a.root a.related a'.root a'.related
+      lost-asked = go closed refl
+        where
+          go : (b : Bool) → closed ≡ b → AreCutOff root related w h t (IsLostNext root related) [] a.root a.related a'.root a'.related
+          go true e = subst (λ (z : Asking R S B). AreCutOff root related w h t (IsLostNext root related) [] a.root a.related z.root z.related) (sym (stayed (ap not e)).1) ended-none
+          go false e = ended-first faults.NoMemory a'.root a'.related (cut-now e)
+
+      -- or it was wanting among the takes, or after them
+      pub lost-taking : closed ≡ false → (Left : List (Exchange O) → List (Taken O) → Type 0) (ts : List (Taken O)) → Left xs ts → IsEndedBy root related w h t Left faults.NoMemory ts a.root a.related a'.root a'.related
+      unfolding cut-now
+      lost-taking e Left ts left =
+          subst (λ x. IsEndedBy root related w h t Left faults.NoMemory ts x a.related a'.root a'.related) same-root
+          (subst (λ y. IsEndedBy root related w h t Left faults.NoMemory ts a1.root y a'.root a'.related) same-related (cut-now e, AmongTakes (went-now e).1.done left))
+
+      pub lost-whole : (p4 : Parts O D) (ts : List (Taken O)) → (not closed ≡ false → ts ≡ []) → {P : Option Readiness → Type 0}
+          → ((us : List (QueueEvent Message)) → PendingStands object.type_of (core_world w) p3.pending us (running_in w h t)
+          → (told : Option Readiness) × P told × HaveReadAndTaken object (core_world w) p3.shut us (running_in w h t) p3 told ts p4)
+          → (Left : List (Exchange O) → List (Taken O) → Type 0)
+          → ((e : closed ≡ false) (told : Option Readiness) → HaveReadAndTaken object (core_world w) p3.shut (queue_asked w.key finished_queue t (only_reloaded (went-now e).0) xs) (running_in w h t) p3 told ts p4 → Left xs ts)
+          → IsEndedBy root related w h t Left faults.NoMemory ts a.root a.related a'.root a'.related
+      lost-whole p4 ts none took Left says = go closed refl
+        where
+          go : (b : Bool) → closed ≡ b → IsEndedBy root related w h t Left faults.NoMemory ts a.root a.related a'.root a'.related
+          go true e = (lost-asked, BeforeTakes (none (ap not e)))
+          go false e =
+              let g = went-now e in
+              let q = took (queue_asked w.key finished_queue t (only_reloaded g.0) xs) g.1.waits in
+              lost-taking e Left ts (says e q.0 q.2)
+
+      module _ (e : closed ≡ false) (told : Option Readiness) (ts : List (Taken O)) (p4 : Parts O D) where
+        open-yet : is_closed w h t ≡ false
+        open-yet = closed-now ∙ e
+
+        abbrev found-now : Option (List O)
+        found-now = (went-now e).0
+
+        -- takes of a turn under way are those that it makes first, and another was left
+        module _ (q : HaveReadAndTakenFirst object (core_world w) p3.shut (queue_asked w.key finished_queue t (only_reloaded found-now) xs) (running_in w h t) p3 told ts p4) where
+          pub reads-are : AreFirstReads w h t xs ts (reads_of found-now told ts)
+          reads-are = reads-first root related delays object w h t finished_queue a1 p2 (may-go e) found-now xs a' p3 (went-now e).1 told ts p4 q.polled
+
+          pub read-are : IsReadFirst object.meta_of ts (reads_of found-now told ts) p2.reader p4.reader
+          read-are = read-first-of root related delays object w h t finished_queue a1 p2 (may-go e) found-now xs a' p3 (went-now e).1 told ts p4 q
+
+          pub takes-are : taken_in w h t (reads_of found-now told ts) fs xs ≡ ts
+          takes-are = first-is w may.is_fed h t (reads_of found-now told ts) fs xs ts open-yet reads-are (taken-so root related delays object w h t finished_queue a1 p2 (may-go e) found-now xs a' p3 (went-now e).1 told ts p4 q)
+
+          pub next-is : (found : Option O)
+              → taken_in w h t (record (reads_of found-now told ts) { looked_up = map (λ (u : Taken O). u.object) ts ++ found ∷ [] }) fs xs ≡ ts ++ record { message = q.taken.next; object = found } ∷ []
+          next-is found =
+              let more : List (Taken O) = ts ++ record { message = q.taken.next; object = found } ∷ [] in
+              let joined : map (λ (u : Taken O). u.object) more ≡ map (λ (u : Taken O). u.object) ts ++ found ∷ [] = map-append (λ (u : Taken O). u.object) ts (record { message = q.taken.next; object = found } ∷ []) in
+              subst (λ os. taken_in w h t (record (reads_of found-now told ts) { looked_up = os }) fs xs ≡ more) joined
+              (first-is w may.is_fed h t (reads_of found-now told more) fs xs more open-yet
+              (record { polled = reads-are.polled; reloaded = reads-are.reloaded; looked_up = refl; shown = refl })
+              (next-so root related delays object w h t finished_queue a1 p2 (may-go e) found-now xs a' p3 (went-now e).1 told ts p4 q found))
+
+        -- all takes of a turn are those that it makes by these reads
+        module _ (q : HaveReadAndTaken object (core_world w) p3.shut (queue_asked w.key finished_queue t (only_reloaded found-now) xs) (running_in w h t) p3 told ts p4) where
+          pub reads-whole : AreFirstReads w h t xs ts (reads_of found-now told ts)
+          reads-whole = reads-first root related delays object w h t finished_queue a1 p2 (may-go e) found-now xs a' p3 (went-now e).1 told ts p4 q.polled
+
+          pub read-later : (new : Reader O) → IsLater p4.reader new → IsReadFirst object.meta_of ts (reads_of found-now told ts) p2.reader new
+          read-later new later = (p4.reader, read-whole root related delays object w h t finished_queue a1 p2 (may-go e) found-now xs a' p3 (went-now e).1 told ts p4 q, later)
+
+          pub takes-whole : taken_in w h t (reads_of found-now told ts) fs xs ≡ ts
+          takes-whole =
+              first-is w may.is_fed h t (reads_of found-now told ts) fs xs ts open-yet reads-whole
+              (subst (λ b. AreFirstTaken b w.limit (waiting same_message w.debounce (queue_asked w.key finished_queue t (only_reloaded found-now) xs)) (running_in w h t) ts)
+              (may-take root related delays object w h t finished_queue a1 p2 (may-go e) found-now xs a' p3 (went-now e).1 told ts p4)
+              (where-first ((p3.ready || is_told_ready told) && not p3.shut) w.limit w.debounce (queue_asked w.key finished_queue t (only_reloaded found-now) xs) (running_in w h t) ts q.taken.taken))
 
     -- what follows was done whole
     module _ (p2 : Parts O D) (pending : p2.pending ≡ p1) (reader : p2.reader ≡ p.reader) (ready : p2.ready ≡ p.ready) (shut : p2.shut ≡ closed) (runner : Option RunnerError) (xs : List (Exchange O)) (ts : List (Taken O)) (a' : Asking R S B) (p' : Parts O D)
@@ -154,46 +263,6 @@ module _ {R S B O D : Type 0} (root : root_source.Ghosts R O D) (related : relat
 
       gone-now : closed ≡ false → Gone
       gone-now e = gone (ap not e) (may-go-on e p2 pending reader ready shut)
-
-      -- and then memory was wanting
-      pub lost-whole : AreCutOff root related w h t (IsLostNext root related) [] a.root a.related a'.root a'.related
-      lost-whole = go closed refl
-        where
-          go : (b : Bool) → closed ≡ b → AreCutOff root related w h t (IsLostNext root related) [] a.root a.related a'.root a'.related
-          go true e = subst (λ (z : Asking R S B). AreCutOff root related w h t (IsLostNext root related) [] a.root a.related z.root z.related) (sym (stayed (ap not e)).3) ended-none
-          go false e =
-              let g = (gone-now e).4 in
-              ended-first faults.NoMemory a'.root a'.related (record {
-                made = xs;
-                asked = g.asked;
-                each_named = g.each_named;
-                reached_root = a'.root;
-                reached_related = a'.related;
-                polled = subst (λ ds. ArePolled root.polls related.polls ds a1.root a1.related (dated t.at xs) a'.root a'.related) (sym (append-nil (exchanges h))) g.polled;
-                stand = g.asks_stand.sources;
-                rest = NotAsked refl refl;
-              })
-
-      pub front-whole : AreFinishesOf (answered_in fs) (running h) t.finishes fs → (new : Reader O) → IsLater p'.reader new → AreFirstTakes object.meta_of w h t ts p.reader new
-      front-whole z new later = go closed refl
-        where
-          go : (b : Bool) → closed ≡ b → AreFirstTakes object.meta_of w h t ts p.reader new
-          go true e = NoneTaken (stayed (ap not e)).1
-          go false e =
-              let k = gone-now e in
-              let g = k.4 in
-              let open-now : is_closed w h t ≡ false = closed-now ∙ e in
-              let over : gave_up w (exchanges_with h t xs) ≡ is_over w h t xs = open-over w h t xs open-now in
-              let reads : AreFirstReads w h t xs ts k.0 = record {
-                polled = g.told ∙ ap (λ y. not (was_ready h) && not y) over;
-                reloaded = g.reloaded ∙ (and-true t.reload ∙ ap (λ b. t.reload && not b) (sym open-now));
-                looked_up = g.looked_up;
-                shown = k.2;
-              } in
-              let all = where-first ((was_ready h || told_ready k.0) && not (gave_up w (exchanges_with h t xs))) w.limit w.debounce (queue_asked w.key finished_queue t k.0 xs) (running_in w h t) ts g.taken.taken in
-              FrontTaken fs xs k.0 z g.asked g.done reads (p'.reader, subst (λ x. IsReadIn object.meta_of ts k.0 x p'.reader) reader k.1, later)
-              (first-is w may.is_fed h t k.0 fs xs ts open-now reads
-              (subst (λ y. AreFirstTaken ((was_ready h || told_ready k.0) && not y) w.limit (waiting same_message w.debounce (queue_asked w.key finished_queue t k.0 xs)) (running_in w h t) ts) over all))
 
       module _ (v : IsValid h t) (z : AreFinishesOf (answered_in fs) (running h) t.finishes fs) (last : Parts O D) (same-pending : last.pending ≡ p'.pending) (same-ready : last.ready ≡ p'.ready) (same-shut : last.shut ≡ p'.shut)
           (store : Option (List O)) (shows : is_some store ≡ t.show) (listed : AreListed object.meta_of store p'.reader last.reader)

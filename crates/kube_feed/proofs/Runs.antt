@@ -8,10 +8,10 @@ use Rattle.kube_meta.specs.declared.action.Action.{Action}
 use Rattle.kube_meta.specs.declared.resource.Resource as resource
 use Rattle.kube_model.specs.World.{World}
 use Rattle.kube_model.specs.Raw.{grown_by}
-use Rattle.kube_model.specs.History.{Taken, Turn, TurnRecord, Step, dated, exchanges}
+use Rattle.kube_model.specs.History.{Turn, TurnRecord, Step, dated, exchanges}
 use Rattle.kube_model.specs.Named.{AreNamedTurns, RootIsNamed}
 use Rattle.kube_model.specs.Takes.{running}
-use Rattle.kube_model.specs.Traces.{IsRecord, IsRefusedAfter, IsTrace, IsValid, Made, Refusal, has_ended, refusal, step, steps}
+use Rattle.kube_model.specs.Traces.{IsRecord, IsRefusedAfter, IsTrace, Made, Refusal, has_ended, refusal, step, steps}
 use Rattle.kube_streams.specs.declared.backoff.Backoff as backoff
 use Rattle.kube_reflect.specs.Writers.{Reader}
 use Rattle.kube_asks.specs.Asking.{Asking}
@@ -21,23 +21,19 @@ use Rattle.kube_asks.specs.declared.root.RootSource as root_source
 use Rattle.kube_asks.specs.declared.set.RelatedSet as related_set
 use Rattle.kube_turn.specs.declared.turn.Turn.{Turn as HeldTurn}
 use Rattle.kube_turn.specs.declared.record.TurnRecord.{TurnRecord as HeldRecord}
-use Rattle.kube_turn.specs.Records.{turn_of}
-use Rattle.kube_step.specs.Asked.{AllStand, NotAsked}
+use Rattle.kube_turn.specs.Records.{turn_of, turns_of}
 use Rattle.kube_step.specs.Calls.{ArePolled, dated_in}
 use Rattle.kube_step.specs.Finishes.{AreFinished}
 use Rattle.kube_step.specs.HandOvers.{handed_by, taken_by}
 use Rattle.kube_step.specs.Policies.{answered_in, answered_by}
 use Rattle.kube_step.proofs.Asking.{polled-append}
-use Rattle.kube_step.proofs.Taking.{grown-nil}
-use Rattle.kube_step.proofs.Turned.{if-unnamed}
 use Rattle.kube_step.proofs.Traced.{later, exchanges-more, named-push, steps-end, steps-push, trace-ends, trace-long}
 use Rattle.kube_control.proofs.Histories.{one-more}
 use Rattle.kube_control.proofs.Refusals.{ended-push, moment-push, refused-after}
-use Rattle.kube_feed.specs.Asked.{AreEndedBy}
 use Rattle.kube_feed.specs.Fed.{Feeding, StandsFor}
 use Rattle.kube_feed.specs.Reads.{AreReadIn, IsReadIn}
-use Rattle.kube_feed.specs.Runs.{AreFinishedIn, HaveRun, IsBrokenOff, IsNextTurn, WereBrokenOff, WereRefused, records_in}
-use Rattle.kube_feed.specs.Turns.{AreFirstTakes, IsTaken, NoneTaken}
+use Rattle.kube_feed.specs.Runs.{AreFinishedIn, HaveRun, IsBrokenOff, OfValid, Untold, IsNextTurn, WereBrokenOff, WereRefused, records_in}
+use Rattle.kube_feed.specs.Turns.{IsTaken}
 
 -- Reads of one more turn.
 pub read-push : {O : Type 0} (meta : O → ObjectMeta) (ms : List (Made O)) (m : Made O) (a b c : Reader O) → AreReadIn meta ms a b → IsReadIn meta m.0.taken m.1 b c → AreReadIn meta (ms ++ m ∷ []) a c
@@ -129,36 +125,14 @@ module _ {R S B O D : Type 0} (root : root_source.Ghosts R O D) (related : relat
       at ends (spent ∙ ap (λ (x : Con). x.is_spent) is)
 
   -- nothing was asked
-  pub nothing-lost : (h : List (Step O)) (t : Turn) (c : Con) (had : Option (List (Reference × O))) → StandsFor root related delays object w h c
-      → IsBrokenOff root related object w faults.NoMemory h t c.asks.root c.asks.related c.reader c.asks.root c.asks.related c.reader had had
-  nothing-lost h t c had k = record {
-    valid = tt;
-    ended = record {
-      made = [];
-      asked = tt;
-      each_named = tt;
-      reached_root = c.asks.root;
-      reached_related = c.asks.related;
-      polled = (refl, refl);
-      stand = subst (AllStand root related c.asks.root c.asks.related) (k.parts.joined ∙ sym (append-nil (exchanges h))) k.parts.asks_stand.sources;
-      rest = NotAsked refl refl;
-    };
-    taken = [];
-    first = NoneTaken refl;
-    handed = sym (grown-nil had);
-  }
+  pub nothing-lost : {E : Type 0} (policy : O → E → Action → Type 0) (h : List (Step O)) (t : HeldTurn O E D) (c : Con) (had : Option (List (Reference × O)))
+      → IsBrokenOff root related object policy w faults.NoMemory h t c.asks.root c.asks.related c.reader c.asks.root c.asks.related c.reader had had
+  nothing-lost policy h t c had = Untold refl refl refl refl refl
 
-  -- a turn that was broken off
-  pub broken-of : (f : AskFault) (h : List (Step O)) (t : Turn) (c0 c : Con) (r : R) (s : S) (new : Reader O) (had has : Option (List (Reference × O))) (ts : List (Taken O)) → c0 ≡ c
-      → IsValid h t → AreEndedBy root related w h t f [] c0.asks.root c0.asks.related r s → AreFirstTakes object.meta_of w h t ts c0.reader new → has ≡ grown_by had (handed_by ts)
-      → IsBrokenOff root related object w f h t c.asks.root c.asks.related c.reader r s new had has
-  broken-of f h t c0 c r s new had has ts is valid ended first handed-so = record {
-    valid = if-unnamed f (IsValid h t) valid;
-    ended = subst (λ (x : Con). AreEndedBy root related w h t f [] x.asks.root x.asks.related r s) is ended;
-    taken = ts;
-    first = subst (λ (x : Con). AreFirstTakes object.meta_of w h t ts x.reader new) is first;
-    handed = handed-so;
-  }
+  -- a turn that was broken off, of the same controller
+  pub broken-of : {E : Type 0} (policy : O → E → Action → Type 0) (f : AskFault) (h : List (Step O)) (t : HeldTurn O E D) (c0 c : Con) (r : R) (s : S) (new : Reader O) (had has : Option (List (Reference × O))) → c0 ≡ c
+      → IsBrokenOff root related object policy w f h t c0.asks.root c0.asks.related c0.reader r s new had has → IsBrokenOff root related object policy w f h t c.asks.root c.asks.related c.reader r s new had has
+  broken-of policy f h t c0 c r s new had has is b = subst (λ (x : Con). IsBrokenOff root related object policy w f h t x.asks.root x.asks.related x.reader r s new had has) is b
 
   pub run-none : (h : List (Step O)) (c : Con) → StandsFor root related delays object w h c → HaveRun root related delays object w h [] c [] c
   run-none h c k = record { traced = refl; all_named = tt; polled = (refl, refl); stands = subst (λ g. StandsFor root related delays object w g c) (sym (append-nil h)) k }
@@ -202,28 +176,34 @@ module _ {R S B O D : Type 0} (root : root_source.Ghosts R O D) (related : relat
         before = subst (λ us. HaveRun root related delays object w h us c ms c') front k;
       }
 
-      pub run-broken : (f : AskFault) (c'' : Con) (had has' has : Option (List (Reference × O))) → slice_get all (length ms) ≡ Some t → AreReadIn object.meta_of ms c.reader c'.reader → has' ≡ grown_by had (handed_by (taken_by (records_in ms)))
-          → IsBrokenOff root related object w f (h ++ steps ts ms) t c'.asks.root c'.asks.related c'.reader c''.asks.root c''.asks.related c''.reader has' has → WereBrokenOff root related delays object w f h all c ms c'' had has
-      run-broken f c'' had has' has next read grew b = record {
-        traced = subst (λ us. IsTrace w (answered_by (records_in ms)) h us ms) front k.traced;
-        all_named = subst (λ us. AreNamedTurns w (RootIsNamed w) h (steps us ms)) front k.all_named;
-        reached_root = c'.asks.root;
-        reached_related = c'.asks.related;
-        polled = k.polled;
-        reached_reader = c'.reader;
-        read = read;
-        turn = t;
-        next = next;
-        going = subst (λ us. has_ended (h ++ steps us ms) ≡ false) front (open-yet going);
-        broken =
-            subst (λ us. IsBrokenOff root related object w f (h ++ steps us ms) t c'.asks.root c'.asks.related c'.reader c''.asks.root c''.asks.related c''.reader (grown_by had (handed_by (taken_by (records_in ms)))) has) front
-            (subst (λ z. IsBrokenOff root related object w f (h ++ steps ts ms) t c'.asks.root c'.asks.related c'.reader c''.asks.root c''.asks.related c''.reader z has) grew b);
-      }
+    pub run-broken : {E : Type 0} (policy : O → E → Action → Type 0) → c'.has_ended ≡ false → (all : List (HeldTurn O E D)) (t : HeldTurn O E D) → ts ≡ take (length ms) (turns_of object.type_of all) → slice_get all (length ms) ≡ Some t
+        → (f : AskFault) (c'' : Con) (had has' has : Option (List (Reference × O))) → AreReadIn object.meta_of ms c.reader c'.reader → has' ≡ grown_by had (handed_by (taken_by (records_in ms)))
+        → IsBrokenOff root related object policy w f (h ++ steps ts ms) t c'.asks.root c'.asks.related c'.reader c''.asks.root c''.asks.related c''.reader has' has → WereBrokenOff root related object policy w f h all c ms c'' had has
+    run-broken policy going all t front next f c'' had has' has read grew b = record {
+      traced = subst (λ us. IsTrace w (answered_by (records_in ms)) h us ms) front k.traced;
+      all_named = subst (λ us. AreNamedTurns w (RootIsNamed w) h (steps us ms)) front k.all_named;
+      reached_root = c'.asks.root;
+      reached_related = c'.asks.related;
+      polled = k.polled;
+      reached_reader = c'.reader;
+      read = read;
+      turn = t;
+      next = next;
+      going = subst (λ us. has_ended (h ++ steps us ms) ≡ false) front (open-yet going);
+      broken =
+          subst (λ us. IsBrokenOff root related object policy w f (h ++ steps us ms) t c'.asks.root c'.asks.related c'.reader c''.asks.root c''.asks.related c''.reader (grown_by had (handed_by (taken_by (records_in ms)))) has) front
+          (subst (λ z. IsBrokenOff root related object policy w f (h ++ steps ts ms) t c'.asks.root c'.asks.related c'.reader c''.asks.root c''.asks.related c''.reader z has) grew b);
+    }
+
+module _ {R S B O D E : Type 0} (root : root_source.Ghosts R O D) (related : related_set.Ghosts S O D) (object : resource.Ghosts O D) (policy : O → E → Action → Type 0) (w : World O B) (h : List (Step O)) (all : List (HeldTurn O E D))
+    (c : Feeding R S B O D) (ms : List (Made O)) (c' : Feeding R S B O D) (had has : Option (List (Reference × O))) where
+  abbrev before : List (Step O)
+  before = h ++ steps (take (length ms) (turns_of object.type_of all)) ms
 
   -- what is said of the sources and the reader alone holds of any controller with the same
-  pub broken-same : (f : AskFault) (h : List (Step O)) (all : List Turn) (c : Con) (ms : List (Made O)) (c' c'' : Con) (had has : Option (List (Reference × O))) → c''.asks ≡ c'.asks → c''.reader ≡ c'.reader
-      → WereBrokenOff root related delays object w f h all c ms c' had has → WereBrokenOff root related delays object w f h all c ms c'' had has
-  broken-same f h all c ms c' c'' had has e same b = record {
+  pub broken-same : (f : AskFault) (c'' : Feeding R S B O D) → c''.asks ≡ c'.asks → c''.reader ≡ c'.reader
+      → WereBrokenOff root related object policy w f h all c ms c' had has → WereBrokenOff root related object policy w f h all c ms c'' had has
+  broken-same f c'' e same b = record {
     traced = b.traced;
     all_named = b.all_named;
     reached_root = b.reached_root;
@@ -235,13 +215,13 @@ module _ {R S B O D : Type 0} (root : root_source.Ghosts R O D) (related : relat
     next = b.next;
     going = b.going;
     broken =
-        subst
-        (λ (a : Asking R S B). IsBrokenOff root related object w f (h ++ steps (take (length ms) all) ms) b.turn b.reached_root b.reached_related b.reached_reader a.root a.related c''.reader (grown_by had (handed_by (taken_by (records_in ms)))) has)
-        (sym e)
-        (subst
-        (λ (z : Reader O). IsBrokenOff root related object w f (h ++ steps (take (length ms) all) ms) b.turn b.reached_root b.reached_related b.reached_reader c'.asks.root c'.asks.related z (grown_by had (handed_by (taken_by (records_in ms)))) has)
-        (sym same) b.broken);
+        subst (λ (a : Asking R S B). IsBrokenOff root related object policy w f before b.turn b.reached_root b.reached_related b.reached_reader a.root a.related c''.reader (grown_by had (handed_by (taken_by (records_in ms)))) has) (sym e)
+        (subst (λ (z : Reader O). IsBrokenOff root related object policy w f before b.turn b.reached_root b.reached_related b.reached_reader c'.asks.root c'.asks.related z (grown_by had (handed_by (taken_by (records_in ms)))) has) (sym same) b.broken);
   }
 
-  pub never-spent : (h : List (Step O)) (all : List Turn) (c : Con) (ms : List (Made O)) (c' : Con) (had has : Option (List (Reference × O))) → WereBrokenOff root related delays object w faults.Spent h all c ms c' had has → ⊥
-  never-spent h all c ms c' had has b = b.broken.ended
+  none-spent : (t : HeldTurn O E D) (r : R) (s : S) (old : Reader O) (r' : R) (s' : S) (new : Reader O) (o o' : Option (List (Reference × O))) → IsBrokenOff root related object policy w faults.Spent before t r s old r' s' new o o' → ⊥
+  none-spent t r s old r' s' new o o' (OfValid valid taken handed ended) = ended
+  none-spent t r s old r' s' new o o' (Untold f a b n g) = absurd (cc)
+
+  pub never-spent : WereBrokenOff root related object policy w faults.Spent h all c ms c' had has → ⊥
+  never-spent b = none-spent b.turn b.reached_root b.reached_related b.reached_reader c'.asks.root c'.asks.related c'.reader (grown_by had (handed_by (taken_by (records_in ms)))) has b.broken

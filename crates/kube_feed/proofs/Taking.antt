@@ -20,7 +20,7 @@ use Rattle.kube_reflect.specs.Writers.{Reader}
 use Rattle.kube_core.specs.Pendings.{Parts as Pending, Stands}
 use Rattle.kube_feed.specs.Reads.{AreFound, IsFound, IsLater}
 use Rattle.kube_feed.specs.Takes.{IsTake, IsLookedUp}
-use Rattle.kube_feed.specs.Turns.{AreAllTaken, AreFirstTaken, HaveTakenFirst}
+use Rattle.kube_feed.specs.Turns.{AreAllTaken, AreFirstTaken, HaveTakenFirst, IsTakenNext}
 
 -- What waits, after a take.
 
@@ -285,10 +285,22 @@ module _ {O D : Type 0} (object : resource.Ghosts O D) (core : CoreWorld O) (qs 
   all-taken ts p new g none =
       taken-all core.limit (waiting same_message core.debounce qs) rs ts (waiting same_message core.debounce (qs ++ took ts)) (rs ++ filter_map started ts) g.gone none
 
+  -- the first candidate of what is left was to be taken next, whatever its look-up would have answered
+  next-taken : (ts : List (Taken O)) (p : Pending O D) (mid : Reader O) → HaveGone ts p mid → (m : Message) → next_candidate core (qs ++ took ts) (rs ++ filter_map started ts) ≡ Some m
+      → IsTakenNext true core.limit (waiting same_message core.debounce qs) rs ts m
+  next-taken ts p mid g m e found =
+      let t : Taken O = record { message = m; object = found } in
+      let first = is-first core (qs ++ took ts) (rs ++ filter_map started ts) m e in
+      let more = taken-more core.limit (waiting same_message core.debounce qs) rs ts (waiting same_message core.debounce (qs ++ took ts)) (rs ++ filter_map started ts) t first.first first.others g.gone first.room first.are first.message in
+      taken-first core.limit (waiting same_message core.debounce qs) rs (ts ++ t ∷ []) (without first.first.entry.message (waiting same_message core.debounce (qs ++ took ts))) ((rs ++ filter_map started ts) ++ cons_option (started t) []) (waits-once core.debounce qs) more
+
   -- and where memory was wanting they are those taken first
-  pub first-taken : (ts : List (Taken O)) (p : Pending O D) (mid new : Reader O) → HaveGone ts p mid → IsLater mid new → HaveTakenFirst object.meta_of core true qs rs ts old new
-  first-taken ts p mid new g later = record {
+  pub first-taken : (ts : List (Taken O)) (p : Pending O D) (mid new : Reader O) → HaveGone ts p mid → IsLater mid new → (m : Message) → next_candidate core (qs ++ took ts) (rs ++ filter_map started ts) ≡ Some m
+      → HaveTakenFirst object.meta_of core true qs rs ts old new
+  first-taken ts p mid new g later m e = record {
     taken = taken-first core.limit (waiting same_message core.debounce qs) rs ts (waiting same_message core.debounce (qs ++ took ts)) (rs ++ filter_map started ts) (waits-once core.debounce qs) g.gone;
+    next = m;
+    is_next = next-taken ts p mid g m e;
     found_by = mid;
     looked_up = g.looked_up;
     later = later;

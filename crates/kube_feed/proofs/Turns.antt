@@ -175,13 +175,13 @@ module _ {R S B O D E : Type 0} (root : root_source.Ghosts R O D) (related : rel
           }
 
       pub broken-end : (f : AskFault) → had' ≡ grown_by had (handed_by (taken_by (map (record_of object.type_of) rs)))
-          → IsBrokenOff root related object w f (h ++ steps (map (turn_of object.type_of) ys) k.0) (turn_of object.type_of t) c'.asks.root c'.asks.related c'.reader c''.asks.root c''.asks.related c''.reader had' had''
+          → IsBrokenOff root related object policy w f (h ++ steps (map (turn_of object.type_of) ys) k.0) t c'.asks.root c'.asks.related c'.reader c''.asks.root c''.asks.related c''.reader had' had''
           → IsBrokenRun root related delays object policy w f h all c rs c'' had had''
       broken-end f grew b = record {
         made = k.0;
         recorded = recorded;
         broken =
-            run-broken root related delays object w h (map (turn_of object.type_of) ys) c k.0 c' k.3 going (map (turn_of object.type_of) all) (turn_of object.type_of t) (map (turn_of object.type_of) rest) all-are front f c'' had had' had''
-            (ap₂ (λ us n. slice_get us n) all-are long ∙ get-front (map (turn_of object.type_of) ys) (turn_of object.type_of t) (map (turn_of object.type_of) rest))
-            k.2 (grew ∙ ap (λ (qs : List (TurnRecord O)). grown_by had (handed_by (taken_by qs))) (sym k.1)) b;
+            run-broken root related delays object w h (map (turn_of object.type_of) ys) c k.0 c' k.3 policy going all t front
+            (ap₂ (λ us n. slice_get us n) whole (long ∙ length-map ys (turn_of object.type_of)) ∙ get-front ys t rest) f c'' had had' had'' k.2
+            (grew ∙ ap (λ (qs : List (TurnRecord O)). grown_by had (handed_by (taken_by qs))) (sym k.1)) b;
       }

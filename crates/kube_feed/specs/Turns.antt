@@ -1,11 +1,12 @@
 -- Turns of a controller that reads a store, one at a time. R is the type of its root, S that of its related sources, B that of its backoff's states, O that of objects and D that of their dynamic types.
 use Rattle.std.specs.Prelude.{◌≡◌, ℕ, Bool, true, false, not, ◌||◌, ◌&&◌, List, [], ◌∷◌, ◌++◌, map, Option, None, if◌then◌else◌, is_some}
 use Rattle.std.specs.List.{filter_map}
+use Rattle.kube_meta.specs.declared.action.Action.{Action}
 use Rattle.kube_meta.specs.Reference.{Reference}
 use Rattle.kube_meta.specs.declared.metadata.ObjectMeta.{ObjectMeta}
 use Rattle.kube_meta.specs.declared.resource.Resource as resource
 use Rattle.kube_model.specs.World.{World}
-use Rattle.kube_model.specs.Reads.{Reads, Readiness, is_told_ready, told_ready}
+use Rattle.kube_model.specs.Reads.{Reads, Readiness, is_told_ready}
 use Rattle.kube_model.specs.History.{Exchange, Finished, Message, same_message, Taken, Turn, Step, dated, exchanges, exchanges_with}
 use Rattle.kube_model.specs.Named.{RootIsNamed, EachIsNamed}
 use Rattle.kube_model.specs.Pause.{gave_up}
@@ -15,23 +16,29 @@ use Rattle.kube_model.specs.Shutdowns.{is_closed, is_over}
 use Rattle.kube_model.specs.Stored.{was_ready}
 use Rattle.kube_model.specs.Takes.{Running, found_so, running, started, taken_of}
 use Rattle.kube_model.specs.Turns.{next_source, running_in, taken_in}
-use Rattle.kube_model.specs.Traces.{AreFinishesOf, EachIsNext, IsRecord, Made, step}
+use Rattle.kube_model.specs.Traces.{EachIsNext, IsRecord, Made, step}
 use Rattle.kube_history.specs.CoreWorld.{CoreWorld, core_world}
 use Rattle.kube_history.specs.InTurn.{AreTaken, look_so}
 use Rattle.kube_history.specs.TurnCalls.{with_requests}
 use Rattle.kube_streams.specs.declared.backoff.Backoff as backoff
 use Rattle.kube_reflect.specs.Writers.{Reader}
 use Rattle.kube_core.specs.Pendings.{Parts as Pending, Stands as PendingStands}
+use Rattle.kube_turn.specs.declared.turn.Turn.{Turn as HeldTurn}
+use Rattle.kube_turn.specs.Records.{turn_of}
 use Rattle.kube_asks.specs.Asking.{Asking}
+use Rattle.kube_asks.specs.declared.asks.AskFault.{AskFault}
+use Rattle.kube_asks.specs.declared.asks.AskFault.TheVariants as faults
 use Rattle.kube_asks.specs.declared.root.RootSource as root_source
 use Rattle.kube_asks.specs.declared.set.RelatedSet as related_set
+use Rattle.kube_step.specs.Asked.{AreCutOff, IsLostNext}
 use Rattle.kube_step.specs.Calls.{ArePolled}
 use Rattle.kube_step.specs.Controllers.{IsWorldOfAsks, AsksStand}
+use Rattle.kube_step.specs.Finishes.{AreFinishedSo}
 use Rattle.kube_step.specs.Policies.{answered_in}
 use Rattle.kube_feed.specs.declared.parts.Parts.{Parts}
-use Rattle.kube_feed.specs.Asked.{MayAsk}
+use Rattle.kube_feed.specs.Asked.{AreEndedBy, MayAsk}
 use Rattle.kube_feed.specs.Fed.{PartsStand}
-use Rattle.kube_feed.specs.Reads.{AreFound, IsLater, IsReadFirst, IsTold}
+use Rattle.kube_feed.specs.Reads.{AreFound, AreListed, IsLater, IsReadFirst, IsTold}
 use Rattle.kube_feed.specs.Requests.{bulk_requests, name_requests}
 
 -- the requests of a turn that come before its asks: of a reload that found these objects, and those that name references
@@ -55,14 +62,20 @@ AreTakenWhere false limit ws rs ts = ts ≡ []
 abbrev pub AreFirstTaken : {O : Type 0} → Bool → ℕ → List (Frozen Message) → List (Running O) → List (Taken O) → Type 0
 AreFirstTaken takes limit ws rs ts = (if takes then taken_of limit (found_so (map (λ t. t.object) ts)) rs ws else []) ≡ ts
 
+-- so were these, and then this message was to be taken, whatever its look-up would have answered
+abbrev pub IsTakenNext : {O : Type 0} → Bool → ℕ → List (Frozen Message) → List (Running O) → List (Taken O) → Message → Type 0
+IsTakenNext {O} takes limit ws rs ts m = (found : Option O) → AreFirstTaken takes limit ws rs (ts ++ record { message = m; object = found } ∷ [])
+
 -- takes of what waits and runs, and what they leave
 pub record HaveTaken {K D : Type 0} (object : resource.Ghosts K D) (core : CoreWorld K) (takes : Bool) (qs : List (QueueEvent Message)) (rs : List (Running K)) (ts : List (Taken K)) (p' : Pending K D) : Type 0 where
   pub taken : AreTakenWhere takes core.limit (waiting same_message core.debounce qs) rs ts
   pub waits : PendingStands object.type_of core p' (qs ++ took ts) (rs ++ filter_map started ts)
 
--- takes made first of what waits and runs, one read for each; the reader has read no less since
+-- takes made first of what waits and runs, one read for each, and what was to be taken next; the reader has read no less since
 pub record HaveTakenFirst {K : Type 0} (meta : K → ObjectMeta) (core : CoreWorld K) (takes : Bool) (qs : List (QueueEvent Message)) (rs : List (Running K)) (ts : List (Taken K)) (old new : Reader K) : Type 0 where
   pub taken : AreFirstTaken takes core.limit (waiting same_message core.debounce qs) rs ts
+  pub next : Message
+  pub is_next : IsTakenNext takes core.limit (waiting same_message core.debounce qs) rs ts next
   pub found_by : Reader K
   pub looked_up : AreFound meta ts old found_by
   pub later : IsLater found_by new
@@ -76,7 +89,7 @@ pub record HaveReadAndTaken {K D : Type 0} (object : resource.Ghosts K D) (core 
   pub looked_up : AreFound object.meta_of ts told_at p'.reader
   pub taken : HaveTaken object core ((p.ready || is_told_ready told) && not gave_up) qs rs ts p'.pending
 
--- it polled so, and made these takes first
+-- it polled so, and made these takes first, not all
 pub record HaveReadAndTakenFirst {K D : Type 0} (object : resource.Ghosts K D) (core : CoreWorld K) (gave_up : Bool) (qs : List (QueueEvent Message)) (rs : List (Running K)) (p : Parts K D) (told : Option Readiness) (ts : List (Taken K)) (p' : Parts K D) : Type 0 where
   pub told_at : Reader K
   pub is_told : IsTold object.meta_of told p.reader told_at
@@ -91,25 +104,40 @@ module _ {O B : Type 0} (w : World O B) (h : List (Step O)) (t : Turn) where
     pub looked_up : r.looked_up ≡ map (λ taken. taken.object) ts
     pub shown : r.shown ≡ None
 
-module _ {O B : Type 0} (meta : O → ObjectMeta) (w : World O B) (h : List (Step O)) (t : Turn) where
-  -- after its finishes, which did this to the queue, an open turn requested, asked and settled, and then made these takes first
-  pub record HasTakenThese (qs : List (QueueEvent Message)) (xs : List (Exchange O)) (ts : List (Taken O)) (r : Reads O) (old new : Reader O) : Type 0 where
-    pub asked : EachIsNext w h t [] xs
-    pub done : next_source w h t xs ≡ None
-    pub reads : AreFirstReads w h t xs ts r
-    pub read : IsReadFirst meta ts r old new
-    pub taken : AreFirstTaken ((was_ready h || told_ready r) && not (is_over w h t xs)) w.limit (waiting same_message w.debounce (queue_asked w.key qs t r xs)) (running_in w h t) ts
+-- policy says what the error policy answered of an object and a fault
+module _ {O D E B : Type 0} (object : resource.Ghosts O D) (policy : O → E → Action → Type 0) (w : World O B) (h : List (Step O)) (t : HeldTurn O E D) where
+  -- more than these takes was to be done: one more take, whatever its look-up would have answered; or what the turn shows was to be read
+  pub data IsMoreLeft (fs : List Finished) (xs : List (Exchange O)) (ts : List (Taken O)) (r : Reads O) : Type 0 where
+    TakeIsLeft : (m : Message)
+        → ((found : Option O) → taken_in w h (turn_of object.type_of t) (record r { looked_up = r.looked_up ++ found ∷ [] }) fs xs ≡ ts ++ record { message = m; object = found } ∷ []) → IsMoreLeft fs xs ts r
+    ShowIsLeft : t.show ≡ true → IsMoreLeft fs xs ts r
 
-  -- or it took none
-  pub data HasTakenFirst (qs : List (QueueEvent Message)) (ts : List (Taken O)) (old new : Reader O) : Type 0 where
-    TookNone : ts ≡ [] → HasTakenFirst qs ts old new
-    TookThese : (xs : List (Exchange O)) (r : Reads O) → HasTakenThese qs xs ts r old new → HasTakenFirst qs ts old new
+  -- takes that a turn makes first after these exchanges, by what the error policy answered for its finishes and by what was read for it so far; and more was left
+  pub record AreTakesSoFar (old new : Reader O) (xs : List (Exchange O)) (ts : List (Taken O)) : Type 0 where
+    pub finished : List Finished
+    pub are_finished : AreFinishedSo object.type_of policy (running h) t.finishes finished
+    pub reads : Reads O
+    pub are_reads : AreFirstReads w h (turn_of object.type_of t) xs ts reads
+    pub read : IsReadFirst object.meta_of ts reads old new
+    pub takes : taken_in w h (turn_of object.type_of t) reads finished xs ≡ ts
+    pub more : IsMoreLeft finished xs ts reads
 
-  -- takes that an open turn makes first, after finishes and exchanges, by what was read for it so far; or none
-  pub data AreFirstTakes (ts : List (Taken O)) (old new : Reader O) : Type 0 where
-    NoneTaken : ts ≡ [] → AreFirstTakes ts old new
-    FrontTaken : (fs : List Finished) (xs : List (Exchange O)) (r : Reads O) → AreFinishesOf (answered_in fs) (running h) t.finishes fs → EachIsNext w h t [] xs → next_source w h t xs ≡ None
-        → AreFirstReads w h t xs ts r → IsReadFirst meta ts r old new → taken_in w h t r fs xs ≡ ts → AreFirstTakes ts old new
+-- Left says of the exchanges of a turn, and of takes of it, that more was left
+module _ {R S O D : Type 0} (root : root_source.Ghosts R O D) (related : related_set.Ghosts S O D) {B : Type 0} (w : World O B) (h : List (Step O)) (t : Turn) (Left : List (Exchange O) → List (Taken O) → Type 0) where
+  -- memory was wanting in a turn that had made these exchanges and these takes: before its first take, or from there on, where no source was left to ask and more was left
+  pub data AreCutShort (made : List (Exchange O)) (ts : List (Taken O)) : Type 0 where
+    BeforeTakes : ts ≡ [] → AreCutShort made ts
+    AmongTakes : next_source w h t made ≡ None → Left made ts → AreCutShort made ts
+
+  -- a fault ended a turn that had made these takes: where an object has no name it had made none
+  abbrev pub IsEndedBy : AskFault → List (Taken O) → R → S → R → S → Type 0
+  IsEndedBy faults.NoMemory ts r s r' s' = (cut : AreCutOff root related w h t (IsLostNext root related) [] r s r' s') × AreCutShort cut.made ts
+  IsEndedBy (faults.Unnamed source) ts r s r' s' = AreEndedBy root related w h t (faults.Unnamed source) [] r s r' s' × (ts ≡ [])
+  IsEndedBy faults.Spent ts r s r' s' = ⊥
+
+-- what a turn read of which only a reload's read was made
+abbrev pub only_reloaded : {O : Type 0} → Option (List O) → Reads O
+only_reloaded found = record { readiness = None; reloaded = found; looked_up = []; shown = None }
 
 module _ {R S B O D : Type 0} (root : root_source.Ghosts R O D) (related : related_set.Ghosts S O D) (delays : backoff.Ghosts B) (object : resource.Ghosts O D) (w : World O B) (h : List (Step O)) (t : Turn) where
   -- an open turn may go on after its finishes, which did this to the queue
@@ -118,8 +146,10 @@ module _ {R S B O D : Type 0} (root : root_source.Ghosts R O D) (related : relat
     pub ready : p.ready ≡ was_ready h
     pub shut : p.shut ≡ false
 
-  -- all that an open turn does after its finishes, which did this to the queue: it requests, asks, settles, polls `poll_ready` where that is due, and takes where the store is ready and the backoff hasn't given up
-  pub record HasGoneOn (qs : List (QueueEvent Message)) (a : Asking R S B) (r : Reads O) (xs : List (Exchange O)) (ts : List (Taken O)) (a' : Asking R S B) (p' : Parts O D) : Type 0 where
+  -- all that an open turn does after its finishes, which did this to the queue, and before it polls `poll_ready` and takes: it requests what a reload found and what it names, asks and settles
+  pub record HasAsked (qs : List (QueueEvent Message)) (a : Asking R S B) (p : Parts O D) (found : Option (List O)) (xs : List (Exchange O)) (a' : Asking R S B) (p' : Parts O D) : Type 0 where
+    pub reloaded : is_some found ≡ t.reload
+    pub listed : AreListed object.meta_of found p.reader p'.reader
     pub asked : EachIsNext w h t [] xs
     pub each_named : EachIsNamed w (RootIsNamed w) h t [] xs
     pub polled : ArePolled root.polls related.polls (exchanges h) a.root a.related (dated t.at xs) a'.root a'.related
@@ -127,11 +157,8 @@ module _ {R S B O D : Type 0} (root : root_source.Ghosts R O D) (related : relat
     pub world : IsWorldOfAsks root related delays object w a'
     pub asks_stand : AsksStand root related delays object w t.budget (exchanges h) (dated t.at xs) a'
     pub unspent : a'.is_spent ≡ false
-    pub reloaded : is_some r.reloaded ≡ t.reload
-    pub told : is_some r.readiness ≡ not (was_ready h) && not (gave_up w (exchanges_with h t xs))
-    pub looked_up : r.looked_up ≡ map (λ taken. taken.object) ts
-    pub taken : HaveTaken object (core_world w) ((was_ready h || told_ready r) && not (gave_up w (exchanges_with h t xs))) (queue_asked w.key qs t r xs) (running_in w h t) ts p'.pending
-    pub ready : p'.ready ≡ was_ready h || told_ready r
+    pub waits : PendingStands object.type_of (core_world w) p'.pending (queue_asked w.key qs t (only_reloaded found) xs) (running_in w h t)
+    pub ready : p'.ready ≡ p.ready
     pub shut : p'.shut ≡ gave_up w (exchanges_with h t xs)
 
   -- the turn was taken: this is what it made, with what the error policy answered; its exchanges came with their names, and are all that its sources were asked; and the parts are what the history leaves with it

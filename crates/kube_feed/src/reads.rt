@@ -1,6 +1,6 @@
 //! The reads of a turn: what a reload finds, whether the store is ready, and what the turn shows.
 
-ghost use Rattle.std.specs.Prelude.{◌≡◌, ◌||◌, not, List, Option, Some, None, IfOk, OnOk, is_some, map};
+ghost use Rattle.std.specs.Prelude.{◌≡◌, ◌||◌, not, true, List, Option, Some, None, IfOk, OnOk, OnErr, is_some, map};
 ghost use Rattle.kube_meta.specs.Keys.{reference_of};
 ghost use Rattle.kube_model.specs.History.{Message};
 ghost use Rattle.kube_model.specs.Queue.{QueueEvent};
@@ -140,6 +140,7 @@ pub fn shown<K: Resource, W: Wait>(
     ensures same { IsLater reader.old reader.new }
     ensures listed { IfOk result (λ o. AreListed K.meta_of (shown_objects o) reader.old reader.new) }
     ensures asked { IfOk result (λ o. is_some o ≡ show) }
+    ensures wanted { OnErr result (show ≡ true) }
 {
     if !show {
         return Ok(None);

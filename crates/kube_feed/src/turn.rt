@@ -29,7 +29,7 @@ ghost use Rattle.kube_feed.specs.Asked.{AreEndedBy};
 ghost use Rattle.kube_feed.specs.Fed.{PartsStand};
 ghost use Rattle.kube_feed.specs.Reads.{AreFound, AreListed, IsLater, IsReadIn};
 ghost use Rattle.kube_feed.specs.Requests.{bulk_requests, name_requests};
-ghost use Rattle.kube_feed.specs.Turns.{AreFirstTakes, HasGoneOn, HasTakenFirst, HaveReadAndTaken, HaveReadAndTakenFirst, HaveTaken, HaveTakenFirst, IsTaken, MayGoOn};
+ghost use Rattle.kube_feed.specs.Turns.{AreTakesSoFar, HasAsked, HaveReadAndTaken, HaveReadAndTakenFirst, HaveTaken, HaveTakenFirst, IsEndedBy, IsTaken, MayGoOn};
 
 use crate::finishes::finish_all;
 use crate::parts::Parts;
@@ -46,14 +46,6 @@ use kube_step::Reconciler;
 use kube_turn::{ReconcileRequest, SourceExchange, Taken, Turn, TurnRecord};
 use std::alloc::Global;
 use std::sync::{Arc, Wait};
-
-/// What an open turn makes after its finishes: its exchanges, its takes, and why the runner ended, if it did.
-#[derive(Drop)]
-struct Made<K: Resource> {
-    exchanges: List<SourceExchange<K>>,
-    taken: List<Taken<K>>,
-    runner: Option<RunnerError>,
-}
 
 /// Whether shutdown is asked.
 fn asks_shutdown(shutdown: Shutdown) -> bool
@@ -95,14 +87,21 @@ fn request_first<K: Resource, W: Wait>(
     Ok(())
 }
 
-/// Settles, and marks that the backoff gave up, where it did; says whether it did.
+/// Whether one of two holds.
+fn either(one: bool, other: bool) -> bool
+    ensures { result ≡ one || other }
+{
+    one || other
+}
+
+/// Settles, and marks that the backoff gave up, where it did.
 fn settle<R: RootSource, S: RelatedSet<R::Object>, B: Backoff>(
     asks: &Asks<R, S, B>,
     parts: &mut Parts<R::Object>,
     at: Moment,
-) -> bool
-    ensures gave_up { (w : World R.Object B) (budget : List ℕ) (before mine : List (Dated R.Object)) → AsksStand R.RootSource S.RelatedSet B.Backoff R.Object.Resource w budget before mine asks.now → result ≡ gave_up w (before ++ mine) }
-    ensures shut { parts.new.shut ≡ parts.old.shut || result }
+)
+    ensures shut { (w : World R.Object B) (budget : List ℕ) (before mine : List (Dated R.Object)) → AsksStand R.RootSource S.RelatedSet B.Backoff R.Object.Resource w budget before mine asks.now
+        → parts.new.shut ≡ parts.old.shut || gave_up w (before ++ mine) }
     ensures reader { parts.new.reader ≡ parts.old.reader }
     ensures ready { parts.new.ready ≡ parts.old.ready }
     ensures stands { (core : CoreWorld R.Object) (qs : List (QueueEvent Message)) (rs : List (Running R.Object)) → Stands R.Object.type_of core parts.old.pending qs rs
@@ -110,8 +109,7 @@ fn settle<R: RootSource, S: RelatedSet<R::Object>, B: Backoff>(
 {
     parts.pending.settle(at);
     let gave_up = asks.given_up();
-    parts.shut = parts.shut || gave_up;
-    gave_up
+    parts.shut = either(parts.shut, gave_up);
 }
 
 /// Takes what is due, where the store is ready.
@@ -154,12 +152,12 @@ where
     )
 }
 
-/// What an open turn does after its asks and its settle: it polls whether the store is ready, where that is due, and takes.
+/// What a turn does after its asks and its settle: it polls whether the store is ready, where that is due, and takes. Where
+/// shutdown was asked or given up it does nothing.
 fn read_and_take<K, W, Ctx, Rc>(
     rt: &W,
     alloc: Global,
     parts: &mut Parts<K>,
-    gave_up: bool,
     reconciler: &mut Rc,
     context: &Arc<Ctx>,
 ) -> Result<(List<Taken<K>>, Option<RunnerError>), NoMemory>
@@ -170,15 +168,16 @@ where
     Rc: Reconciler<K, Ctx>,
     ensures same { IsLater parts.old.reader parts.new.reader }
     ensures shut { parts.new.shut ≡ parts.old.shut }
+    ensures closed { IfOk result (λ q. parts.old.shut ≡ true → (q.0 ≡ []) × (q.1 ≡ None) × (parts.new ≡ parts.old)) }
     ensures taken { IfOk result (λ q. (core : CoreWorld K) (qs : List (QueueEvent Message)) (rs : List (Running K)) → Stands K.type_of core parts.old.pending qs rs
-        → (told : Option Readiness) × (q.1 ≡ failure_in told) × HaveReadAndTaken K.Resource core gave_up qs rs parts.old told (filter_map (taken_of K.type_of) q.0) parts.new) }
+        → (told : Option Readiness) × (q.1 ≡ failure_in told) × HaveReadAndTaken K.Resource core parts.old.shut qs rs parts.old told (filter_map (taken_of K.type_of) q.0) parts.new) }
     ensures handed { IfOk result (λ q. Rc.handed reconciler.new ≡ grown_by (Rc.handed reconciler.old) (handed_by (filter_map (taken_of K.type_of) q.0))) }
     ensures something { IfOk result (λ q. AllByRecursion (IsSomething K.type_of) q.0) }
-    ensures lost { OnErr result ((ts : List (PlainTaken K)) × (Rc.handed reconciler.new ≡ grown_by (Rc.handed reconciler.old) (handed_by ts))
+    ensures lost { OnErr result ((ts : List (PlainTaken K)) × (Rc.handed reconciler.new ≡ grown_by (Rc.handed reconciler.old) (handed_by ts)) × (parts.old.shut ≡ false)
         × ((core : CoreWorld K) (qs : List (QueueEvent Message)) (rs : List (Running K)) → Stands K.type_of core parts.old.pending qs rs
-        → (told : Option Readiness) × HaveReadAndTakenFirst K.Resource core gave_up qs rs parts.old told ts parts.new)) }
+        → (told : Option Readiness) × HaveReadAndTakenFirst K.Resource core parts.old.shut qs rs parts.old told ts parts.new)) }
 {
-    if gave_up {
+    if parts.shut {
         return Ok((List::new(alloc), None));
     }
     let runner = poll_ready(rt, parts);
@@ -187,25 +186,23 @@ where
     Ok((taken, runner))
 }
 
-/// Goes on with an open turn after its finishes: requests, asks, settles, polls whether the store is ready, and takes.
-fn go_on<R, S, B, W, Ctx, Rc>(
+/// What an open turn does after its finishes and before it reads and takes: it requests, asks and settles. A closed one does
+/// nothing.
+fn ask_where<R, S, B, W>(
+    goes_on: bool,
     rt: &W,
     alloc: Global,
     asks: &mut Asks<R, S, B>,
     parts: &mut Parts<R::Object>,
-    reconciler: &mut Rc,
-    context: &Arc<Ctx>,
     reload: bool,
     on: List<ObjectRef<R::Object>>,
     at: Moment,
-) -> Result<Made<R::Object>, AskFault>
+) -> Result<List<SourceExchange<R::Object>>, AskFault>
 where
     R: RootSource,
     S: RelatedSet<R::Object>,
     B: Backoff,
     W: Wait,
-    Ctx: Drop,
-    Rc: Reconciler<R::Object, Ctx>,
     requires few { length (S.feeds asks.old.related) + 1 < 2 ^ 32 }
     requires root { R.can_poll asks.old.root }
     requires related { S.can_poll asks.old.related }
@@ -214,21 +211,17 @@ where
     ensures feeds { S.feeds asks.new.related ≡ S.feeds asks.old.related }
     ensures kind { R.kind asks.new.root ≡ R.kind asks.old.root }
     ensures same { IsLater parts.old.reader parts.new.reader }
-    ensures gone_on { IfOk result (λ m. (w : World R.Object B) (h : List (Step R.Object)) (t : PlainTurn) (qs : List (QueueEvent Message)) → t.at ≡ at.0 → t.reload ≡ reload → t.on ≡ map (reference_of R.Object.type_of) on
+    ensures closed { IfOk result (λ xs. goes_on ≡ false → (xs ≡ []) × (asks.new ≡ asks.old) × (parts.new ≡ parts.old)) }
+    ensures asked { IfOk result (λ xs. goes_on ≡ true → (w : World R.Object B) (h : List (Step R.Object)) (t : PlainTurn) (qs : List (QueueEvent Message)) → t.at ≡ at.0 → t.reload ≡ reload → t.on ≡ map (reference_of R.Object.type_of) on
         → MayGoOn R.RootSource S.RelatedSet B.Backoff R.Object.Resource w h t qs asks.old parts.old
-        → (r : Reads R.Object) × IsReadIn R.Object.meta_of (filter_map (taken_of R.Object.type_of) m.taken) r parts.old.reader parts.new.reader × (r.shown ≡ None) × (m.runner ≡ failure_in r.readiness)
-        × HasGoneOn R.RootSource S.RelatedSet B.Backoff R.Object.Resource w h t qs asks.old r (map (exchange_of R.Object.type_of) m.exchanges) (filter_map (taken_of R.Object.type_of) m.taken) asks.new parts.new) }
-    ensures handed { IfOk result (λ m. Rc.handed reconciler.new ≡ grown_by (Rc.handed reconciler.old) (handed_by (filter_map (taken_of R.Object.type_of) m.taken))) }
-    ensures something { IfOk result (λ m. AllByRecursion (IsSomething R.Object.type_of) m.taken) }
-    ensures ended { IfErr result (λ f. (w : World R.Object B) (h : List (Step R.Object)) (t : PlainTurn) (qs : List (QueueEvent Message)) → t.at ≡ at.0 → t.reload ≡ reload → t.on ≡ map (reference_of R.Object.type_of) on
+        → (found : Option (List R.Object)) × HasAsked R.RootSource S.RelatedSet B.Backoff R.Object.Resource w h t qs asks.old parts.old found (map (exchange_of R.Object.type_of) xs) asks.new parts.new) }
+    ensures ended { IfErr result (λ f. (goes_on ≡ true) × ((w : World R.Object B) (h : List (Step R.Object)) (t : PlainTurn) (qs : List (QueueEvent Message)) → t.at ≡ at.0 → t.reload ≡ reload → t.on ≡ map (reference_of R.Object.type_of) on
         → MayGoOn R.RootSource S.RelatedSet B.Backoff R.Object.Resource w h t qs asks.old parts.old
-        → AreEndedBy R.RootSource S.RelatedSet w h t f [] asks.old.root asks.old.related asks.new.root asks.new.related) }
-    ensures handed_before { OnErr result ((ts : List (PlainTaken R.Object)) × (Rc.handed reconciler.new ≡ grown_by (Rc.handed reconciler.old) (handed_by ts))
-        × ((w : World R.Object B) (h : List (Step R.Object)) (t : PlainTurn) (qs : List (QueueEvent Message)) → t.at ≡ at.0 → t.reload ≡ reload → t.on ≡ map (reference_of R.Object.type_of) on
-        → MayGoOn R.RootSource S.RelatedSet B.Backoff R.Object.Resource w h t qs asks.old parts.old
-        → HasTakenFirst R.Object.meta_of w h t qs ts parts.old.reader parts.new.reader)) }
-    ensures starts_nothing { IfErr result (λ f. IfUnnamedAsk f (λ source. Rc.handed reconciler.new ≡ Rc.handed reconciler.old)) }
+        → AreEndedBy R.RootSource S.RelatedSet w h t f [] asks.old.root asks.old.related asks.new.root asks.new.related)) }
 {
+    if !goes_on {
+        return Ok(List::new(alloc));
+    }
     request_first(
         rt,
         alloc,
@@ -240,68 +233,8 @@ where
         at,
     )?;
     let exchanges = ask_all(asks, &mut parts.pending, alloc, at)?;
-    let gave_up = settle(asks, parts, at);
-    let took = read_and_take(rt, alloc, parts, gave_up, reconciler, context)?;
-    let (taken, runner) = took;
-    Ok(Made {
-        exchanges,
-        taken,
-        runner,
-    })
-}
-
-/// Goes on with a turn after its finishes, where it is open. A closed one does nothing more.
-fn go_on_where<R, S, B, W, Ctx, Rc>(
-    goes_on: bool,
-    rt: &W,
-    alloc: Global,
-    asks: &mut Asks<R, S, B>,
-    parts: &mut Parts<R::Object>,
-    reconciler: &mut Rc,
-    context: &Arc<Ctx>,
-    reload: bool,
-    on: List<ObjectRef<R::Object>>,
-    at: Moment,
-) -> Result<Made<R::Object>, AskFault>
-where
-    R: RootSource,
-    S: RelatedSet<R::Object>,
-    B: Backoff,
-    W: Wait,
-    Ctx: Drop,
-    Rc: Reconciler<R::Object, Ctx>,
-    requires few { length (S.feeds asks.old.related) + 1 < 2 ^ 32 }
-    requires root { R.can_poll asks.old.root }
-    requires related { S.can_poll asks.old.related }
-    ensures root { R.can_poll asks.new.root }
-    ensures related { S.can_poll asks.new.related }
-    ensures feeds { S.feeds asks.new.related ≡ S.feeds asks.old.related }
-    ensures kind { R.kind asks.new.root ≡ R.kind asks.old.root }
-    ensures same { IsLater parts.old.reader parts.new.reader }
-    ensures closed { IfOk result (λ m. goes_on ≡ false → (m.exchanges ≡ []) × (m.taken ≡ []) × (m.runner ≡ None) × (asks.new ≡ asks.old) × (parts.new ≡ parts.old)) }
-    ensures gone_on { IfOk result (λ m. goes_on ≡ true → (w : World R.Object B) (h : List (Step R.Object)) (t : PlainTurn) (qs : List (QueueEvent Message)) → t.at ≡ at.0 → t.reload ≡ reload → t.on ≡ map (reference_of R.Object.type_of) on
-        → MayGoOn R.RootSource S.RelatedSet B.Backoff R.Object.Resource w h t qs asks.old parts.old
-        → (r : Reads R.Object) × IsReadIn R.Object.meta_of (filter_map (taken_of R.Object.type_of) m.taken) r parts.old.reader parts.new.reader × (r.shown ≡ None) × (m.runner ≡ failure_in r.readiness)
-        × HasGoneOn R.RootSource S.RelatedSet B.Backoff R.Object.Resource w h t qs asks.old r (map (exchange_of R.Object.type_of) m.exchanges) (filter_map (taken_of R.Object.type_of) m.taken) asks.new parts.new) }
-    ensures handed { IfOk result (λ m. Rc.handed reconciler.new ≡ grown_by (Rc.handed reconciler.old) (handed_by (filter_map (taken_of R.Object.type_of) m.taken))) }
-    ensures something { IfOk result (λ m. AllByRecursion (IsSomething R.Object.type_of) m.taken) }
-    ensures ended { IfErr result (λ f. (goes_on ≡ true) × ((w : World R.Object B) (h : List (Step R.Object)) (t : PlainTurn) (qs : List (QueueEvent Message)) → t.at ≡ at.0 → t.reload ≡ reload → t.on ≡ map (reference_of R.Object.type_of) on
-        → MayGoOn R.RootSource S.RelatedSet B.Backoff R.Object.Resource w h t qs asks.old parts.old
-        → AreEndedBy R.RootSource S.RelatedSet w h t f [] asks.old.root asks.old.related asks.new.root asks.new.related)) }
-    ensures handed_before { OnErr result ((ts : List (PlainTaken R.Object)) × (Rc.handed reconciler.new ≡ grown_by (Rc.handed reconciler.old) (handed_by ts))
-        × ((w : World R.Object B) (h : List (Step R.Object)) (t : PlainTurn) (qs : List (QueueEvent Message)) → t.at ≡ at.0 → t.reload ≡ reload → t.on ≡ map (reference_of R.Object.type_of) on
-        → MayGoOn R.RootSource S.RelatedSet B.Backoff R.Object.Resource w h t qs asks.old parts.old
-        → HasTakenFirst R.Object.meta_of w h t qs ts parts.old.reader parts.new.reader)) }
-    ensures starts_nothing { IfErr result (λ f. IfUnnamedAsk f (λ source. Rc.handed reconciler.new ≡ Rc.handed reconciler.old)) }
-{
-    if !goes_on {
-        return Ok(Made {
-            exchanges: List::new(alloc),
-            taken: List::new(alloc),
-            runner: None,
-        });
-    }
-    go_on(rt, alloc, asks, parts, reconciler, context, reload, on, at)
+    settle(asks, parts, at);
+    Ok(exchanges)
 }
 
 /// Whether shutdown is forced.
@@ -339,7 +272,7 @@ fn is_last<K: Resource>(parts: &Parts<K>, shutdown: Shutdown, runner: &Option<Ru
     )
 }
 
-/// Takes a turn that is not refused.
+/// Takes a turn that is not refused. All memory for its record is taken before its last take, but that for what it shows.
 pub fn take_turn<R, S, B, W, Ctx, Rc, P, E>(
     rt: &W,
     alloc: Global,
@@ -376,13 +309,11 @@ where
         → AreFinished R.Object.type_of (Answers P.Fn error_policy.now (arc_value context.now)) (running h) turn.finishes r.finished) }
     ensures handed { IfOk result (λ r. Rc.handed reconciler.new ≡ grown_by (Rc.handed reconciler.old) (handed_by (record_of R.Object.type_of r).taken)) }
     ensures something { IfOk result (λ r. AllByRecursion (IsSomething R.Object.type_of) r.taken) }
-    ensures ended { IfErr result (λ f. (w : World R.Object B) (h : List (Step R.Object))
-        → PartsStand R.RootSource S.RelatedSet B.Backoff R.Object.Resource w h asks.old parts.old → IsValid h (turn_of R.Object.type_of turn)
-        → AreEndedBy R.RootSource S.RelatedSet w h (turn_of R.Object.type_of turn) f [] asks.old.root asks.old.related asks.new.root asks.new.related) }
-    ensures handed_before { OnErr result ((ts : List (PlainTaken R.Object)) × (Rc.handed reconciler.new ≡ grown_by (Rc.handed reconciler.old) (handed_by ts))
+    ensures ended { IfErr result (λ f. (ts : List (PlainTaken R.Object)) × (Rc.handed reconciler.new ≡ grown_by (Rc.handed reconciler.old) (handed_by ts))
         × ((w : World R.Object B) (h : List (Step R.Object))
         → PartsStand R.RootSource S.RelatedSet B.Backoff R.Object.Resource w h asks.old parts.old → IsValid h (turn_of R.Object.type_of turn)
-        → AreFirstTakes R.Object.meta_of w h (turn_of R.Object.type_of turn) ts parts.old.reader parts.new.reader)) }
+        → IsEndedBy R.RootSource S.RelatedSet w h (turn_of R.Object.type_of turn) (AreTakesSoFar R.Object.Resource (Answers P.Fn error_policy.now (arc_value context.now)) w h turn parts.old.reader parts.new.reader)
+        f ts asks.old.root asks.old.related asks.new.root asks.new.related)) }
     ensures starts_nothing { IfErr result (λ f. IfUnnamedAsk f (λ source. Rc.handed reconciler.new ≡ Rc.handed reconciler.old)) }
 {
     let Turn {
@@ -405,15 +336,10 @@ where
         finishes,
         at,
     )?;
-    let made = go_on_where(
-        !closed, rt, alloc, asks, parts, reconciler, context, reload, on, at,
-    )?;
-    let Made {
-        exchanges,
-        taken,
-        runner,
-    } = made;
+    let exchanges = ask_where(!closed, rt, alloc, asks, parts, reload, on, at)?;
     let stops = asks.stops(alloc, closed)?;
+    let took = read_and_take(rt, alloc, parts, reconciler, context)?;
+    let (taken, runner) = took;
     let store = shown(rt, alloc, &mut parts.reader, show)?;
     let ended = is_last(parts, shutdown, &runner);
     Ok(TurnRecord {

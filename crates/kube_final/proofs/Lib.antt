@@ -2,6 +2,7 @@ pub mod LifeLaws
 pub mod WaitLaws
 pub mod WaitLoops
 pub mod WaitLosses
+pub mod DeleteLosses
 pub mod EqualTexts
 pub mod Documents
 pub mod Patching

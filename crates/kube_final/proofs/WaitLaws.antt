@@ -29,7 +29,7 @@ exchanges_none : {V : Type 0} (settings : Settings) (held : Bool) (before xs : L
 exchanges_none settings held before [] e = refl
 exchanges_none settings held before (x ∷ xs) e = cc
 
-nil_of : {X : Type 0} (xs : List X) → length xs ≡ 0 → xs ≡ []
+pub nil_of : {X : Type 0} (xs : List X) → length xs ≡ 0 → xs ≡ []
 nil_of [] e = refl
 nil_of (x ∷ xs) e = absurd (omega arith)
 
@@ -272,7 +272,7 @@ exchanged_append api now old middle new xs ys h k =
 
 -- ---- a wait goes on
 
-spent_leaves : {V : Type 0} (says : Says V) (ws : List (Found V)) (n : ℕ) (ls : List (Look (Found V))) (left : List (Found V)) → Waited says ws n ls Spent left → left ≡ []
+pub spent_leaves : {V : Type 0} (says : Says V) (ws : List (Found V)) (n : ℕ) (ls : List (Look (Found V))) (left : List (Found V)) → Waited says ws n ls Spent left → left ≡ []
 spent_leaves says [] zero [] left h = h
 spent_leaves says (w ∷ ws) zero [] left h = spent_leaves says ws zero [] left h.1
 spent_leaves says ws (suc n) [] left h = absurd h

@@ -16,7 +16,7 @@ use Rattle.kube_final.specs.declared.wait.Error.TheVariants.{ProbeFailed}
 use Rattle.kube_final.specs.Conditions.{is_deleted}
 use Rattle.kube_final.specs.FinalizerPolls.{Objects}
 use Rattle.kube_final.specs.Waiting.{Deleting}
-use Rattle.kube_final.specs.Waits.{Awaited}
+use Rattle.kube_final.specs.Waits.{Awaited, LostWait}
 
 -- a uid that can be waited for is no empty text
 abbrev pub known : Option (List ℕ) → Deletion
@@ -42,10 +42,10 @@ pub record IsAsked {O V : Type 0} (objects : Objects O V) (meta_of : V → Objec
   pub kept : IsKept answer (objects.held old) (objects.held new)
   pub rose : FaultRose (is_object_fault answer) (objects.faults old) (objects.faults new)
 
--- memory could not be had: nothing was asked, or the deletion of the object of this name once
-abbrev pub IsAskedAtMostOnce : {O V : Type 0} → Objects O V → List ℕ → O → O → Type 0
-IsAskedAtMostOnce {V = V} objects name old new =
-    (objects.talk new ≡ objects.talk old) ⊎ ((answer : ObjectAnswer V) × (objects.talk new ≡ grown (objects.talk old) (record { call = DeleteAsked name; answer = answer })))
+-- memory could not be had: nothing was asked, and what the API holds is as before; or the deletion of the object of this name was asked, once
+abbrev pub IsAskedAtMostOnce : {O V : Type 0} → Objects O V → (V → ObjectMeta) → List ℕ → O → O → Type 0
+IsAskedAtMostOnce objects meta_of name old new =
+    ((objects.talk new ≡ objects.talk old) × (objects.held new ≡ objects.held old)) ⊎ ((deletion : Deletion) × IsAsked objects meta_of name old deletion new)
 
 -- the answer of a poll by that of the wait
 abbrev pub ended : {W : Type 0} → Next (Found W) → Next (Result (Unit {0}) Error)
@@ -73,3 +73,14 @@ abbrev pub IsDeletedBy : {O V A W : Type 0} → Objects O V → (V → ObjectMet
 IsDeletedBy objects reply_meta api meta_of now fuel (Some uid) before old answer after new = (after ≡ before) × IsAwaited api meta_of uid now fuel old answer new
 IsDeletedBy objects reply_meta api meta_of now fuel None before old answer after new =
     (deletion : Deletion) × IsAsked objects reply_meta old.name before deletion after × IsFollowed api meta_of now fuel deletion old answer new
+
+-- memory could not be had in the wait for the object of a uid
+abbrev pub IsWaitLost : {A W : Type 0} → Api A W → (W → ObjectMeta) → List ℕ → ℕ → ℕ → Deleting A W → Deleting A W → Type 0
+IsWaitLost api meta_of uid now fuel old new = LostWait api (λ object says. says ≡ is_deleted meta_of uid object) now fuel old.watch new.watch
+
+-- memory could not be had: where a uid was known nothing was asked of the API of objects, and else the deletion at most once; the watch is as before, but where a uid was known or is told now: then it may have been waited for
+abbrev pub IsLostBy : {O V A W : Type 0} → Objects O V → (V → ObjectMeta) → Api A W → (W → ObjectMeta) → ℕ → ℕ → Option (List ℕ) → O → Deleting A W → O → Deleting A W → Type 0
+IsLostBy objects reply_meta api meta_of now fuel (Some uid) before old after new = (after ≡ before) × IsWaitLost api meta_of uid now fuel old new
+IsLostBy objects reply_meta api meta_of now fuel None before old after new =
+    (IsAskedAtMostOnce objects reply_meta old.name before after × (new.watch ≡ old.watch))
+    ⊎ ((uid : List ℕ) × IsAsked objects reply_meta old.name before (Told uid) after × IsWaitLost api meta_of uid now fuel old new)

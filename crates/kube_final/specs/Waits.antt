@@ -1,14 +1,15 @@
 -- Waiting for an object until a condition holds. V is the type of the object. (Crate: `await_condition`, `delete_and_finalize`.)
-use Rattle.std.specs.Prelude.{◌≡◌, ◌⊎◌, ℕ, zero, suc, Bool, true, false, List, [], ◌∷◌, Option, Some, None, Result, Ok, Err}
+use Rattle.std.specs.Prelude.{◌≡◌, ◌⊎◌, ℕ, zero, suc, Bool, true, false, List, [], ◌∷◌, length, Option, Some, None, Result, Ok, Err}
 use Rattle.std.specs.Arc.{arc_value}
 use Rattle.std.specs.declared.sync.Arc.{Arc}
 use Rattle.std.specs.declared.alloc.Global.{Global}
 use Rattle.kube_meta.specs.declared.poll.Next.{Next}
 use Rattle.kube_meta.specs.declared.poll.Next.TheVariants.{Item, NotReady, Spent, End}
 use Rattle.kube_model.specs.declared.error.Error.{Error as WatcherError}
+use Rattle.kube_model.specs.World.{Settings}
 use Rattle.kube_model.specs.History.{Dated, Exchange}
 use Rattle.kube_watch.specs.Stands.{StandsFor, exchanges_in, settings_in}
-use Rattle.kube_watch.specs.Polls.{Api, Exchanged, Look, Tells, Waits, Quiet}
+use Rattle.kube_watch.specs.Polls.{Api, Exchanged, Look, LostAfter, Tells, Waits, Quiet}
 use Rattle.kube_watch.specs.Objects.{Found, Observing, answers_in, found_of, held_through, is_held, object_looks}
 use Rattle.kube_final.specs.declared.wait.Error.{Error}
 use Rattle.kube_final.specs.declared.wait.Error.TheVariants.{ProbeFailed}
@@ -57,6 +58,15 @@ pub record Awaited {A V : Type 0} (api : Api A V) (says : Says V) (now fuel : �
   pub answered : (ds : List (Dated V)) → StandsFor ds old.watcher
       → Waited says (answers_in old) fuel (object_looks (settings_in old.watcher) (is_held old) (exchanges_in ds) exchanges) answer (answers_in new)
   pub held : (ds : List (Dated V)) → StandsFor ds old.watcher → is_held new ≡ held_through (settings_in old.watcher) (is_held old) (exchanges_in ds) exchanges
+
+-- after these answers that waited, each of these exchanges was ready, and nothing that they tell ends the wait
+abbrev pub GoOn : {V : Type 0} → Says V → List (Found V) → Settings → Bool → List (Exchange V) → List (Exchange V) → Type 0
+GoOn says ws settings held before xs = Waited says ws (length xs) (object_looks settings held before xs) Spent []
+
+-- memory could not be had: nothing at all happened; or memory was wanting for one of so many calls of the watch, after exchanges with which the wait goes on
+abbrev pub LostWait : {A V : Type 0} → Api A V → Says V → ℕ → ℕ → Observing A V → Observing A V → Type 0
+LostWait api says now fuel old new =
+    (new ≡ old) ⊎ LostAfter api now fuel (GoOn says (answers_in old) (settings_in old.watcher) (is_held old)) old.watcher new.watcher
 
 -- the first of the answers that waited, or nothing waited
 abbrev pub FirstOf : {V : Type 0} → List (Found V) → Option (Found V) → List (Found V) → Type 0

@@ -5,8 +5,7 @@ ghost use Rattle.std.specs.Arc.{arc_value};
 ghost use Rattle.kube_api.specs.ObjectTalk.{delete_answer};
 ghost use Rattle.kube_watch.specs.Calls.{version_of};
 ghost use Rattle.kube_watch.specs.Objects.{IsOpened};
-ghost use Rattle.kube_watch.specs.Polls.{Lost};
-ghost use Rattle.kube_final.specs.Deletions.{IsAsked, IsAskedAtMostOnce, IsAwaited, IsDeletedBy, deletion_by, ended, known};
+ghost use Rattle.kube_final.specs.Deletions.{IsAsked, IsAskedAtMostOnce, IsAwaited, IsDeletedBy, IsLostBy, IsWaitLost, deletion_by, ended, known};
 ghost use Rattle.kube_final.specs.Waits.{is_item, next_probed};
 
 use crate::conditions::is_deleted;
@@ -100,7 +99,7 @@ fn ask<O: ObjectApi>(
     now: Moment,
 ) -> Result<Deletion, NoMemory>
     ensures asked { IfOk result (λ d. IsAsked (record { held = O.held; talk = O.talk; faults = O.faults }) O.Value.meta_of name.now objects.old d objects.new) }
-    ensures lost { OnErr result (IsAskedAtMostOnce (record { held = O.held; talk = O.talk; faults = O.faults }) name.now objects.old objects.new) }
+    ensures lost { OnErr result (IsAskedAtMostOnce (record { held = O.held; talk = O.talk; faults = O.faults }) O.Value.meta_of name.now objects.old objects.new) }
     ensures rises { O.faults objects.old ≤ O.faults objects.new }
 {
     let answer = objects.delete(alloc, name.as_str(), now)?;
@@ -184,8 +183,9 @@ impl<A: ApiMode> DeleteAndFinalize<A> {
         ensures over { IfOk result (λ a. self.new.is_over ≡ is_item a) }
         ensures rises { O.faults objects.old ≤ O.faults objects.new }
         ensures err { OnErr result (self.new.is_spent ≡ true) }
-        ensures lost { OnErr result (IsAskedAtMostOnce (record { held = O.held; talk = O.talk; faults = O.faults }) self.old.name objects.old objects.new) }
-        ensures watched { OnErr result (Lost (record { moves = A.moves; talk = A.talk; faults = A.faults; version = version_of A.Value.meta_of }) now.0 fuel self.old.watch.watcher self.new.watch.watcher) }
+        ensures lost { OnErr result (IsLostBy (record { held = O.held; talk = O.talk; faults = O.faults }) O.Value.meta_of
+            (record { moves = A.moves; talk = A.talk; faults = A.faults; version = version_of A.Value.meta_of }) A.Value.meta_of
+            now.0 fuel self.old.uid objects.old self.old objects.new self.new) }
         ensures again { OnErr result (self.new.is_over ≡ false) }
         ensures unspent { OnOk result (self.new.is_spent ≡ false) }
         ensures spent { self.old.is_spent ≡ true → IsErr result × (self.new ≡ self.old) × (objects.new ≡ objects.old) }
@@ -225,7 +225,8 @@ impl<A: ApiMode> DeleteAndFinalize<A> {
         ensures name { self.new.name ≡ self.old.name }
         ensures unspent { OnOk result (self.new.is_spent ≡ false) }
         ensures err { OnErr result (self.new ≡ record self.old { watch = self.new.watch }) }
-        ensures watched { OnErr result (Lost (record { moves = A.moves; talk = A.talk; faults = A.faults; version = version_of A.Value.meta_of }) now.0 fuel self.old.watch.watcher self.new.watch.watcher) }
+        ensures lost { OnErr result (IsWaitLost (record { moves = A.moves; talk = A.talk; faults = A.faults; version = version_of A.Value.meta_of }) A.Value.meta_of
+            uid now.0 fuel self.old self.new) }
     {
         let answer = poll_end(&mut self.watch, &is_deleted(uid.as_str()), alloc, now, fuel)?;
         let answer = ended(answer);

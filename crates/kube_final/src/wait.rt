@@ -2,10 +2,9 @@
 
 ghost use Rattle.std.specs.Prelude.{◌≡◌, ◌≤◌, true, false, Option, Bool, IfOk, OnOk, OnErr, IsErr};
 ghost use Rattle.kube_watch.specs.Calls.{version_of};
-ghost use Rattle.kube_watch.specs.Objects.{IsOpened, found_of};
-ghost use Rattle.kube_watch.specs.Polls.{Lost};
+ghost use Rattle.kube_watch.specs.Objects.{IsOpened, LostObject, found_of};
 ghost use Rattle.kube_watch.specs.Stands.{is_spent};
-ghost use Rattle.kube_final.specs.Waits.{Awaited, EndsAs, IsAskedOnce, IsFirstTaken, IsTaken, is_item, maybe_found, maybe_probed, next_probed, probed};
+ghost use Rattle.kube_final.specs.Waits.{Awaited, EndsAs, IsAskedOnce, IsFirstTaken, IsTaken, LostWait, is_item, maybe_found, maybe_probed, next_probed, probed};
 ghost use Rattle.kube_final.specs.Waiting.{IsLive};
 
 use crate::conditions::{And, Not, Or};
@@ -131,7 +130,7 @@ fn take_next<A: ApiMode>(
     ensures taken { IfOk result (λ a. IsFirstTaken watch.old (maybe_found a) watch.new) }
     ensures live { ∥ IsLive watch.new ∥₁ }
     ensures err { OnErr result (is_spent watch.new.watcher ≡ true) }
-    ensures lost { OnErr result (Lost (record { moves = A.moves; talk = A.talk; faults = A.faults; version = version_of A.Value.meta_of }) now.0 0 watch.old.watcher watch.new.watcher) }
+    ensures lost { OnErr result (is_spent watch.old.watcher ≡ true) }
     ensures unspent { OnOk result (is_spent watch.old.watcher ≡ false) }
     ensures spent { is_spent watch.old.watcher ≡ true → watch.new ≡ watch.old }
 {
@@ -155,7 +154,7 @@ fn take_end<A: ApiMode, C: Condition<A::Value>>(
     ensures taken { IfOk result (λ a. IsTaken (C.says condition.now) watch.old (maybe_probed a) watch.new) }
     ensures live { ∥ IsLive watch.new ∥₁ }
     ensures err { OnErr result (is_spent watch.new.watcher ≡ true) }
-    ensures lost { OnErr result (Lost (record { moves = A.moves; talk = A.talk; faults = A.faults; version = version_of A.Value.meta_of }) now.0 0 watch.old.watcher watch.new.watcher) }
+    ensures lost { OnErr result (is_spent watch.old.watcher ≡ true) }
     ensures unspent { OnOk result (is_spent watch.old.watcher ≡ false) }
     ensures spent { is_spent watch.old.watcher ≡ true → watch.new ≡ watch.old }
 {
@@ -181,7 +180,7 @@ fn ask_end<A: ApiMode, C: Condition<A::Value>>(
     ensures asked { IfOk result (λ a. IsAskedOnce (record { moves = A.moves; talk = A.talk; faults = A.faults; version = version_of A.Value.meta_of }) (C.says condition.now) now.0 watch.old (next_probed a) watch.new) }
     ensures live { ∥ IsLive watch.new ∥₁ }
     ensures err { OnErr result (is_spent watch.new.watcher ≡ true) }
-    ensures lost { OnErr result (Lost (record { moves = A.moves; talk = A.talk; faults = A.faults; version = version_of A.Value.meta_of }) now.0 1 watch.old.watcher watch.new.watcher) }
+    ensures lost { OnErr result (LostObject (record { moves = A.moves; talk = A.talk; faults = A.faults; version = version_of A.Value.meta_of }) now.0 1 watch.old watch.new) }
 {
     match watch.poll_next(alloc, now, 1)? {
         Next::Item(answer) => {
@@ -214,7 +213,7 @@ pub(crate) fn poll_end<A: ApiMode, C: Condition<A::Value>>(
     ensures awaited { IfOk result (λ a. Awaited (record { moves = A.moves; talk = A.talk; faults = A.faults; version = version_of A.Value.meta_of }) (C.says condition.now) now.0 fuel watch.old (next_probed a) watch.new) }
     ensures live { ∥ IsLive watch.new ∥₁ }
     ensures err { OnErr result (is_spent watch.new.watcher ≡ true) }
-    ensures lost { OnErr result (Lost (record { moves = A.moves; talk = A.talk; faults = A.faults; version = version_of A.Value.meta_of }) now.0 fuel watch.old.watcher watch.new.watcher) }
+    ensures lost { OnErr result (LostWait (record { moves = A.moves; talk = A.talk; faults = A.faults; version = version_of A.Value.meta_of }) (C.says condition.now) now.0 fuel watch.old watch.new) }
     ensures unspent { OnOk result (is_spent watch.old.watcher ≡ false) }
     ensures spent { is_spent watch.old.watcher ≡ true → watch.new ≡ watch.old }
 {
@@ -285,7 +284,7 @@ impl<A: ApiMode, C: Condition<A::Value>> AwaitCondition<A, C> {
         ensures condition { self.new.condition ≡ self.old.condition }
         ensures over { IfOk result (λ a. self.new.is_over ≡ is_item a) }
         ensures err { OnErr result (is_spent self.new.watch.watcher ≡ true) }
-        ensures lost { OnErr result (Lost (record { moves = A.moves; talk = A.talk; faults = A.faults; version = version_of A.Value.meta_of }) now.0 fuel self.old.watch.watcher self.new.watch.watcher) }
+        ensures lost { OnErr result (LostWait (record { moves = A.moves; talk = A.talk; faults = A.faults; version = version_of A.Value.meta_of }) (C.says self.old.condition) now.0 fuel self.old.watch self.new.watch) }
         ensures again { OnErr result (self.new.is_over ≡ false) }
         ensures spent { is_spent self.old.watch.watcher ≡ true → IsErr result × (self.new ≡ self.old) }
     {

@@ -45,9 +45,9 @@ each-asked at (m ∷ ms) = (
 any-last : {A : Type 0} (p : A → Bool) (xs ys : List A) → list_any p ys ≡ true → list_any p (xs ++ ys) ≡ true
 any-last p xs ys h = list_any-append p xs ys ∙ ap (λ b. list_any p xs || b) h ∙ or-true (list_any p xs)
 
-module _ {O B : Type 0} (w : World O B) (settings : Settings) (watched : feed_of w 0 ≡ Watched settings) where
+module _ {O B : Type 0} (w : World O B) where
   -- what a watched root's exchange requests are the references of what it brings
-  requests-brought : (before : List (Exchange O)) (x : Exchange O) → requests_of_watch w before x ≡ map (updated w) (requested w.key before x)
+  pub requests-brought : (before : List (Exchange O)) (x : Exchange O) → requests_of_watch w before x ≡ map (updated w) (requested w.key before x)
   requests-brought before x = go (completes (mark before x))
     where
       go : (b : Bool) → (if b then map (updated w) (listed (before ++ x ∷ [])) else map (updated w) (flat_map put_of (changes_of (mark before x))))
@@ -55,6 +55,91 @@ module _ {O B : Type 0} (w : World O B) (settings : Settings) (watched : feed_of
       go true = refl
       go false = refl
 
+-- One more turn, of any root.
+
+module _ {O B : Type 0} (w : World O B) (h : List (Step O)) (t : Turn) (made : Made O) (unshut : is_shut (h ++ step t made ∷ []) ≡ false) (going : gave_up w (exchanges (h ++ step t made ∷ [])) ≡ false) where
+  abbrev r : TurnRecord O
+  r = made.0
+
+  open-turn : is_closed w h t ≡ false
+  open-turn =
+      or-three (is_shut h) (asks_shutdown t.shutdown) (gave_up w (exchanges h)) (shut-before h (step t made ∷ []) unshut)
+      (asked (asks_shutdown t.shutdown) (shut-after h (step t made ∷ []) unshut))
+      (gave_up-before w (exchanges h) (dated t.at r.exchanges) (ap (gave_up w) (sym (exchanges-push h t made)) ∙ going))
+    where
+      asked : (b : Bool) → b || false ≡ false → b ≡ false
+      asked true e = e
+      asked false e = refl
+
+  -- the queue before the turn's takes, and the turn's requests
+  abbrev queue : List (QueueEvent Message)
+  queue = events_of w h ++ turn_events w h t made.1 r.finished r.exchanges
+
+  abbrev turn_requests : List Timed
+  turn_requests = requests_of_turn w (stored_in w h t made.1 r.exchanges).reloaded t r.finished r.exchanges
+
+  queue-is : (m : Message) → entry_by w.debounce queue m ≡ on_from w.debounce m (length (events_of w h)) (entry_by w.debounce (events_of w h) m) (requested_and_settled t.at turn_requests)
+  queue-is m =
+      ap (λ b. entry_by w.debounce (events_of w h ++ (if b then [] else requested_and_settled t.at turn_requests)) m) open-turn
+      ∙ entry-append same_message w.debounce (events_of w h) (requested_and_settled t.at turn_requests) m
+
+  -- what had an entry has one, and so has what was requested
+  still : (m : Message) → is_some (entry_in w h m) ≡ true → is_some (entry_by w.debounce queue m) ≡ true
+  still m e =
+      ap is_some (queue-is m)
+      ∙ kept-requests w.debounce m (length (events_of w h)) (entry_by w.debounce (events_of w h) m) t.at turn_requests e
+
+  asked-now : (m : Message) → list_any (λ q. same_message q.message m) turn_requests ≡ true → is_some (entry_by w.debounce queue m) ≡ true
+  asked-now m e =
+      ap is_some (queue-is m)
+      ∙ made-requests w.debounce m (length (events_of w h)) (entry_by w.debounce (events_of w h) m) t.at turn_requests e
+
+  -- it has an entry before the takes
+  abbrev pub Waits : Message → Type 0
+  Waits m = is_some (entry_by w.debounce queue m) ≡ true
+
+  pub each-waits : AllByRecursion Waits (flat_map (λ x. x.requests) r.exchanges)
+  each-waits =
+      all-map (λ m. list_any (λ q. same_message q.message m) (requests_of_exchanges t.at r.exchanges) ≡ true) Waits
+      (λ m e. asked-now m (any-last (λ q. same_message q.message m)
+      (flat_map (requests_of_finish t.at) r.finished ++ reload_requests w (stored_in w h t made.1 r.exchanges).reloaded t ++ named_requests t)
+      (requests_of_exchanges t.at r.exchanges) e))
+      (flat_map (λ x. x.requests) r.exchanges) (each-asked t.at (flat_map (λ x. x.requests) r.exchanges))
+
+  -- it was last handed over as it stands, or waits before the takes
+  abbrev pub IsDue : O → Type 0
+  IsDue o = (last_handed w h (w.key o) ≡ Some o) ⊎ Waits (about (w.key o))
+
+  -- so it is where it was settled before the turn, or is requested in it
+  pub due-still : (o : O) → IsSettledAt w h o → IsDue o
+  due-still o (inl e) = inl e
+  due-still o (inr e) = inr (still (about (w.key o)) e)
+
+  pub due-asked : (o : O) → Waits (updated w o) → IsDue o
+  due-asked o k =
+      inr (ap is_some (sym (entry-alike same_message (on_equiv (λ (m : Message). m.reference) same_reference_equiv) w.debounce queue (updated w o) (about (w.key o)) (same_reference_equiv.refl (w.key o)))) ∙ k)
+
+  last-push : (o : O) → last_handed w (h ++ step t made ∷ []) (w.key o) ≡ last_or (last_handed w h (w.key o)) (filter_map (λ u. if_keyed w (w.key o) u.object) r.taken)
+  last-push o =
+      ap (λ us. last_or None (filter_map (λ u. if_keyed w (w.key o) u.object) us)) (flat_map-append (λ s. s.made.taken) h (step t made ∷ []) ∙ ap (λ us. flat_map (λ s. s.made.taken) h ++ us) (append-nil r.taken))
+      ∙ ap (last_or None) (filter_map-append (λ u. if_keyed w (w.key o) u.object) (flat_map (λ s. s.made.taken) h) r.taken)
+      ∙ last_or-append None (filter_map (λ u. if_keyed w (w.key o) u.object) (flat_map (λ s. s.made.taken) h)) (filter_map (λ u. if_keyed w (w.key o) u.object) r.taken)
+
+  entry-now : (m : Message) → entry_in w (h ++ step t made ∷ []) m ≡ on_from w.debounce m (length queue) (entry_by w.debounce queue m) (took r.taken)
+  entry-now m = ap (λ es. entry_by w.debounce es m) (events-push w h (step t made)) ∙ entry-append same_message w.debounce queue (took r.taken) m
+
+  -- what is due and stands in a store is settled after the turn, where the turn took from that store
+  module _ (stored : List O) (looks : AllByRecursion (IsLookUp w stored) r.taken) (all : AllByRecursion (IsFoundIn w.key stored) stored) where
+    pub settled-due : (o : O) → IsDue o → IsFoundIn w.key stored o → IsSettledAt w (h ++ step t made ∷ []) o
+    settled-due o due found = go (list_any (λ u. same_message u.message (about (w.key o))) r.taken) refl due
+      where
+        go : (b : Bool) → list_any (λ u. same_message u.message (about (w.key o))) r.taken ≡ b → IsDue o → IsSettledAt w (h ++ step t made ∷ []) o
+        go true e due = inl (last-push o ∙ last-taken w stored all o found (last_handed w h (w.key o)) r.taken looks e)
+        go false e (inl k) =
+            inl (last-push o ∙ ap (λ z. last_or z (filter_map (λ u. if_keyed w (w.key o) u.object) r.taken)) k ∙ last-stays w stored all o found r.taken looks)
+        go false e (inr k) = inr (ap is_some (entry-now (about (w.key o)) ∙ kept-takes w.debounce (about (w.key o)) (length queue) (entry_by w.debounce queue (about (w.key o))) r.taken e) ∙ k)
+
+module _ {O B : Type 0} (w : World O B) (settings : Settings) (watched : feed_of w 0 ≡ Watched settings) where
   module _ (h : List (Step O)) (t : Turn) where
     -- P of what is stored, and Q of what is requested, goes through a turn's exchanges
     walk : (P : O → Type 0) (Q : Message → Type 0) → ((o : O) → Q (updated w o) → P o) → (before xs : List (Exchange O)) → EachIsNext w h t before xs
@@ -79,120 +164,47 @@ module _ {O B : Type 0} (w : World O B) (settings : Settings) (watched : feed_of
             (all-store w.key P (exchanges_of 0 (exchanges_with h t before)) x p
             (all-map (λ o. Q (updated w o)) P f (requested w.key (exchanges_of 0 (exchanges_with h t before)) x)
             (all-of_map Q (updated w) (requested w.key (exchanges_of 0 (exchanges_with h t before)) x)
-            (subst (AllByRecursion Q) (fits e ∙ requests-brought (exchanges_of 0 (exchanges_with h t before)) x)
+            (subst (AllByRecursion Q) (fits e ∙ requests-brought w (exchanges_of 0 (exchanges_with h t before)) x)
             (all-left Q x.requests (flat_map (λ x. x.requests) xs) q)))))
         go false e = subst (λ ys. AllByRecursion P (store_of w.key ys)) (sym (exchanges_of-other 0 (exchanges_with h t before) (record { at = t.at; exchange = x }) e)) p
 
   module _ (h : List (Step O)) (t : Turn) (made : Made O) (unshut : is_shut (h ++ step t made ∷ []) ≡ false) (going : gave_up w (exchanges (h ++ step t made ∷ [])) ≡ false) where
-    abbrev r : TurnRecord O
-    r = made.0
-
-    open-turn : is_closed w h t ≡ false
-    open-turn =
-        or-three (is_shut h) (asks_shutdown t.shutdown) (gave_up w (exchanges h)) (shut-before h (step t made ∷ []) unshut)
-        (asked (asks_shutdown t.shutdown) (shut-after h (step t made ∷ []) unshut))
-        (gave_up-before w (exchanges h) (dated t.at r.exchanges) (ap (gave_up w) (sym (exchanges-push h t made)) ∙ going))
-      where
-        asked : (b : Bool) → b || false ≡ false → b ≡ false
-        asked true e = e
-        asked false e = refl
-
-    -- the queue before the turn's takes, and the turn's requests
-    abbrev queue : List (QueueEvent Message)
-    queue = events_of w h ++ turn_events w h t made.1 r.finished r.exchanges
-
-    abbrev turn_requests : List Timed
-    turn_requests = requests_of_turn w (stored_in w h t made.1 r.exchanges).reloaded t r.finished r.exchanges
-
-    queue-is : (m : Message) → entry_by w.debounce queue m ≡ on_from w.debounce m (length (events_of w h)) (entry_by w.debounce (events_of w h) m) (requested_and_settled t.at turn_requests)
-    queue-is m =
-        ap (λ b. entry_by w.debounce (events_of w h ++ (if b then [] else requested_and_settled t.at turn_requests)) m) open-turn
-        ∙ entry-append same_message w.debounce (events_of w h) (requested_and_settled t.at turn_requests) m
-
-    -- what had an entry has one, and so has what was requested
-    still : (m : Message) → is_some (entry_in w h m) ≡ true → is_some (entry_by w.debounce queue m) ≡ true
-    still m e =
-        ap is_some (queue-is m)
-        ∙ kept-requests w.debounce m (length (events_of w h)) (entry_by w.debounce (events_of w h) m) t.at turn_requests e
-
-    asked-now : (m : Message) → list_any (λ q. same_message q.message m) turn_requests ≡ true → is_some (entry_by w.debounce queue m) ≡ true
-    asked-now m e =
-        ap is_some (queue-is m)
-        ∙ made-requests w.debounce m (length (events_of w h)) (entry_by w.debounce (events_of w h) m) t.at turn_requests e
-
-    abbrev Waits : Message → Type 0
-    Waits m = is_some (entry_by w.debounce queue m) ≡ true
-
-    each-waits : AllByRecursion Waits (flat_map (λ x. x.requests) r.exchanges)
-    each-waits =
-        all-map (λ m. list_any (λ q. same_message q.message m) (requests_of_exchanges t.at r.exchanges) ≡ true) Waits
-        (λ m e. asked-now m (any-last (λ q. same_message q.message m)
-        (flat_map (requests_of_finish t.at) r.finished ++ reload_requests w (stored_in w h t made.1 r.exchanges).reloaded t ++ named_requests t)
-        (requests_of_exchanges t.at r.exchanges) e))
-        (flat_map (λ x. x.requests) r.exchanges) (each-asked t.at (flat_map (λ x. x.requests) r.exchanges))
-
-    -- it was last handed over as it stands, or waits before the takes
-    abbrev IsDue : O → Type 0
-    IsDue o = (last_handed w h (w.key o) ≡ Some o) ⊎ Waits (about (w.key o))
+    abbrev own : TurnRecord O
+    own = made.0
 
     abbrev stored : List O
-    stored = store_of w.key (exchanges_of 0 (exchanges_with h t r.exchanges))
-
-    each-due : EachIsNext w h t [] r.exchanges → IsSettled w h → AllByRecursion IsDue stored
-    each-due n s =
-        walk h t IsDue Waits
-        (λ o k. inr (ap is_some (sym (entry-alike same_message (on_equiv (λ (m : Message). m.reference) same_reference_equiv) w.debounce queue (updated w o) (about (w.key o)) (same_reference_equiv.refl (w.key o)))) ∙ k))
-        [] r.exchanges n
-        (subst (λ ds. AllByRecursion IsDue (store_of w.key (exchanges_of 0 ds))) (sym (append-nil (exchanges h)))
-        (all-map (IsSettledAt w h) IsDue still-due (store_after w h) s)) each-waits
-      where
-        still-due : (o : O) → IsSettledAt w h o → IsDue o
-        still-due o (inl e) = inl e
-        still-due o (inr e) = inr (still (about (w.key o)) e)
+    stored = store_of w.key (exchanges_of 0 (exchanges_with h t own.exchanges))
 
     if-looks : (b : Bool) (ts : List (Taken O)) → AllByRecursion (IsLookUp w stored) ts → AllByRecursion (IsLookUp w stored) (if b then ts else [])
     if-looks true ts k = k
     if-looks false ts k = tt
 
     -- what is taken is looked up in the store as it is after the exchanges
-    each-looked-up : r ≡ record_with w h t made.1 r.finished r.exchanges → AllByRecursion (IsLookUp w stored) r.taken
+    each-looked-up : own ≡ record_with w h t made.1 own.finished own.exchanges → AllByRecursion (IsLookUp w stored) own.taken
     each-looked-up e =
         subst (AllByRecursion (IsLookUp w stored)) (sym (ap (λ (q : TurnRecord O). q.taken) e))
         (subst (λ feed. AllByRecursion (IsLookUp w stored)
-        (if (stored_by w feed h t made.1 r.exchanges).is_ready && not (is_over w h t r.exchanges)
-        then taken_of w.limit (stored_by w feed h t made.1 r.exchanges).found_of (running_in w h t) (waiting_in w h t made.1 r.finished r.exchanges)
+        (if (stored_by w feed h t made.1 own.exchanges).is_ready && not (is_over w h t own.exchanges)
+        then taken_of w.limit (stored_by w feed h t made.1 own.exchanges).found_of (running_in w h t) (waiting_in w h t made.1 own.finished own.exchanges)
         else []))
         (sym watched)
-        (if-looks ((stored_by w (Watched settings) h t made.1 r.exchanges).is_ready && not (is_over w h t r.exchanges))
-        (taken_of w.limit (found_in w.key stored) (running_in w h t) (waiting_in w h t made.1 r.finished r.exchanges))
-        (taken-looks w stored w.limit (running_in w h t) (waiting_in w h t made.1 r.finished r.exchanges))))
+        (if-looks ((stored_by w (Watched settings) h t made.1 own.exchanges).is_ready && not (is_over w h t own.exchanges))
+        (taken_of w.limit (found_in w.key stored) (running_in w h t) (waiting_in w h t made.1 own.finished own.exchanges))
+        (taken-looks w stored w.limit (running_in w h t) (waiting_in w h t made.1 own.finished own.exchanges))))
 
-    last-push : (o : O) → last_handed w (h ++ step t made ∷ []) (w.key o) ≡ last_or (last_handed w h (w.key o)) (filter_map (λ u. if_keyed w (w.key o) u.object) r.taken)
-    last-push o =
-        ap (λ us. last_or None (filter_map (λ u. if_keyed w (w.key o) u.object) us)) (flat_map-append (λ s. s.made.taken) h (step t made ∷ []) ∙ ap (λ us. flat_map (λ s. s.made.taken) h ++ us) (append-nil r.taken))
-        ∙ ap (last_or None) (filter_map-append (λ u. if_keyed w (w.key o) u.object) (flat_map (λ s. s.made.taken) h) r.taken)
-        ∙ last_or-append None (filter_map (λ u. if_keyed w (w.key o) u.object) (flat_map (λ s. s.made.taken) h)) (filter_map (λ u. if_keyed w (w.key o) u.object) r.taken)
-
-    entry-now : (m : Message) → entry_in w (h ++ step t made ∷ []) m ≡ on_from w.debounce m (length queue) (entry_by w.debounce queue m) (took r.taken)
-    entry-now m = ap (λ es. entry_by w.debounce es m) (events-push w h (step t made)) ∙ entry-append same_message w.debounce queue (took r.taken) m
-
-    settled-one : AllByRecursion (IsLookUp w stored) r.taken → AllByRecursion (IsFoundIn w.key stored) stored → (o : O) → IsDue o → IsFoundIn w.key stored o
-        → IsSettledAt w (h ++ step t made ∷ []) o
-    settled-one looks all o due found = go (list_any (λ u. same_message u.message (about (w.key o))) r.taken) refl due
-      where
-        go : (b : Bool) → list_any (λ u. same_message u.message (about (w.key o))) r.taken ≡ b → IsDue o → IsSettledAt w (h ++ step t made ∷ []) o
-        go true e due = inl (last-push o ∙ last-taken w stored all o found (last_handed w h (w.key o)) r.taken looks e)
-        go false e (inl k) =
-            inl (last-push o ∙ ap (λ z. last_or z (filter_map (λ u. if_keyed w (w.key o) u.object) r.taken)) k ∙ last-stays w stored all o found r.taken looks)
-        go false e (inr k) = inr (ap is_some (entry-now (about (w.key o)) ∙ kept-takes w.debounce (about (w.key o)) (length queue) (entry_by w.debounce queue (about (w.key o))) r.taken e) ∙ k)
+    each-due : EachIsNext w h t [] own.exchanges → IsSettled w h → AllByRecursion (IsDue w h t made unshut going) stored
+    each-due n s =
+        walk h t (IsDue w h t made unshut going) (Waits w h t made unshut going) (due-asked w h t made unshut going) [] own.exchanges n
+        (subst (λ ds. AllByRecursion (IsDue w h t made unshut going) (store_of w.key (exchanges_of 0 ds))) (sym (append-nil (exchanges h)))
+        (all-map (IsSettledAt w h) (IsDue w h t made unshut going) (due-still w h t made unshut going) (store_after w h) s)) (each-waits w h t made unshut going)
 
     -- one more turn
     pub settled-turn : (policies : ℕ → O → Option ℕ) → IsRecord w policies h t made → IsSettled w h → IsSettled w (h ++ step t made ∷ [])
     settled-turn policies k s =
+        let all = each-found w.key stored (distinct-store w.key (exchanges_of 0 (exchanges_with h t own.exchanges))) in
         subst (λ ds. AllByRecursion (IsSettledAt w (h ++ step t made ∷ [])) (store_of w.key (exchanges_of 0 ds))) (sym (exchanges-push h t made))
-        (all-both IsDue (IsFoundIn w.key stored) (IsSettledAt w (h ++ step t made ∷ []))
-        (settled-one (each-looked-up k.determined) (each-found w.key stored (distinct-store w.key (exchanges_of 0 (exchanges_with h t r.exchanges)))))
-        stored (each-due k.asked s) (each-found w.key stored (distinct-store w.key (exchanges_of 0 (exchanges_with h t r.exchanges)))))
+        (all-both (IsDue w h t made unshut going) (IsFoundIn w.key stored) (IsSettledAt w (h ++ step t made ∷ []))
+        (settled-due w h t made unshut going stored (each-looked-up k.determined) all) stored (each-due k.asked s) all)
 
   exchanges-append : (g h : List (Step O)) → exchanges (g ++ h) ≡ exchanges g ++ exchanges h
   exchanges-append g h = flat_map-append (λ s. dated s.turn.at s.made.exchanges) g h

@@ -44,7 +44,7 @@ module _ {O : Type 0} (key : O → Reference) where
       go true r = ap (λ c. c || list_any f (filter g ps)) (or-left (f p) (list_any f ps) h) ∙ r
       go false r = r
 
-  distinct-put : (ps : List O) (o : O) → AreDistinct ps → AreDistinct (put key ps o)
+  pub distinct-put : (ps : List O) (o : O) → AreDistinct ps → AreDistinct (put key ps o)
   distinct-put [] o d = (refl, tt)
   distinct-put (p ∷ ps) o d = go (same_reference (key p) (key o)) refl (distinct-put ps o d.1)
     where
@@ -52,7 +52,7 @@ module _ {O : Type 0} (key : O → Reference) where
       go true e r = (sym (any-alike (key p) (key o) ps e) ∙ d.0, d.1)
       go false e r = (any-put (λ q. same_reference (key q) (key p)) ps o d.0 (same_reference_equiv.symm (key o) (key p) ∙ e), r)
 
-  distinct-filter : (g : O → Bool) (ps : List O) → AreDistinct ps → AreDistinct (filter g ps)
+  pub distinct-filter : (g : O → Bool) (ps : List O) → AreDistinct ps → AreDistinct (filter g ps)
   distinct-filter g [] d = tt
   distinct-filter g (p ∷ ps) d = go (g p) (distinct-filter g ps d.1)
     where
@@ -64,7 +64,7 @@ module _ {O : Type 0} (key : O → Reference) where
   distinct-changed ps (Put o) d = distinct-put ps o d
   distinct-changed ps (Gone o) d = distinct-filter (λ p. not (same_reference (key p) (key o))) ps d
 
-  distinct-puts : (ps os : List O) → AreDistinct ps → AreDistinct (fold (put key) ps os)
+  pub distinct-puts : (ps os : List O) → AreDistinct ps → AreDistinct (fold (put key) ps os)
   distinct-puts ps [] d = d
   distinct-puts ps (o ∷ os) d = distinct-puts (put key ps o) os (distinct-put ps o d)
 
@@ -89,7 +89,7 @@ module _ {O : Type 0} (key : O → Reference) where
   )
 
   -- P of what was stored and of what is put is P of what is stored
-  all-put : (P : O → Type 0) (ps : List O) (o : O) → AllByRecursion P ps → P o → AllByRecursion P (put key ps o)
+  pub all-put : (P : O → Type 0) (ps : List O) (o : O) → AllByRecursion P ps → P o → AllByRecursion P (put key ps o)
   all-put P [] o h k = (k, tt)
   all-put P (p ∷ ps) o h k = go (same_reference (key p) (key o)) (all-put P ps o h.1 k)
     where
@@ -97,7 +97,7 @@ module _ {O : Type 0} (key : O → Reference) where
       go true r = (k, h.1)
       go false r = (h.0, r)
 
-  all-puts : (P : O → Type 0) (ps os : List O) → AllByRecursion P ps → AllByRecursion P os → AllByRecursion P (fold (put key) ps os)
+  pub all-puts : (P : O → Type 0) (ps os : List O) → AllByRecursion P ps → AllByRecursion P os → AllByRecursion P (fold (put key) ps os)
   all-puts P ps [] h k = h
   all-puts P ps (o ∷ os) h k = all-puts P (put key ps o) os (all-put P ps o h k.0) k.1
 

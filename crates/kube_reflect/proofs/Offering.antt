@@ -1,17 +1,16 @@
 -- Offering the references of an event, one after another.
-use Rattle.std.proofs.Common.{◌≡◌, ℕ, ◌+◌, ◌<◌, true, false, Option, Some, None, Ok, inl, if◌then◌else◌, List, [], ◌∷◌, ◌++◌, length, get_or, take, drop, map, refl, sym, ap, ◌∙◌, add-zero}
+use Rattle.std.proofs.Common.{◌≡◌, ℕ, Bool, ◌+◌, ◌<◌, true, false, Option, Some, None, Ok, Err, Result, OnErr, inl, if◌then◌else◌, List, [], ◌∷◌, ◌++◌, length, get_or, take, drop, map, refl, sym, ap, ◌∙◌, add-zero}
 use Rattle.std.specs.Prelude.{is_some}
 use Rattle.std.specs.List.{list_any}
 use Rattle.std.specs.Option.{option_map}
 use Rattle.std.proofs.lemmas.List.{take_more, get_or-drop}
-use Rattle.std.proofs.lemmas.List.Sums.{fold-append}
 use Rattle.kube_meta.specs.Reference.{Reference}
 use Rattle.kube_meta.specs.declared.poll.Next.TheVariants.{Item}
 use Rattle.kube_watch.specs.declared.event.Event.{Event}
 use Rattle.kube_watch.specs.Streams.{Answer}
 use Rattle.kube_reflect.specs.Subscribers.{Ring, also, lags_by, offered}
 use Rattle.kube_reflect.specs.Writers.{Writing, has_live, is_lagged, with_offer}
-use Rattle.kube_reflect.specs.Reflects.{Held, all_offered, offered_in, answer_with, held_with, IsOffered}
+use Rattle.kube_reflect.specs.Reflects.{Held, offered_in, answer_with, held_with, IsOffered}
 use Rattle.kube_reflect.proofs.Lagging.{read-map}
 
 module _ {O : Type 0} where
@@ -23,13 +22,26 @@ module _ {O : Type 0} where
   pub offered-one : (w : Writing O) (r : Reference) (rs : List Reference) → is_lagged w ≡ false → offered_in w (r ∷ rs) ≡ offered_in (with_offer w r) rs
   offered-one w r rs h = ap (λ b. if b then (w, r ∷ rs) else offered_in (with_offer w r) rs) h
 
-  pub offered-more : (w w' w0 : Writing O) (rs : List Reference) (i : ℕ) (r : Reference) → i < length rs → r ≡ get_or rs i r
-      → w' ≡ with_offer w r → w ≡ all_offered w0 (take i rs) → w' ≡ all_offered w0 (take (i + 1) rs)
-  offered-more w w' w0 rs i r h e k p =
-      k
-      ∙ (ap (λ q. with_offer q r) p
-      ∙ (sym (fold-append with_offer w0 (take i rs) (r ∷ []))
-      ∙ ap (all_offered w0) (ap (λ x. take i rs ++ x ∷ []) e ∙ sym (take_more rs i r h))))
+  -- one more reference after those that were all offered
+  offered-push : (w0 w : Writing O) (xs : List Reference) (r : Reference) → offered_in w0 xs ≡ (w, []) → offered_in w0 (xs ++ r ∷ []) ≡ offered_in w (r ∷ [])
+  offered-push w0 w [] r p = ap (λ q. offered_in q.0 (r ∷ [])) p
+  offered-push w0 w (x ∷ xs) r p = go (is_lagged w0) p (λ q. offered-push (with_offer w0 x) w xs r q)
+    where
+      go : (b : Bool) → (if b then (w0, x ∷ xs) else offered_in (with_offer w0 x) xs) ≡ (w, [])
+          → (offered_in (with_offer w0 x) xs ≡ (w, []) → offered_in (with_offer w0 x) (xs ++ r ∷ []) ≡ offered_in w (r ∷ []))
+          → (if b then (w0, x ∷ (xs ++ r ∷ [])) else offered_in (with_offer w0 x) (xs ++ r ∷ [])) ≡ offered_in w (r ∷ [])
+      go true q more = absurd (let e : x ∷ xs ≡ [] = ap (λ z. z.1) q in cc)
+      go false q more = more q
+
+  pub offered-more : (w w' w0 : Writing O) (rs : List Reference) (i : ℕ) (r : Reference) → i < length rs → r ≡ get_or rs i r → is_lagged w ≡ false
+      → w' ≡ with_offer w r → offered_in w0 (take i rs) ≡ (w, []) → offered_in w0 (take (i + 1) rs) ≡ (w', [])
+  offered-more w w' w0 rs i r h e low k p =
+      ap (offered_in w0) (take_more rs i r h ∙ ap (λ x. take i rs ++ x ∷ []) (sym e))
+      ∙ (offered-push w0 w (take i rs) r p ∙ (offered-one w r [] low ∙ ap (λ q. (q, [])) (sym k)))
+
+pub err-so : {A E P : Type 0} (r : Result A E) → P → OnErr r P
+err-so (Ok a) p = tt
+err-so (Err e) p = p
 
 -- the first of what is left is read at its place
 pub read-left : {A : Type 0} (f : A → Reference) (xs left : List A) (i : ℕ) (x : A) → left ≡ drop i xs → x ≡ get_or left 0 x → f x ≡ get_or (map f xs) i (f x)

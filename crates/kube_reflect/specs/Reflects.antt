@@ -1,6 +1,5 @@
 -- A reflector: what it makes of the answers of its stream. (Crate: `reflector::reflector`.)
 use Rattle.std.specs.Prelude.{◌≡◌, ◌⊎◌, ℕ, true, false, List, [], ◌∷◌, map, take, Option, Some, None, Ok, Err, if◌then◌else◌}
-use Rattle.std.specs.List.{fold}
 use Rattle.kube_meta.specs.declared.metadata.ObjectMeta.{ObjectMeta}
 use Rattle.kube_meta.specs.declared.poll.Next.TheVariants.{Item, NotReady, Spent, End}
 use Rattle.kube_meta.specs.Reference.{Reference}
@@ -36,9 +35,6 @@ offers_of key store (InitApply o) = []
 offers_of key store InitDone = map (λ p. p.0) store
 
 module _ {O : Type 0} where
-  abbrev pub all_offered : Writing O → List Reference → Writing O
-  all_offered w rs = fold with_offer w rs
-
   -- in order, as many as no live subscriber lags behind: the writer then, and the references that are left
   abbrev pub offered_in : Writing O → List Reference → Writing O × List Reference
   offered_in w [] = (w, [])
@@ -56,11 +52,11 @@ module _ {A : Type 0} where
   held_with event (r ∷ rs) = Some (record { event = event; references = r ∷ rs })
 
 module _ {O A : Type 0} where
-  -- a writer offers the references of an event: all, or as far as there is room; or memory can't be had
+  -- a writer offers the references of an event: all, or as far as there is room; or memory can't be had, and then so many of the first were offered so
   abbrev pub IsOffered : Writing O → Event A → List Reference → Answer (Event A) → Writing O → Option (Held A) → Type 0
   IsOffered w event rs answer w' held' =
       ((answer ≡ answer_with event (offered_in w rs).1) × (w' ≡ (offered_in w rs).0) × (held' ≡ held_with event (offered_in w rs).1))
-      ⊎ ((answer ≡ Err NoMemory) × ((count : ℕ) × (w' ≡ all_offered w (take count rs))))
+      ⊎ ((answer ≡ Err NoMemory) × ((count : ℕ) × (w' ≡ (offered_in w (take count rs)).0)))
 
 module _ {O A : Type 0} (value : A → O) (meta : O → ObjectMeta) where
   -- the references that an event offers, once it was applied

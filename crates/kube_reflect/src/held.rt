@@ -6,7 +6,7 @@ ghost use Rattle.std.specs.Arc.{arc_value};
 ghost use Rattle.kube_meta.specs.Keys.{reference_of};
 ghost use Rattle.kube_watch.specs.Events.{event_map};
 ghost use Rattle.kube_reflect.specs.Cached.{has_name};
-ghost use Rattle.kube_reflect.specs.Reflects.{all_offered, offered_in, event_offers, IsOffered, IsTaken};
+ghost use Rattle.kube_reflect.specs.Reflects.{offered_in, event_offers, IsOffered, IsTaken};
 ghost use Rattle.kube_reflect.specs.HeldEvents.{held_of};
 ghost use Rattle.kube_reflect.specs.Writers.{AllStay};
 
@@ -54,7 +54,7 @@ fn offer_all<K: Resource>(
     ensures writer { OnOk result (writer.new ≡ (offered_in writer.old (map (reference_of K.type_of) references.old.items)).0) }
     ensures left { OnOk result (map (reference_of K.type_of) references.new.items ≡ (offered_in writer.old (map (reference_of K.type_of) references.old.items)).1) }
     ensures live { AllStay writer.old writer.new }
-    ensures some { OnErr result ((count : ℕ) × (writer.new ≡ all_offered writer.old (take count (map (reference_of K.type_of) references.old.items)))) }
+    ensures some { OnErr result ((count : ℕ) × (writer.new ≡ (offered_in writer.old (take count (map (reference_of K.type_of) references.old.items))).0)) }
 {
     for _offered in 0..references.len() {
         if writer.is_lagged() {

@@ -10,6 +10,7 @@ pub mod Polled
 pub mod First
 pub mod Plays
 pub mod Ended
+pub mod Broken
 pub mod Words
 pub mod Counts
 pub mod Generating

@@ -57,6 +57,7 @@ pub fn write_totals<W: Sink>(
     requires few { objects ≤ 20000 }
     requires turns { 0 < turns }
     ensures generates { Generates result seed objects turns (W.written sink.old) (W.written sink.new) }
+    ensures unwritten { result ≡ Status.NoMemory → sink.new ≡ sink.old }
     ensures fault { result ≡ Status.WriteFault → Rose (W.faults sink.old) (W.faults sink.new) }
 {
     let Ok(totals) = run_generated(alloc, seed, objects, turns) else {

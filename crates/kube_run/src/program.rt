@@ -47,8 +47,9 @@ pub fn run_program<S: Source, W: Sink>(
     ensures read_fault { result ≡ Status.ReadFault → Rose (S.faults source.old) (S.faults source.new) }
     ensures write_fault { result ≡ Status.WriteFault → Rose (W.faults sink.old) (W.faults sink.new) }
 
-    // For other words than `run` nothing is read.
+    // For other words than `run` nothing is read, and where memory is wanting nothing is written.
     ensures unread { (IsCommand (map string_bytes words.now) Command.Run → ⊥) → source.new ≡ source.old }
+    ensures unwritten { (IsCommand (map string_bytes words.now) Command.Run → ⊥) → result ≡ Status.NoMemory → sink.new ≡ sink.old }
     ensures taken { TakesAtMost (longest + 1) (S.left source.old) (S.left source.new) }
 
     // A script that is run was read to its end.
@@ -108,6 +109,7 @@ fn load(alloc: Global, bytes: Vec<u8>) -> Result<Script, LoadError>
 fn refuse<W: Sink>(alloc: Global, refusal: &Refusal, status: Status, sink: &mut W) -> Status
     requires { status ≢ Status.WriteFault }
     ensures tells { Tells result status (refusal_text refusal.now) (W.written sink.old) (W.written sink.new) }
+    ensures unwritten { status ≢ Status.NoMemory → result ≡ Status.NoMemory → sink.new ≡ sink.old }
     ensures fault { result ≡ Status.WriteFault → Rose (W.faults sink.old) (W.faults sink.new) }
 {
     match write_refusal(alloc, refusal, sink) {

@@ -1,13 +1,13 @@
 //! The totals of a run's records, and the line that tells them.
 
-ghost use Rattle.std.specs.Prelude.{◌≡◌, ◌+◌, ◌++◌, ◌∷◌, [], List, IfOk, OnOk, length, map};
+ghost use Rattle.std.specs.Prelude.{◌≡◌, ◌+◌, ◌++◌, ◌∷◌, [], List, IfOk, length, map};
 ghost use Rattle.std.specs.List.{filter, filter_map};
 ghost use Rattle.kube_meta.specs.Reading.{ObjectData};
 ghost use Rattle.kube_model.specs.History.{TurnRecord};
 ghost use Rattle.kube_object.specs.Named.{named_type};
 ghost use Rattle.kube_turn.specs.Records.{record_of};
 ghost use Rattle.kube_turn.specs.Views.{exchange_of, taken_of};
-ghost use Rattle.kube_text.specs.Shown.{ShowsMembers, tokens_of};
+ghost use Rattle.kube_text.specs.Shown.{ShowsMembers, ShowsFront, tokens_of};
 ghost use Rattle.kube_run.specs.GeneratedRun.{is_missing, references_in, requested, totals_of};
 ghost use Rattle.kube_run.specs.Summary.{totals_data, totals_members, totals_text};
 ghost use Rattle.kube_run.specs.declared.totals.Totals as totals;
@@ -137,8 +137,9 @@ impl Show for Totals {
 
 /// The members of the line, by the bytes of their names.
 fn show_members(alloc: Global, out: &mut Writer, totals: &Totals) -> Result<(), AllocError>
-    ensures before { OnOk result (out.new.before ≡ out.old.before) }
+    ensures before { out.new.before ≡ out.old.before }
     ensures members { ShowsMembers result out.old out.new (totals_members totals.now) }
+    ensures front { ShowsFront result out.old out.new (totals_members totals.now) }
 {
     member(alloc, out, "asks", &totals.asks)?;
     member(alloc, out, "finished", &totals.finished)?;

@@ -49,7 +49,7 @@ pub fn write_refused<W: Sink>(
     Ok(())
 }
 
-/// Writes the line of a refusal. Where that fails the first of its bytes were written, or none.
+/// Writes the line of a refusal. Where a write fails the first of its bytes were written, or none; where memory is wanting, none.
 pub fn write_refusal<W: Sink>(
     alloc: Global,
     refusal: &Refusal,
@@ -57,6 +57,7 @@ pub fn write_refusal<W: Sink>(
 ) -> Result<(), Unwritten>
     ensures all { OnOk result (Appends (W.written sink.old) (W.written sink.new) (refusal_text refusal.now)) }
     ensures part { OnErr result (AppendsPart (W.written sink.old) (W.written sink.new) (refusal_text refusal.now)) }
+    ensures unwritten { IsErrOf result Unwritten.NoMemory → sink.new ≡ sink.old }
     ensures fault { IsErrOf result Unwritten.Fault → Rose (W.faults sink.old) (W.faults sink.new) }
     ensures later { W.faults sink.old ≤ W.faults sink.new }
 {

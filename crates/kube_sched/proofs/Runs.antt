@@ -1,5 +1,5 @@
 -- What runs, and what is started.
-use Rattle.std.proofs.Common.{◌≡◌, ◌↔◌, ℕ, ◌+◌, ◌-◌, ◌≤◌, ◌==◌, nat_lt, Bool, true, false, not, ◌&&◌, ◌||◌, cond, if◌then◌else◌, List, [], ◌∷◌, ◌++◌, length, Option, Some, None, is_some, refl, sym, ap, subst, ◌∙◌, ◌⊎◌, inl, inr, append_assoc, append-nil, arith, Result, Ok, Err}
+use Rattle.std.proofs.Common.{◌≡◌, ◌↔◌, ℕ, ◌+◌, ◌-◌, ◌≤◌, ◌==◌, nat_lt, Bool, true, false, not, ◌&&◌, ◌||◌, cond, if◌then◌else◌, List, [], ◌∷◌, ◌++◌, length, Option, Some, None, is_some, refl, sym, ap, subst, ◌∙◌, ◌⊎◌, inl, inr, append_assoc, append-nil, arith, OnErr, Result, Ok, Err}
 use Rattle.std.specs.List.{IsDistinct}
 use Rattle.std.specs.Map.{lookup, remove_entry, keys_of}
 use Rattle.std.specs.Cmp.{IsEquivalence}
@@ -12,8 +12,8 @@ use Rattle.kube_meta.specs.declared.poll.Next.{Next}
 use Rattle.kube_meta.specs.declared.poll.Next.TheVariants.{Item, NotReady, Spent, End}
 use Rattle.kube_sched.specs.declared.asks.Ending.{Ending}
 use Rattle.kube_sched.specs.declared.asks.Ending.TheVariants.{Filled, Waits, Ends}
-use Rattle.kube_sched.specs.Polls.{Stream, Answer, requests_in, is_end, CountedPoll}
-use Rattle.kube_sched.specs.Runs.{Runs, has_room, IsWithin, runs, MayStart, ending_by, Starts, Started, StartsAll, ReadinessPolled, RunnerPolled, Course, Over, Gave, Failed, Went, Follows, answer_after, answer_of, IsAtEnd}
+use Rattle.kube_sched.specs.Polls.{Stream, Answer, requests_in, is_end, CountedPoll, Lost}
+use Rattle.kube_sched.specs.Runs.{Runs, has_room, IsWithin, runs, MayStart, ending_by, Starts, SchedulerLost, StartsUntilLost, Started, StartLost, StartsAll, StartsAllUntilLost, ReadinessPolled, RunnerPolled, Course, Over, Gave, Failed, Went, Follows, answer_after, answer_of, IsAtEnd}
 use Rattle.kube_sched.specs.declared.runner.Error.{Error}
 use Rattle.kube_sched.specs.declared.runner.Error.TheVariants.{Readiness}
 use Rattle.kube_sched.specs.Futures.{AllPending, FirstReady}
@@ -84,6 +84,25 @@ started-by made_by m f r1 r r' e call run rest =
     subst (λ x. Started made_by m x r') e
     (record { future = f; made = call; rest = rest ∙ ap (λ xs. record r1 { makes = r'.makes; running = xs }) run })
 
+pub start-lost-by : {M R F C G : Type 0} (made_by : C → M → F → C → Type 0) (m : M) (f : F) (r1 r r' : Runs M R F C G) → r1 ≡ r → made_by r1.makes m f r'.makes
+    → r'.running ≡ r1.running → r' ≡ record r1 { makes = r'.makes; running = r'.running } → StartLost made_by m r r'
+start-lost-by made_by m f r1 r r' e call run rest =
+    subst (λ x. StartLost made_by m x r') e
+    (record { future = f; made = call; rest = rest ∙ ap (λ xs. record r1 { makes = r'.makes; running = xs }) run })
+
+-- memory was wanting in the scheduler now or before
+module _ {M R : Type 0} (same : M → M → Bool) (told : R → Option (List (Answer M))) (now : Moment) (fuel : ℕ) where
+  lost-by : (s s' : Stream M R) (spent : Bool) → s.is_spent ≡ spent → s'.is_spent ≡ true → (s.is_spent ≡ false → Lost same told now fuel s s') → (s.is_spent ≡ true → s' ≡ s)
+      → SchedulerLost same told now fuel s s'
+  lost-by s s' false e spent lost unchanged = inl (e, lost e, spent)
+  lost-by s s' true e spent lost unchanged = inr (e, unchanged e)
+
+  pub scheduler-lost : {A N : Type 0} (s1 s s' : Stream M R) (r : Result A N) → s1 ≡ s → OnErr r (s'.is_spent ≡ true) → (s1.is_spent ≡ false → OnErr r (Lost same told now fuel s1 s')) → (s1.is_spent ≡ true → s' ≡ s1)
+      → OnErr r (SchedulerLost same told now fuel s s')
+  scheduler-lost s1 s s' (Ok a) e spent lost unchanged = tt
+  scheduler-lost s1 s s' (Err n) e spent lost unchanged =
+      subst (λ x. SchedulerLost same told now fuel x s') e (lost-by s1 s' s1.is_spent refl spent lost unchanged)
+
 module _ {M R F C : Type 0} (same : M → M → Bool) (told : R → Option (List (Answer M))) (made : C → M → F → C → Type 0) (now : Moment) (is_ready : Bool) (limit : ℕ) where
   -- none is started
   pub starts-none : (fuel left : ℕ) (s s' : Stream M R) (c : C) (running : List (M × F)) (answer : Next M) (ending : Ending)
@@ -110,6 +129,24 @@ module _ {M R F C : Type 0} (same : M → M → Bool) (told : R → Option (List
       let q = subst (λ b. CountedPoll same (MayStart same b running) told now fuel s between (Item m) left) may p in
       (may, between, c1, q.polled, call, inr (room, refl, refl, refl, refl))
 
+  -- one is, and then these until memory is wanting
+  pub lost-more : (fuel left : ℕ) (s between : Stream M R) (c c1 : C) (running : List (M × F)) (m : M) (f : F) (es : List (M × F)) (s' : Stream M R) (c' : C)
+      → CountedPoll same (MayStart same (is_ready && has_room limit running) running) told now fuel s between (Item m) left → is_ready && has_room limit running ≡ true
+      → made c m f c1 → has_room limit (running ++ (m, f) ∷ []) ≡ true → StartsUntilLost same told made now is_ready limit left between c1 (running ++ (m, f) ∷ []) es s' c'
+      → StartsUntilLost same told made now is_ready limit fuel s c running ((m, f) ∷ es) s' c'
+  lost-more fuel left s between c c1 running m f es s' c' p may call room h =
+      let q = subst (λ b. CountedPoll same (MayStart same b running) told now fuel s between (Item m) left) may p in
+      let n : left ≡ fuel - length (requests_in q.polled.answers) = (let k = q.counted in omega arith) in
+      (may, between, c1, q.polled, call, room, subst (λ k. StartsUntilLost same told made now is_ready limit k between c1 (running ++ (m, f) ∷ []) es s' c') n h)
+
+  -- the next isn't, since there is no place for it
+  pub lost-last : (fuel left : ℕ) (s between : Stream M R) (c c1 : C) (running : List (M × F)) (m : M) (f : F)
+      → CountedPoll same (MayStart same (is_ready && has_room limit running) running) told now fuel s between (Item m) left → is_ready && has_room limit running ≡ true
+      → made c m f c1 → StartsUntilLost same told made now is_ready limit fuel s c running [] between c1
+  lost-last fuel left s between c c1 running m f p may call =
+      let q = subst (λ b. CountedPoll same (MayStart same b running) told now fuel s between (Item m) left) may p in
+      inr (may, (m, f), q.polled, call)
+
 -- These were started so far: what is started from here on is started after them.
 module _ {M R F C G : Type 0} (same : M → M → Bool) (told : R → Option (List (Answer M))) (made : C → M → F → C → Type 0) (now : Moment) where
   pub record Starting (fuel : ℕ) (r : Runs M R F C G) (left : ℕ) (r' : Runs M R F C G) : Type 0 where
@@ -117,12 +154,16 @@ module _ {M R F C G : Type 0} (same : M → M → Bool) (told : R → Option (Li
     pub goes_on : (es : List (M × F)) (s' : Stream M R) (c' : C) (ending : Ending)
         → Starts same told made now (not (is_some r.readiness)) r.limit left r'.scheduler r'.makes r'.running es s' c' ending
         → Starts same told made now (not (is_some r.readiness)) r.limit fuel r.scheduler r.makes r.running (started ++ es) s' c' ending
+    pub is_lost : (es : List (M × F)) (s' : Stream M R) (c' : C)
+        → StartsUntilLost same told made now (not (is_some r.readiness)) r.limit left r'.scheduler r'.makes r'.running es s' c'
+        → StartsUntilLost same told made now (not (is_some r.readiness)) r.limit fuel r.scheduler r.makes r.running (started ++ es) s' c'
     pub rest : r' ≡ record r { scheduler = r'.scheduler; makes = r'.makes; running = r.running ++ started }
 
   pub starting-none : (fuel : ℕ) (r : Runs M R F C G) → Starting fuel r fuel r
   starting-none fuel r = record {
     started = [];
     goes_on = λ es s' c' ending h. h;
+    is_lost = λ es s' c' h. h;
     rest = ap (λ xs. record r { running = xs }) (sym (append-nil r.running));
   }
 
@@ -131,6 +172,20 @@ module _ {M R F C G : Type 0} (same : M → M → Bool) (told : R → Option (Li
     pub counted : CountedPoll same (MayStart same (not (is_some r'.readiness) && has_room r'.limit r'.running) r'.running) told now left r'.scheduler r2.scheduler answer more
     pub passes : (m : M) → answer ≡ Item m → MayStart same (not (is_some r'.readiness) && has_room r'.limit r'.running) r'.running m true
     pub rest : r2 ≡ record r' { scheduler = r2.scheduler }
+
+  -- where it gives a message, by what the call began with
+  round-counted : (fuel left more : ℕ) (r r' r2 : Runs M R F C G) (answer : Next M) (m : M) → Starting fuel r left r' → Round left r' r2 answer more → answer ≡ Item m
+      → CountedPoll same (MayStart same (not (is_some r.readiness) && has_room r.limit r'.running) r'.running) told now left r'.scheduler r2.scheduler (Item m) more
+  round-counted fuel left more r r' r2 answer m g d e =
+      subst (λ a. CountedPoll same (MayStart same (not (is_some r.readiness) && has_room r.limit r'.running) r'.running) told now left r'.scheduler r2.scheduler a more) e
+      (subst (λ l. CountedPoll same (MayStart same (not (is_some r.readiness) && has_room l r'.running) r'.running) told now left r'.scheduler r2.scheduler answer more) (ap (λ (x : Runs M R F C G). x.limit) g.rest)
+      (subst (λ o. CountedPoll same (MayStart same (not (is_some o) && has_room r'.limit r'.running) r'.running) told now left r'.scheduler r2.scheduler answer more) (ap (λ (x : Runs M R F C G). x.readiness) g.rest) d.counted))
+
+  round-may : (fuel left more : ℕ) (r r' r2 : Runs M R F C G) (answer : Next M) (m : M) → Starting fuel r left r' → Round left r' r2 answer more → answer ≡ Item m
+      → not (is_some r.readiness) && has_room r.limit r'.running ≡ true
+  round-may fuel left more r r' r2 answer m g d e =
+      subst (λ l. not (is_some r.readiness) && has_room l r'.running ≡ true) (ap (λ (x : Runs M R F C G). x.limit) g.rest)
+      (subst (λ o. not (is_some o) && has_room r'.limit r'.running ≡ true) (ap (λ (x : Runs M R F C G). x.readiness) g.rest) (may-room _ _ (d.passes m e)))
 
   -- where it gives no message
   pub starting-ends : (fuel left more : ℕ) (r r' r2 : Runs M R F C G) (answer : Next M) (ending : Ending) → Starting fuel r left r' → Round left r' r2 answer more → ending_by answer ≡ Some ending
@@ -163,12 +218,15 @@ module _ {M R F C G : Type 0} (same : M → M → Bool) (told : R → Option (Li
         (starts-more same told made now (not (is_some r.readiness)) r.limit left more r'.scheduler r2.scheduler r'.makes r3.makes r'.running m t.future es s' c' ending
         counted may call room1 (subst (λ xs. Starts same told made now (not (is_some r.readiness)) r.limit more r2.scheduler r3.makes xs es s' c' ending) runs3
         (subst (λ s. Starts same told made now (not (is_some r.readiness)) r.limit more s r3.makes r3.running es s' c' ending) sched h))));
+    is_lost = λ es s' c' h.
+        subst (λ xs. StartsUntilLost same told made now (not (is_some r.readiness)) r.limit fuel r.scheduler r.makes r.running xs s' c') (sym (append_assoc g.started ((m, t.future) ∷ []) es))
+        (g.is_lost ((m, t.future) ∷ es) s' c'
+        (lost-more same told made now (not (is_some r.readiness)) r.limit left more r'.scheduler r2.scheduler r'.makes r3.makes r'.running m t.future es s' c'
+        counted may call room1 (subst (λ xs. StartsUntilLost same told made now (not (is_some r.readiness)) r.limit more r2.scheduler r3.makes xs es s' c') runs3
+        (subst (λ s. StartsUntilLost same told made now (not (is_some r.readiness)) r.limit more s r3.makes r3.running es s' c') sched h))));
     rest = after;
   }
     where
-      ready : r'.readiness ≡ r.readiness
-      ready = ap (λ (x : Runs M R F C G). x.readiness) g.rest
-
       limit : r'.limit ≡ r.limit
       limit = ap (λ (x : Runs M R F C G). x.limit) g.rest
 
@@ -182,15 +240,10 @@ module _ {M R F C G : Type 0} (same : M → M → Bool) (told : R → Option (Li
       runs3 = ap (λ (x : Runs M R F C G). x.running) t.rest ∙ ap (λ (x : Runs M R F C G). x.running ++ (m, t.future) ∷ []) d.rest
 
       counted : CountedPoll same (MayStart same (not (is_some r.readiness) && has_room r.limit r'.running) r'.running) told now left r'.scheduler r2.scheduler (Item m) more
-      counted =
-          subst (λ a. CountedPoll same (MayStart same (not (is_some r.readiness) && has_room r.limit r'.running) r'.running) told now left r'.scheduler r2.scheduler a more) e
-          (subst (λ l. CountedPoll same (MayStart same (not (is_some r.readiness) && has_room l r'.running) r'.running) told now left r'.scheduler r2.scheduler answer more) limit
-          (subst (λ o. CountedPoll same (MayStart same (not (is_some o) && has_room r'.limit r'.running) r'.running) told now left r'.scheduler r2.scheduler answer more) ready d.counted))
+      counted = round-counted fuel left more r r' r2 answer m g d e
 
       may : not (is_some r.readiness) && has_room r.limit r'.running ≡ true
-      may =
-          subst (λ l. not (is_some r.readiness) && has_room l r'.running ≡ true) limit
-          (subst (λ o. not (is_some o) && has_room r'.limit r'.running ≡ true) ready (may-room _ _ (d.passes m e)))
+      may = round-may fuel left more r r' r2 answer m g d e
 
       call : made r'.makes m t.future r3.makes
       call = subst (λ c. made c m t.future r3.makes) (ap (λ (x : Runs M R F C G). x.makes) d.rest) t.made
@@ -218,9 +271,6 @@ module _ {M R F C G : Type 0} (same : M → M → Bool) (told : R → Option (Li
     rest = after;
   }
     where
-      ready : r'.readiness ≡ r.readiness
-      ready = ap (λ (x : Runs M R F C G). x.readiness) g.rest
-
       limit : r'.limit ≡ r.limit
       limit = ap (λ (x : Runs M R F C G). x.limit) g.rest
 
@@ -234,15 +284,10 @@ module _ {M R F C G : Type 0} (same : M → M → Bool) (told : R → Option (Li
       runs3 = ap (λ (x : Runs M R F C G). x.running) t.rest ∙ ap (λ (x : Runs M R F C G). x.running ++ (m, t.future) ∷ []) d.rest
 
       counted : CountedPoll same (MayStart same (not (is_some r.readiness) && has_room r.limit r'.running) r'.running) told now left r'.scheduler r2.scheduler (Item m) more
-      counted =
-          subst (λ a. CountedPoll same (MayStart same (not (is_some r.readiness) && has_room r.limit r'.running) r'.running) told now left r'.scheduler r2.scheduler a more) e
-          (subst (λ l. CountedPoll same (MayStart same (not (is_some r.readiness) && has_room l r'.running) r'.running) told now left r'.scheduler r2.scheduler answer more) limit
-          (subst (λ o. CountedPoll same (MayStart same (not (is_some o) && has_room r'.limit r'.running) r'.running) told now left r'.scheduler r2.scheduler answer more) ready d.counted))
+      counted = round-counted fuel left more r r' r2 answer m g d e
 
       may : not (is_some r.readiness) && has_room r.limit r'.running ≡ true
-      may =
-          subst (λ l. not (is_some r.readiness) && has_room l r'.running ≡ true) limit
-          (subst (λ o. not (is_some o) && has_room r'.limit r'.running ≡ true) ready (may-room _ _ (d.passes m e)))
+      may = round-may fuel left more r r' r2 answer m g d e
 
       call : made r'.makes m t.future r3.makes
       call = subst (λ c. made c m t.future r3.makes) (ap (λ (x : Runs M R F C G). x.makes) d.rest) t.made
@@ -257,6 +302,42 @@ module _ {M R F C G : Type 0} (same : M → M → Bool) (told : R → Option (Li
           ∙ ap (λ (x : Runs M R F C G). record x { scheduler = r2.scheduler; makes = r3.makes; running = x.running ++ (m, t.future) ∷ [] }) g.rest
           ∙ ap (λ s. record r { scheduler = s; makes = r3.makes; running = (r.running ++ g.started) ++ (m, t.future) ∷ [] }) (sym sched)
           ∙ ap (λ xs. record r { scheduler = r3.scheduler; makes = r3.makes; running = xs }) (append_assoc r.running g.started ((m, t.future) ∷ []))
+
+  -- where memory is wanting in the scheduler
+  pub starting-lost : (fuel left : ℕ) (r r' r2 : Runs M R F C G) → Starting fuel r left r' → SchedulerLost same told now left r'.scheduler r2.scheduler → r2 ≡ record r' { scheduler = r2.scheduler }
+      → StartsAllUntilLost same told made now fuel r r2
+  starting-lost fuel left r r' r2 g lost is =
+      let makes : r2.makes ≡ r'.makes = ap (λ (x : Runs M R F C G). x.makes) is in
+      record {
+        started = g.started ++ [];
+        starts = g.is_lost [] r2.scheduler r2.makes (inl (makes, lost));
+        rest =
+            is
+            ∙ ap (λ (x : Runs M R F C G). record x { scheduler = r2.scheduler }) g.rest
+            ∙ ap (λ c. record r { scheduler = r2.scheduler; makes = c; running = r.running ++ g.started }) (sym makes)
+            ∙ ap (λ es. record r { scheduler = r2.scheduler; makes = r2.makes; running = r.running ++ es }) (sym (append-nil g.started));
+      }
+
+  -- where there is no place for a message
+  pub starting-gone : (fuel left more : ℕ) (r r' r2 r3 : Runs M R F C G) (answer : Next M) (m : M) → Starting fuel r left r' → Round left r' r2 answer more → answer ≡ Item m
+      → StartLost made m r2 r3 → StartsAllUntilLost same told made now fuel r r3
+  starting-gone fuel left more r r' r2 r3 answer m g d e t =
+      let sched : r3.scheduler ≡ r2.scheduler = ap (λ (x : Runs M R F C G). x.scheduler) t.rest in
+      let call = subst (λ c. made c m t.future r3.makes) (ap (λ (x : Runs M R F C G). x.makes) d.rest) t.made in
+      record {
+        started = g.started ++ [];
+        starts =
+            subst (λ s. StartsUntilLost same told made now (not (is_some r.readiness)) r.limit fuel r.scheduler r.makes r.running (g.started ++ []) s r3.makes) (sym sched)
+            (g.is_lost [] r2.scheduler r3.makes
+            (lost-last same told made now (not (is_some r.readiness)) r.limit left more r'.scheduler r2.scheduler r'.makes r3.makes r'.running m t.future
+            (round-counted fuel left more r r' r2 answer m g d e) (round-may fuel left more r r' r2 answer m g d e) call));
+        rest =
+            t.rest
+            ∙ ap (λ (x : Runs M R F C G). record x { makes = r3.makes }) d.rest
+            ∙ ap (λ (x : Runs M R F C G). record x { scheduler = r2.scheduler; makes = r3.makes }) g.rest
+            ∙ ap (λ s. record r { scheduler = s; makes = r3.makes; running = r.running ++ g.started }) (sym sched)
+            ∙ ap (λ es. record r { scheduler = r3.scheduler; makes = r3.makes; running = r.running ++ es }) (sym (append-nil g.started));
+      }
 
 -- What runs after a poll is within the limit.
 module _ {M F X : Type 0} (told : F → Option (List (Poll X))) (gives : F → X → Type 0) (limit : ℕ) (old new : List (M × F)) where

@@ -73,9 +73,9 @@ pub record AskedInVain {M R : Type 0} (same : M → M → Bool) (told : R → Op
   pub few : length came ≤ fuel
   pub stands : (events : List (QueueEvent M)) → Stands same s events → Stands same s' (with_requests events held now)
 
--- so of a schedule with its requests
+-- so of a schedule with its requests, which had not ended; ended requests are not asked
 abbrev pub Lost : {M R : Type 0} → (M → M → Bool) → (R → Option (List (Answer M))) → Moment → ℕ → Stream M R → Stream M R → Type 0
-Lost same told now fuel s s' = AskedInVain same told now fuel s.schedule s.requests s'.schedule s'.requests
+Lost same told now fuel s s' = (s.is_over ≡ false) × (s'.is_over ≡ false) × AskedInVain same told now fuel s.schedule s.requests s'.schedule s'.requests
 
 -- no requests are asked for once they have ended
 abbrev pub ending_at : {M : Type 0} → Bool → ℕ → List (Answer M) → Option Ending

@@ -11,7 +11,7 @@ use Rattle.kube_sched.specs.declared.asks.Ending.{Ending}
 use Rattle.kube_sched.specs.declared.asks.Ending.TheVariants.{Filled, Waits, Ends}
 use Rattle.kube_sched.specs.declared.runner.Error.{Error}
 use Rattle.kube_sched.specs.declared.runner.Error.TheVariants.{Readiness}
-use Rattle.kube_sched.specs.Polls.{Stream, Answer, requests_in, Polled}
+use Rattle.kube_sched.specs.Polls.{Stream, Answer, requests_in, Polled, Lost}
 use Rattle.kube_sched.specs.Futures.{TellsPending, TellsReady, AllPending, FirstReady}
 
 -- a runner: its messages, what makes a future of one, the futures that run, in the order in which they were started,
@@ -59,6 +59,12 @@ ReadinessPolled told gives None (Some g') failed = ⊥
 ReadinessPolled told gives None None (Some e) = ⊥
 ReadinessPolled told gives (Some g) (Some g') (Some e) = ⊥
 
+-- memory was wanting in the scheduler: in this poll, and it is spent from then on; or in an earlier one, and it is as before
+abbrev pub SchedulerLost : {M R : Type 0} → (M → M → Bool) → (R → Option (List (Answer M))) → Moment → ℕ → Stream M R → Stream M R → Type 0
+SchedulerLost same told now fuel s s' =
+    ((s.is_spent ≡ false) × Lost same told now fuel s s' × (s'.is_spent ≡ true))
+    ⊎ ((s.is_spent ≡ true) × (s' ≡ s))
+
 module _ {M R F C : Type 0} (same : M → M → Bool) (told : R → Option (List (Answer M))) (made : C → M → F → C → Type 0) (now : Moment) (is_ready : Bool) (limit : ℕ) where
   -- the messages that a call starts, with their futures: each is the first of a poll of the scheduler, which takes
   -- requests until none is ready and lets wait what is due, that may be started. So on until none is left, no more may
@@ -74,17 +80,45 @@ module _ {M R F C : Type 0} (same : M → M → Bool) (told : R → Option (List
       × (((has_room limit (running ++ e ∷ []) ≡ true) × Starts (fuel - length (requests_in p.answers)) between left (running ++ e ∷ []) es s' c' ending)
       ⊎ ((has_room limit (running ++ e ∷ []) ≡ false) × (es ≡ []) × (s' ≡ between) × (c' ≡ left) × (ending ≡ Waits)))
 
+  -- the messages that a call starts until memory is wanting, with their futures, each as above, and more may run after
+  -- it. Then the scheduler had no memory; or it gave a message, whose future was made and had no place: both are gone
+  abbrev pub StartsUntilLost : ℕ → Stream M R → C → List (M × F) → List (M × F) → Stream M R → C → Type 0
+  StartsUntilLost fuel s c running [] s' c' =
+      ((c' ≡ c) × SchedulerLost same told now fuel s s')
+      ⊎ ((is_ready && has_room limit running ≡ true)
+      × (gone : M × F) × Polled same (MayStart same true running) told now fuel s s' (Item gone.0) × made c gone.0 gone.1 c')
+  StartsUntilLost fuel s c running (e ∷ es) s' c' =
+      (is_ready && has_room limit running ≡ true)
+      × (between : Stream M R) × (left : C)
+      × (p : Polled same (MayStart same true running) told now fuel s between (Item e.0))
+      × made c e.0 e.1 left
+      × (has_room limit (running ++ e ∷ []) ≡ true)
+      × StartsUntilLost (fuel - length (requests_in p.answers)) between left (running ++ e ∷ []) es s' c'
+
 -- a message was started: its future is what was made of it, and runs behind the others
 pub record Started {M R F C G : Type 0} (made_by : C → M → F → C → Type 0) (m : M) (r r' : Runs M R F C G) : Type 0 where
   pub future : F
   pub made : made_by r.makes m future r'.makes
   pub rest : r' ≡ record r { makes = r'.makes; running = r.running ++ (m, future) ∷ [] }
 
+-- or there was no place for it: its future was made, both are gone, and what runs is as before
+pub record StartLost {M R F C G : Type 0} (made_by : C → M → F → C → Type 0) (m : M) (r r' : Runs M R F C G) : Type 0 where
+  pub future : F
+  pub made : made_by r.makes m future r'.makes
+  pub rest : r' ≡ record r { makes = r'.makes }
+
 -- what is started in a call
 pub record StartsAll {M R F C G : Type 0} (same : M → M → Bool) (told : R → Option (List (Answer M))) (made : C → M → F → C → Type 0) (now : Moment) (fuel : ℕ)
     (r r' : Runs M R F C G) (ending : Ending) : Type 0 where
   pub started : List (M × F)
   pub starts : Starts same told made now (not (is_some r.readiness)) r.limit fuel r.scheduler r.makes r.running started r'.scheduler r'.makes ending
+  pub rest : r' ≡ record r { scheduler = r'.scheduler; makes = r'.makes; running = r.running ++ started }
+
+-- what is started in a call until memory is wanting
+pub record StartsAllUntilLost {M R F C G : Type 0} (same : M → M → Bool) (told : R → Option (List (Answer M))) (made : C → M → F → C → Type 0) (now : Moment) (fuel : ℕ)
+    (r r' : Runs M R F C G) : Type 0 where
+  pub started : List (M × F)
+  pub starts : StartsUntilLost same told made now (not (is_some r.readiness)) r.limit fuel r.scheduler r.makes r.running started r'.scheduler r'.makes
   pub rest : r' ≡ record r { scheduler = r'.scheduler; makes = r'.makes; running = r.running ++ started }
 
 -- each future that is made may be polled
@@ -134,6 +168,17 @@ module _ {M R F C G X E : Type 0} (same : M → M → Bool) (told : R → Option
     pub course : Course M F X E
     pub follows : Follows course r r'
     pub answers : answer ≡ answer_of course r'.running
+
+  -- memory was wanting in a poll: readiness hadn't failed, no future that ran was ready, readiness didn't fail now, and
+  -- these were started until then. They run behind those that ran, the limit is as before, and the runner is spent
+  pub record PollLost (r r' : Runs M R F C G) : Type 0 where
+    pub goes : r.is_stopped ≡ false
+    pub polled : List (M × F)
+    pub pending : AllPending told_future gives r.running polled
+    pub readiness : ReadinessPolled told_ready gives_ready r.readiness r'.readiness None
+    pub started : List (M × F)
+    pub starts : StartsUntilLost same told made now (not (is_some r'.readiness)) r.limit fuel r.scheduler r.makes polled started r'.scheduler r'.makes
+    pub rest : r' ≡ record r { scheduler = r'.scheduler; makes = r'.makes; running = polled ++ started; readiness = r'.readiness; is_spent = true }
 
 -- a runner is at its end: its readiness failed before; or its requests have ended, and nothing ran before this poll or
 -- runs after it

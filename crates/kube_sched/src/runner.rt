@@ -7,7 +7,7 @@ ghost use Rattle.std.specs.Map.{keys_of, remove_entry};
 ghost use Rattle.std.specs.Fn.{CalledAt};
 ghost use Rattle.kube_sched.specs.Schedule.{held_len};
 ghost use Rattle.kube_sched.specs.Polls.{CountedPoll};
-ghost use Rattle.kube_sched.specs.Runs.{ReadinessPolled, RunnerPolled, IsAtEnd, MayStart, IsWithin, MakesFutures, Started, StartsAll, answer_after, has_room as has_room_for, runs};
+ghost use Rattle.kube_sched.specs.Runs.{ReadinessPolled, RunnerPolled, PollLost, IsAtEnd, MayStart, IsWithin, MakesFutures, SchedulerLost, Started, StartLost, StartsAll, StartsAllUntilLost, answer_after, has_room as has_room_for, runs};
 
 use crate::asks::Ending;
 use crate::future_hash_map::FutureHashMap;
@@ -175,6 +175,7 @@ impl<
         requires room { has_room_for self.old.limit self.old.running ≡ true }
         requires absent { runs T.eq message self.old.running ≡ false }
         ensures started { OnOk result (Started (CalledAt MkF.FnMut) message self.old self.new) }
+        ensures lost { OnErr result (StartLost (CalledAt MkF.FnMut) message self.old self.new) }
         ensures call { MkF.IsAlwaysCallable self.new.makes }
     {
         let future = (self.run_msg)(&message);
@@ -192,6 +193,7 @@ impl<
         ensures polled { IfOk result (λ c. CountedPoll T.eq (MayStart T.eq (not (is_some self.old.readiness) && has_room_for self.old.limit self.old.running) self.old.running) R.told now fuel self.old.scheduler self.new.scheduler c.0 c.1) }
         ensures held { IfOk result (λ c. (m : _) → c.0 ≡ Next.Item m → held_len self.new.scheduler.schedule + c.1 < held_len self.old.scheduler.schedule + fuel) }
         ensures passes { IfOk result (λ c. (m : _) → c.0 ≡ Next.Item m → MayStart T.eq (not (is_some self.old.readiness) && has_room_for self.old.limit self.old.running) self.old.running m true) }
+        ensures lost { OnErr result (SchedulerLost T.eq R.told now fuel self.old.scheduler self.new.scheduler) }
         ensures rest { self.new ≡ record self.old { scheduler = self.new.scheduler } }
     {
         let may_start = self.may_start();
@@ -207,6 +209,7 @@ impl<
         requires call { MkF.IsAlwaysCallable self.old.makes }
         requires futures { MakesFutures MkF.FnMut F.can_poll }
         ensures started { IfOk result (λ ending. StartsAll T.eq R.told (CalledAt MkF.FnMut) now fuel self.old self.new ending) }
+        ensures lost { OnErr result (StartsAllUntilLost T.eq R.told (CalledAt MkF.FnMut) now fuel self.old self.new) }
         ensures call { MkF.IsAlwaysCallable self.new.makes }
     {
         let mut left = fuel;
@@ -245,7 +248,9 @@ impl<
     ///
     /// # Errors
     ///
-    /// `NoMemory` where the scheduler or a start could have none, and in each poll after that.
+    /// `NoMemory` where the scheduler or a start could have none, and in each poll after that, which changes nothing. In
+    /// the first of them no future was ready and readiness hadn't failed. What ran runs on, and behind it what was started
+    /// before memory was wanting. Where a start could have none, its message is gone, and its future is dropped.
     pub fn poll_next(
         &mut self,
         alloc: Global,
@@ -262,6 +267,7 @@ impl<
         ensures fresh { OnOk result (self.new.is_spent ≡ false) }
         ensures spent { OnErr result (self.new.is_spent ≡ true) }
         ensures stays_spent { self.old.is_spent ≡ true → IsErr result }
+        ensures lost { self.old.is_spent ≡ false → OnErr result (PollLost T.eq R.told F.told F.gives Ready.told Ready.gives (CalledAt MkF.FnMut) now fuel self.old self.new) }
         ensures unchanged { self.old.is_spent ≡ true → self.new ≡ self.old }
         ensures call { MkF.IsAlwaysCallable self.new.makes }
     {

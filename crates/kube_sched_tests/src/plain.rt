@@ -1,7 +1,8 @@
 //! The definition of entries and waiting as a plain program, for comparison.
 
 use std::alloc::Global;
-use std::test::Fail;
+use std::panic::Expect;
+use std::process::Abort;
 
 /// A message that is equal to those of its key.
 #[derive(Clone, Copy, Debug)]
@@ -50,21 +51,17 @@ impl Plain {
         None
     }
 
-    fn put(&mut self, key: u8, entry: Option<Entry>) -> Result<(), Fail> {
+    fn clear(&mut self, key: u8) {
         self.entries.retain(|other| other.message.key != key);
-        if let Some(entry) = entry {
-            self.entries.push(entry)?;
-        }
-        Ok(())
     }
 
     /// A request for a message at a moment, asked now.
-    pub fn request(&mut self, message: Message, run_at: u64, now: u64) -> Result<(), Fail> {
+    pub fn request(&mut self, rt: &impl Abort, message: Message, run_at: u64, now: u64) {
         let number = self.requests;
         self.requests = number.wrapping_add(1);
         if let Some(old) = self.entry(message.key) {
             if old.settle.is_some() || old.time < run_at {
-                return Ok(());
+                return;
             }
         }
         let longest = now.saturating_add(15_552_000_000_000_000);
@@ -74,7 +71,8 @@ impl Plain {
             number,
             settle: None,
         };
-        self.put(message.key, Some(entry))
+        self.clear(message.key);
+        self.entries.push(entry).expect(rt, "memory");
     }
 
     /// What is due now waits from now on.
@@ -88,7 +86,7 @@ impl Plain {
     }
 
     /// The first waiting message whose key is at least `least`, which is then gone.
-    pub fn take(&mut self, least: u8) -> Result<Option<u64>, Fail> {
+    pub fn take(&mut self, least: u8) -> Option<u64> {
         let mut first: Option<Entry> = None;
         for entry in &self.entries {
             if entry.settle.is_some() && entry.message.key >= least && goes_first(entry, &first) {
@@ -97,10 +95,10 @@ impl Plain {
         }
         match first {
             Some(entry) => {
-                self.put(entry.message.key, None)?;
-                Ok(Some(entry.message.tag))
+                self.clear(entry.message.key);
+                Some(entry.message.tag)
             }
-            None => Ok(None),
+            None => None,
         }
     }
 

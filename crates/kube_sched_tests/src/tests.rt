@@ -9,7 +9,7 @@ use crate::plain::{Message, Plain};
 use kube_meta::{Moment, Next, NoMemory};
 use kube_sched::{Requests, ScheduleRequest, Scheduled, Scheduler, debounced_scheduler, scheduler};
 use std::alloc::Global;
-use std::collections::VecDeque;
+use std::panic::Expect;
 use std::process::Abort;
 use std::test::Fail;
 
@@ -105,39 +105,57 @@ const STEPS: [(&str, u64, &[Step]); 5] = [
     ),
 ];
 
-/// Does steps in order.
-fn check_steps(
+/// Counts at a moment, each as it is to be.
+fn check_counts(
+    rt: &impl Abort,
+    name: &str,
+    scheduler: &mut Scheduler<Message>,
+    at: u64,
+    counts: (usize, usize, bool),
+) {
+    scheduler.settle(Moment(at));
+    assert_eq!(rt; scheduler.waiting_len(), counts.0, "{name}: at {at}");
+    assert_eq!(rt; scheduler.len(), counts.1, "{name}: at {at}");
+    let one = Message { key: 1, tag: 0 };
+    let waits = scheduler.contains_pending(&one);
+    assert_eq!(rt; waits, counts.2, "{name}: at {at}");
+}
+
+/// Does a step.
+fn check_step(
     rt: &impl Abort,
     alloc: Global,
     name: &str,
-    debounce: u64,
-    steps: &[Step],
-) -> Result<(), Fail> {
-    let mut scheduler = Scheduler::new(alloc, debounce);
-    for step in steps {
-        match step {
-            Step::Ask(tag, run_at, now) => {
-                scheduler.schedule(alloc, request(1, *tag, *run_at), Moment(*now))?;
-            }
-            Step::Take(at, wanted) => {
-                assert_eq!(rt; taken(&mut scheduler, *at), *wanted, "{name}: at {at}");
-            }
-            Step::Count(at, waiting, held, waits) => {
-                scheduler.settle(Moment(*at));
-                assert_eq!(rt; scheduler.waiting_len(), *waiting, "{name}: at {at}");
-                assert_eq!(rt; scheduler.len(), *held, "{name}: at {at}");
-                let one = Message { key: 1, tag: 0 };
-                assert_eq!(rt; scheduler.contains_pending(&one), *waits, "{name}: at {at}");
-            }
+    scheduler: &mut Scheduler<Message>,
+    step: Step,
+) {
+    match step {
+        Step::Ask(tag, run_at, now) => {
+            scheduler
+                .schedule(alloc, request(1, tag, run_at), Moment(now))
+                .expect(rt, "memory");
+        }
+        Step::Take(at, wanted) => {
+            assert_eq!(rt; taken(scheduler, at), wanted, "{name}: at {at}");
+        }
+        Step::Count(at, waiting, held, waits) => {
+            check_counts(rt, name, scheduler, at, (waiting, held, waits));
         }
     }
-    Ok(())
+}
+
+/// Does steps in order.
+fn check_steps(rt: &impl Abort, alloc: Global, name: &str, debounce: u64, steps: &[Step]) {
+    let mut scheduler = Scheduler::new(alloc, debounce);
+    for step in steps {
+        check_step(rt, alloc, name, &mut scheduler, *step);
+    }
 }
 
 #[test]
 fn requests_settles_and_takes(rt: HostRuntime) -> Result<(), Fail> {
     for (name, debounce, steps) in STEPS {
-        check_steps(&rt, rt.alloc(), name, debounce, steps)?;
+        check_steps(&rt, rt.alloc(), name, debounce, steps);
     }
     Ok(())
 }
@@ -159,8 +177,9 @@ fn use_reserved(rt: &impl Abort, scheduler: &mut Scheduler<Message>) {
 
 #[test]
 fn reserved_places_are_used(rt: HostRuntime) -> Result<(), Fail> {
-    let mut scheduler = Scheduler::new(rt.alloc(), 0);
-    scheduler.reserve(rt.alloc(), 2)?;
+    let alloc = rt.alloc();
+    let mut scheduler = Scheduler::new(alloc, 0);
+    scheduler.reserve(alloc, 2).expect(&rt, "memory");
     use_reserved(&rt, &mut scheduler);
     Ok(())
 }
@@ -183,14 +202,29 @@ fn any_run_at(state: &mut u64, now: u64) -> u64 {
     }
 }
 
+/// The tags of the first messages that wait in both and have at least this key, which are taken.
+fn take_both(
+    rt: &impl Abort,
+    key: u8,
+    scheduler: &mut Scheduler<Message>,
+    plain: &mut Plain,
+) -> (Option<u64>, Option<u64>) {
+    let passes = |message: &Message| message.key >= key;
+    let seen = tag_of(scheduler.first(passes));
+    let mine = tag_of(scheduler.take_first(passes).as_ref());
+    assert_eq!(rt; mine, seen, "another one is taken than was seen");
+    (seen, plain.take(key))
+}
+
 /// One step on both: a request, a settle or a take. What was taken by each.
 fn take_step(
+    rt: &impl Abort,
     alloc: Global,
     state: &mut u64,
     now: u64,
     scheduler: &mut Scheduler<Message>,
     plain: &mut Plain,
-) -> Result<(Option<u64>, Option<u64>), Fail> {
+) -> (Option<u64>, Option<u64>) {
     let tag = next_number(state);
     let key = (next_number(state) % 6) as u8;
     let run_at = any_run_at(state, now);
@@ -199,26 +233,20 @@ fn take_step(
             scheduler.settle(Moment(now));
             plain.settle(now);
         }
-        1 => {
-            let passes = |message: &Message| message.key >= key;
-            let seen = tag_of(scheduler.first(passes));
-            let mine = scheduler.take_first(passes);
-            if seen != tag_of(mine.as_ref()) {
-                return Err(Fail::from("another one is taken than was seen"));
-            }
-            return Ok((seen, plain.take(key)?));
-        }
+        1 => return take_both(rt, key, scheduler, plain),
         2 if scheduler.spare() > 0 => {
             scheduler.schedule_reserved(request(key, tag, run_at), Moment(now));
-            plain.request(Message { key, tag }, run_at, now)?;
+            plain.request(rt, Message { key, tag }, run_at, now);
         }
-        3 => scheduler.reserve(alloc, 1)?,
+        3 => scheduler.reserve(alloc, 1).expect(rt, "memory"),
         _ => {
-            scheduler.schedule(alloc, request(key, tag, run_at), Moment(now))?;
-            plain.request(Message { key, tag }, run_at, now)?;
+            scheduler
+                .schedule(alloc, request(key, tag, run_at), Moment(now))
+                .expect(rt, "memory");
+            plain.request(rt, Message { key, tag }, run_at, now);
         }
     }
-    Ok((None, None))
+    (None, None)
 }
 
 /// Both hold the same.
@@ -237,7 +265,7 @@ fn step_on_both(
     alloc: Global,
     scheduler: &mut Scheduler<Message>,
     plain: &mut Plain,
-) -> Result<u32, Fail> {
+) -> u32 {
     let mut state = 11;
     let mut now = 100u64;
     let mut given = 0u32;
@@ -245,29 +273,33 @@ fn step_on_both(
         now = now
             .saturating_add(next_number(&mut state) % 7)
             .saturating_sub(1);
-        let (mine, wanted) = take_step(alloc, &mut state, now, scheduler, plain)?;
+        let (mine, wanted) = take_step(rt, alloc, &mut state, now, scheduler, plain);
         assert_eq!(rt; mine, wanted);
         if mine.is_some() {
             given = given.saturating_add(1);
         }
         compare(rt, scheduler, plain);
     }
-    Ok(given)
+    given
 }
 
 #[test]
 fn two_thousand_steps_are_as_defined(rt: HostRuntime) -> Result<(), Fail> {
     let mut scheduler = Scheduler::new(rt.alloc(), 3);
     let mut plain = Plain::new(rt.alloc(), 3);
-    let given = step_on_both(&rt, rt.alloc(), &mut scheduler, &mut plain)?;
+    let given = step_on_both(&rt, rt.alloc(), &mut scheduler, &mut plain);
     assert!(rt; given > 100, "given {given}");
     Ok(())
 }
 
+/// A key, the moment at which a request for it comes, and for which it asks.
+type Timed = (u8, u64, u64);
+
 /// Requests that come at moments. After the last one there is nothing, or the end.
 #[derive(Drop)]
 struct Script {
-    requests: VecDeque<(u64, ScheduleRequest<Message>)>,
+    requests: &'static [Timed],
+    next: usize,
     ends_at: Option<u64>,
 }
 
@@ -281,27 +313,27 @@ impl Requests<Message> for Script {
         _alloc: Global,
         now: Moment,
     ) -> Result<Next<ScheduleRequest<Message>>, NoMemory> {
-        let Some((at, request)) = self.requests.pop_front() else {
+        let Some((key, at, run_at)) = self.requests.get(self.next) else {
             return match self.ends_at {
                 Some(end) if end <= now.0 => Ok(Next::End),
                 _ => Ok(Next::Spent),
             };
         };
-        if at <= now.0 {
-            return Ok(Next::Item(request));
+        if *at > now.0 {
+            return Ok(Next::NotReady);
         }
-        self.requests.push_front((at, request))?;
-        Ok(Next::NotReady)
+        self.next = self.next.saturating_add(1);
+        Ok(Next::Item(request(*key, u64::from(*key), *run_at)))
     }
 }
 
-/// A script of keys with the moments at which they come and for which they ask.
-fn asks(alloc: Global, all: &[(u8, u64, u64)], ends_at: Option<u64>) -> Result<Script, Fail> {
-    let mut requests = VecDeque::new(alloc);
-    for (key, at, run_at) in all {
-        requests.push_back((*at, request(*key, u64::from(*key), *run_at)))?;
+/// A script of requests.
+fn asks(requests: &'static [Timed], ends_at: Option<u64>) -> Script {
+    Script {
+        requests,
+        next: 0,
+        ends_at,
     }
-    Ok(Script { requests, ends_at })
 }
 
 /// What a poll answered: a message's tag, or how it ended.
@@ -320,6 +352,19 @@ const SPENT: u64 = 1001;
 
 const END: u64 = 1002;
 
+/// What a poll answers at a moment in seconds.
+fn polled(
+    rt: &impl Abort,
+    alloc: Global,
+    scheduled: &mut Scheduled<Message, Script>,
+    second: u64,
+    fuel: u32,
+) -> u64 {
+    let now = Moment(second.saturating_mul(SECOND));
+    let answer = scheduled.poll_next(alloc, now, fuel).expect(rt, "memory");
+    shown(&answer)
+}
+
 /// Polls at moments in seconds, each with what it answers.
 fn poll_all(
     rt: &impl Abort,
@@ -328,17 +373,15 @@ fn poll_all(
     scheduled: &mut Scheduled<Message, Script>,
     fuel: u32,
     polls: &[(u64, u64)],
-) -> Result<(), Fail> {
+) {
     for (second, wanted) in polls {
-        let now = Moment(second.saturating_mul(SECOND));
-        let answer = scheduled.poll_next(alloc, now, fuel)?;
-        assert_eq!(rt; shown(&answer), *wanted, "{name}: at {second} s");
+        let answer = polled(rt, alloc, scheduled, *second, fuel);
+        assert_eq!(rt; answer, *wanted, "{name}: at {second} s");
     }
-    Ok(())
 }
 
 /// What is tried of a scheduler over requests: its debounce, the requests, how many of them a poll may take, and the polls.
-const POLLS: [(&str, u64, &[(u8, u64, u64)], u32, &[(u64, u64)]); 5] = [
+const POLLS: [(&str, u64, &[Timed], u32, &[(u64, u64)]); 5] = [
     (
         "messages come when they are due",
         0,
@@ -384,64 +427,73 @@ const POLLS: [(&str, u64, &[(u8, u64, u64)], u32, &[(u64, u64)]); 5] = [
 
 #[test]
 fn polls_give_what_is_due(rt: HostRuntime) -> Result<(), Fail> {
+    let alloc = rt.alloc();
     for (name, debounce, requests, fuel, polls) in POLLS {
-        let requests = asks(rt.alloc(), requests, None)?;
-        let mut scheduled = debounced_scheduler(rt.alloc(), requests, debounce);
-        poll_all(&rt, rt.alloc(), name, &mut scheduled, fuel, polls)?;
+        let mut scheduled = debounced_scheduler(alloc, asks(requests, None), debounce);
+        poll_all(&rt, alloc, name, &mut scheduled, fuel, polls);
     }
     Ok(())
 }
 
-/// Holds all messages in two polls, at each of which the same one is asked for, and then releases them.
-fn hold_and_release(
+/// What a poll answers that holds all messages.
+fn held(
     rt: &impl Abort,
     alloc: Global,
     scheduled: &mut Scheduled<Message, Script>,
-) -> Result<(), Fail> {
+    now: u64,
+) -> u64 {
+    let mut hold = scheduled.hold();
+    let answer = hold.poll_next(alloc, Moment(now), 9).expect(rt, "memory");
+    shown(&answer)
+}
+
+/// Holds all messages in two polls, at each of which the same one is asked for, and then releases them.
+fn hold_and_release(rt: &impl Abort, alloc: Global, scheduled: &mut Scheduled<Message, Script>) {
     let one = Message { key: 1, tag: 0 };
     assert!(rt; !scheduled.contains_pending(&one));
     for now in [0, SECOND] {
-        let answer = scheduled.hold().poll_next(alloc, Moment(now), 9)?;
-        assert_eq!(rt; shown(&answer), NOT_READY);
+        assert_eq!(rt; held(rt, alloc, scheduled, now), NOT_READY);
         assert!(rt; scheduled.contains_pending(&one));
     }
     let polls = [(2, 1), (3, NOT_READY), (4, END), (5, END)];
-    poll_all(rt, alloc, "released", scheduled, 9, &polls)
+    poll_all(rt, alloc, "released", scheduled, 9, &polls);
 }
 
 #[test]
 fn a_held_message_comes_once_when_released(rt: HostRuntime) -> Result<(), Fail> {
     let alloc = rt.alloc();
-    let requests = asks(alloc, &[(1, 0, 0), (1, SECOND, SECOND)], Some(4 * SECOND))?;
+    let requests = asks(&[(1, 0, 0), (1, SECOND, SECOND)], Some(4 * SECOND));
     let mut scheduled = scheduler(alloc, requests);
-    hold_and_release(&rt, alloc, &mut scheduled)
+    hold_and_release(&rt, alloc, &mut scheduled);
+    Ok(())
+}
+
+/// What a poll answers that holds the messages of key 1.
+fn held_one(rt: &impl Abort, alloc: Global, scheduled: &mut Scheduled<Message, Script>) -> u64 {
+    let mut unless = scheduled.hold_unless(|message: &Message| message.key != 1);
+    let answer = unless.poll_next(alloc, Moment(0), 9).expect(rt, "memory");
+    shown(&answer)
 }
 
 /// Holds a message that does not pass, which is dropped at the end of the requests.
-fn hold_one(
-    rt: &impl Abort,
-    alloc: Global,
-    scheduled: &mut Scheduled<Message, Script>,
-) -> Result<(), Fail> {
+fn hold_one(rt: &impl Abort, alloc: Global, scheduled: &mut Scheduled<Message, Script>) {
     for wanted in [2, NOT_READY] {
-        let mut unless = scheduled.hold_unless(|message: &Message| message.key != 1);
-        let answer = unless.poll_next(alloc, Moment(0), 9)?;
-        assert_eq!(rt; shown(&answer), wanted);
+        assert_eq!(rt; held_one(rt, alloc, scheduled), wanted);
     }
     let one = Message { key: 1, tag: 0 };
     assert!(rt; scheduled.contains_pending(&one));
-    poll_all(rt, alloc, "ended", scheduled, 9, &[(1, END)])?;
+    poll_all(rt, alloc, "ended", scheduled, 9, &[(1, END)]);
     assert!(rt;
         !scheduled.contains_pending(&one),
         "what is held is dropped"
     );
-    Ok(())
 }
 
 #[test]
 fn a_message_that_does_not_pass_is_held(rt: HostRuntime) -> Result<(), Fail> {
     let alloc = rt.alloc();
-    let requests = asks(alloc, &[(1, 0, 0), (2, 0, 0)], Some(SECOND))?;
+    let requests = asks(&[(1, 0, 0), (2, 0, 0)], Some(SECOND));
     let mut scheduled = scheduler(alloc, requests);
-    hold_one(&rt, alloc, &mut scheduled)
+    hold_one(&rt, alloc, &mut scheduled);
+    Ok(())
 }

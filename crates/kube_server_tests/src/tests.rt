@@ -1,6 +1,6 @@
 //! Scripts of what is done with a server and a connection, and what comes of it.
 
-ghost use Rattle.std.specs.Prelude.{◌≡◌, IfOk};
+ghost use Rattle.std.specs.Prelude.{◌≡◌};
 ghost use Rattle.kube_server.specs.History.{IsLater};
 
 use kube_api::{
@@ -13,6 +13,7 @@ use kube_meta::{
 use kube_server::{Conn, Server, ServerObjects, ServerRefusal};
 use serde_json::Value;
 use std::alloc::Global;
+use std::panic::Expect;
 use std::process::Abort;
 use std::sync::Arc;
 use std::test::Fail;
@@ -38,102 +39,130 @@ enum Act {
     Next,
 }
 
-fn resource(alloc: Global) -> Result<Arc<ApiResource>, NoMemory> {
-    Ok(Arc::new(
-        alloc,
-        ApiResource {
-            group: Text::new(alloc, "")?,
-            version: Text::new(alloc, "v1")?,
-            api_version: Text::new(alloc, "v1")?,
-            kind: Text::new(alloc, "ConfigMap")?,
-            plural: Text::new(alloc, "configmaps")?,
-        },
-    )?)
+fn resource(rt: &impl Abort, alloc: Global) -> Arc<ApiResource> {
+    let resource = ApiResource {
+        group: Text::new(alloc, "").expect(rt, "memory"),
+        version: Text::new(alloc, "v1").expect(rt, "memory"),
+        api_version: Text::new(alloc, "v1").expect(rt, "memory"),
+        kind: Text::new(alloc, "ConfigMap").expect(rt, "memory"),
+        plural: Text::new(alloc, "configmaps").expect(rt, "memory"),
+    };
+    Arc::new(alloc, resource).expect(rt, "memory")
 }
 
-fn metadata(alloc: Global, name: &str) -> Result<ObjectMeta, NoMemory> {
-    Ok(ObjectMeta {
-        name: Some(Text::new(alloc, name)?),
-        ..ObjectMeta::empty()
-    })
-}
-
-fn held(alloc: Global, name: &str) -> Result<ObjectMeta, NoMemory> {
-    let mut finalizers = List::new(alloc);
-    finalizers.push(Text::new(alloc, "f")?)?;
-    Ok(ObjectMeta {
-        finalizers: Some(finalizers),
-        ..metadata(alloc, name)?
-    })
-}
-
-fn key(alloc: Global, name: &str) -> Result<ObjectRef<DynamicObject>, NoMemory> {
-    ObjectRef::new_with(alloc, name, resource(alloc)?)
-}
-
-fn text(alloc: Global, text: &str) -> Result<Option<Text>, NoMemory> {
-    if text.is_empty() {
-        return Ok(None);
+/// Metadata of a name and finalizers.
+fn named(rt: &impl Abort, alloc: Global, name: &str, finalizers: Option<List<Text>>) -> ObjectMeta {
+    ObjectMeta {
+        name: Some(Text::new(alloc, name).expect(rt, "memory")),
+        namespace: None,
+        uid: None,
+        resource_version: None,
+        deletion_timestamp: None,
+        generation: None,
+        labels: None,
+        annotations: None,
+        finalizers,
+        owner_references: None,
     }
-    Ok(Some(Text::new(alloc, text)?))
+}
+
+fn metadata(rt: &impl Abort, alloc: Global, name: &str) -> ObjectMeta {
+    named(rt, alloc, name, None)
+}
+
+fn held(rt: &impl Abort, alloc: Global, name: &str) -> ObjectMeta {
+    let finalizer = Text::new(alloc, "f").expect(rt, "memory");
+    let mut finalizers = List::new(alloc);
+    finalizers.push(finalizer).expect(rt, "memory");
+    named(rt, alloc, name, Some(finalizers))
+}
+
+fn key(rt: &impl Abort, alloc: Global, name: &str) -> ObjectRef<DynamicObject> {
+    let resource = resource(rt, alloc);
+    ObjectRef::new_with(alloc, name, resource).expect(rt, "memory")
+}
+
+fn text(rt: &impl Abort, alloc: Global, text: &str) -> Option<Text> {
+    if text.is_empty() {
+        return None;
+    }
+    Some(Text::new(alloc, text).expect(rt, "memory"))
 }
 
 fn list_params(
+    rt: &impl Abort,
     alloc: Global,
     limit: u32,
     token: &str,
     labels: &str,
     fields: &str,
-) -> Result<ListParams, NoMemory> {
-    Ok(ListParams {
-        label_selector: text(alloc, labels)?,
-        field_selector: text(alloc, fields)?,
+) -> ListParams {
+    ListParams {
+        label_selector: text(rt, alloc, labels),
+        field_selector: text(rt, alloc, fields),
         limit: Some(limit),
-        continue_token: text(alloc, token)?,
+        continue_token: text(rt, alloc, token),
         resource_version: None,
         version_match: None,
-    })
+    }
 }
 
 fn watch_params(
+    rt: &impl Abort,
     alloc: Global,
     initial: bool,
     labels: &str,
     fields: &str,
-) -> Result<WatchParams, NoMemory> {
-    Ok(WatchParams {
-        label_selector: text(alloc, labels)?,
-        field_selector: text(alloc, fields)?,
+) -> WatchParams {
+    WatchParams {
+        label_selector: text(rt, alloc, labels),
+        field_selector: text(rt, alloc, fields),
         timeout: None,
         bookmarks: true,
         send_initial_events: initial,
-    })
+    }
+}
+
+/// A copy of a value, and null for none.
+fn copied(rt: &impl Abort, value: Option<&Value>) -> Value {
+    match value {
+        Some(value) => value.clone().expect(rt, "memory"),
+        None => Value::Null,
+    }
 }
 
 /// The operation that a list of its kind, path and value stands for.
-fn operation(alloc: Global, given: &Value) -> Result<Patch, Fail> {
+fn operation(rt: &impl Abort, alloc: Global, given: &Value) -> Patch {
     let kind = given.get(0).and_then(Value::as_str).unwrap_or("");
-    let path = Text::new(alloc, given.get(1).and_then(Value::as_str).unwrap_or(""))?;
-    let value = match given.get(2) {
-        Some(value) => value.clone()?,
-        None => Value::Null,
-    };
-    Ok(match kind {
-        "test" => Patch::Test { path, value },
-        "add" => Patch::Add { path, value },
+    let path = given.get(1).and_then(Value::as_str).unwrap_or("");
+    let path = Text::new(alloc, path).expect(rt, "memory");
+    match kind {
+        "test" => Patch::Test {
+            path,
+            value: copied(rt, given.get(2)),
+        },
+        "add" => Patch::Add {
+            path,
+            value: copied(rt, given.get(2)),
+        },
         _ => Patch::Remove { path },
-    })
+    }
 }
 
-fn operations(alloc: Global, text: &str) -> Result<Vec<Patch>, Fail> {
-    let given = Value::from_str(alloc, text)?;
+/// The operations of a value that is read.
+fn listed(rt: &impl Abort, alloc: Global, given: &Value) -> Vec<Patch> {
     let mut patch = Vec::new(alloc);
     if let Some(items) = given.as_array() {
         for item in items {
-            patch.push(operation(alloc, item)?)?;
+            patch.push(operation(rt, alloc, item)).expect(rt, "memory");
         }
     }
-    Ok(patch)
+    patch
+}
+
+fn operations(rt: &impl Abort, alloc: Global, text: &str) -> Vec<Patch> {
+    let given = Value::from_str(alloc, text).expect(rt, "JSON");
+    listed(rt, alloc, &given)
 }
 
 /// The text of what may be absent.
@@ -144,105 +173,121 @@ fn or_none(text: &Option<Text>) -> &str {
     }
 }
 
+/// A text of its own.
+fn owned(rt: &impl Abort, alloc: Global, text: &str) -> String {
+    String::from_str(alloc, text).expect(rt, "memory")
+}
+
 /// An object: name, uid and version, and since when it is being deleted.
-fn shown(alloc: Global, object: &DynamicObject) -> Result<String, NoMemory> {
+fn shown(rt: &impl Abort, alloc: Global, object: &DynamicObject) -> String {
     let meta = &object.metadata;
     let (name, uid) = (or_none(&meta.name), or_none(&meta.uid));
     let (version, deleted) = (
         or_none(&meta.resource_version),
         or_none(&meta.deletion_timestamp),
     );
-    Ok(format!(in alloc; "{name}/{uid}@{version}/{deleted}")?)
+    format!(in alloc; "{name}/{uid}@{version}/{deleted}").expect(rt, "memory")
 }
 
-fn answered(alloc: Global, answer: Result<u64, ServerRefusal>) -> Result<String, NoMemory> {
-    Ok(match answer {
-        Ok(revision) => format!(in alloc; "{revision}")?,
-        Err(refusal) => format!(in alloc; "{refusal}")?,
-    })
+fn answered(rt: &impl Abort, alloc: Global, answer: Result<u64, ServerRefusal>) -> String {
+    match answer {
+        Ok(revision) => format!(in alloc; "{revision}").expect(rt, "memory"),
+        Err(refusal) => format!(in alloc; "{refusal}").expect(rt, "memory"),
+    }
 }
 
-fn patch_answered(alloc: Global, answer: Result<u64, PatchRefusal>) -> Result<String, NoMemory> {
-    Ok(match answer {
-        Ok(revision) => format!(in alloc; "{revision}")?,
-        Err(PatchRefusal::TestFailed(n)) => format!(in alloc; "TestFailed {n}")?,
-        Err(PatchRefusal::PathMissing(n)) => format!(in alloc; "PathMissing {n}")?,
-        Err(refusal) => format!(in alloc; "{refusal}")?,
-    })
+fn refused(rt: &impl Abort, alloc: Global, refusal: PatchRefusal) -> String {
+    match refusal {
+        PatchRefusal::TestFailed(n) => format!(in alloc; "TestFailed {n}").expect(rt, "memory"),
+        PatchRefusal::PathMissing(n) => format!(in alloc; "PathMissing {n}").expect(rt, "memory"),
+        _ => format!(in alloc; "{refusal}").expect(rt, "memory"),
+    }
 }
 
-fn fault(alloc: Global, error: &ApiError) -> Result<String, NoMemory> {
-    Ok(match error {
+fn patch_answered(rt: &impl Abort, alloc: Global, answer: Result<u64, PatchRefusal>) -> String {
+    match answer {
+        Ok(revision) => format!(in alloc; "{revision}").expect(rt, "memory"),
+        Err(refusal) => refused(rt, alloc, refusal),
+    }
+}
+
+fn fault(rt: &impl Abort, alloc: Global, error: &ApiError) -> String {
+    match error {
         ApiError::Api(status) => {
             let code = status.code;
-            format!(in alloc; "fault {code}")?
+            format!(in alloc; "fault {code}").expect(rt, "memory")
         }
-        _ => format!(in alloc; "{error}")?,
-    })
+        _ => format!(in alloc; "{error}").expect(rt, "memory"),
+    }
 }
 
-fn page(alloc: Global, page: &Page<DynamicObject>) -> Result<String, NoMemory> {
-    let (token, version) = (or_none(&page.token), or_none(&page.version));
-    let mut text = format!(in alloc; "page {token} {version}")?;
-    for object in page.items.as_slice() {
-        text.push_str(" ")?;
-        text.push_str(shown(alloc, object)?.as_str())?;
+/// Adds each object, with a space before it.
+fn add_objects(rt: &impl Abort, alloc: Global, text: &mut String, objects: &[Arc<DynamicObject>]) {
+    for object in objects {
+        let object = shown(rt, alloc, object);
+        text.push_str(" ").expect(rt, "memory");
+        text.push_str(object.as_str()).expect(rt, "memory");
     }
-    Ok(text)
+}
+
+fn page(rt: &impl Abort, alloc: Global, page: &Page<DynamicObject>) -> String {
+    let (token, version) = (or_none(&page.token), or_none(&page.version));
+    let mut text = format!(in alloc; "page {token} {version}").expect(rt, "memory");
+    add_objects(rt, alloc, &mut text, page.items.as_slice());
+    text
 }
 
 fn list_answered(
+    rt: &impl Abort,
     alloc: Global,
     answer: &Polled<Result<Page<DynamicObject>, ApiError>>,
-) -> Result<String, NoMemory> {
+) -> String {
     match answer {
-        Polled::NotReady => Ok(String::from_str(alloc, "not ready")?),
-        Polled::Ready(Ok(given)) => page(alloc, given),
-        Polled::Ready(Err(error)) => fault(alloc, error),
+        Polled::NotReady => owned(rt, alloc, "not ready"),
+        Polled::Ready(Ok(given)) => page(rt, alloc, given),
+        Polled::Ready(Err(error)) => fault(rt, alloc, error),
     }
 }
 
-fn watch_answered(
-    alloc: Global,
-    answer: &Polled<Result<(), ApiError>>,
-) -> Result<String, NoMemory> {
+fn watch_answered(rt: &impl Abort, alloc: Global, answer: &Polled<Result<(), ApiError>>) -> String {
     match answer {
-        Polled::NotReady => Ok(String::from_str(alloc, "not ready")?),
-        Polled::Ready(Ok(())) => Ok(String::from_str(alloc, "opened")?),
-        Polled::Ready(Err(error)) => fault(alloc, error),
+        Polled::NotReady => owned(rt, alloc, "not ready"),
+        Polled::Ready(Ok(())) => owned(rt, alloc, "opened"),
+        Polled::Ready(Err(error)) => fault(rt, alloc, error),
     }
 }
 
-fn with_object(alloc: Global, word: &str, object: &DynamicObject) -> Result<String, NoMemory> {
-    let object = shown(alloc, object)?;
-    Ok(format!(in alloc; "{word} {object}")?)
+fn with_object(rt: &impl Abort, alloc: Global, word: &str, object: &DynamicObject) -> String {
+    let object = shown(rt, alloc, object);
+    format!(in alloc; "{word} {object}").expect(rt, "memory")
 }
 
-fn event(alloc: Global, event: &WatchEvent<DynamicObject>) -> Result<String, NoMemory> {
+fn event(rt: &impl Abort, alloc: Global, event: &WatchEvent<DynamicObject>) -> String {
     match event {
-        WatchEvent::Added(object) => with_object(alloc, "added", object),
-        WatchEvent::Modified(object) => with_object(alloc, "modified", object),
-        WatchEvent::Deleted(object) => with_object(alloc, "deleted", object),
+        WatchEvent::Added(object) => with_object(rt, alloc, "added", object),
+        WatchEvent::Modified(object) => with_object(rt, alloc, "modified", object),
+        WatchEvent::Deleted(object) => with_object(rt, alloc, "deleted", object),
         WatchEvent::Bookmark(bookmark) => {
             let (version, marks) = (bookmark.version.as_str(), bookmark.annotations.len());
-            Ok(format!(in alloc; "bookmark {version} {marks}")?)
+            format!(in alloc; "bookmark {version} {marks}").expect(rt, "memory")
         }
         WatchEvent::Error(status) => {
             let (code, reason) = (status.code, status.reason.as_str());
-            Ok(format!(in alloc; "error {code} {reason}")?)
+            format!(in alloc; "error {code} {reason}").expect(rt, "memory")
         }
     }
 }
 
 fn next_answered(
+    rt: &impl Abort,
     alloc: Global,
     answer: &Polled<Option<Result<WatchEvent<DynamicObject>, ApiError>>>,
-) -> Result<String, NoMemory> {
+) -> String {
     match answer {
-        Polled::NotReady => Ok(String::from_str(alloc, "not ready")?),
-        Polled::Ready(None) => Ok(String::from_str(alloc, "end")?),
-        Polled::Ready(Some(Ok(given))) => event(alloc, given),
-        Polled::Ready(Some(Err(error))) => fault(alloc, error),
+        Polled::NotReady => owned(rt, alloc, "not ready"),
+        Polled::Ready(None) => owned(rt, alloc, "end"),
+        Polled::Ready(Some(Ok(given))) => event(rt, alloc, given),
+        Polled::Ready(Some(Err(error))) => fault(rt, alloc, error),
     }
 }
 
@@ -253,169 +298,186 @@ struct World {
     conn: Conn,
 }
 
-fn begun(alloc: Global) -> Result<World, NoMemory>
-    ensures { IfOk result (λ w. IsLater w.conn.changes w.server.changes w.conn.compacted w.server.compacted) }
+fn begun(rt: &impl Abort, alloc: Global) -> World
+    ensures { IsLater result.conn.changes result.server.changes result.conn.compacted result.server.compacted }
 {
-    let server = Server::new(alloc, resource(alloc)?);
-    let conn = Conn::new(alloc, &server)?;
-    Ok(World { server, conn })
+    let server = Server::new(alloc, resource(rt, alloc));
+    let conn = Conn::new(alloc, &server).expect(rt, "memory");
+    World { server, conn }
 }
 
-fn put(alloc: Global, server: &mut Server, metadata: ObjectMeta) -> Result<String, NoMemory>
+fn put(rt: &impl Abort, alloc: Global, server: &mut Server, metadata: ObjectMeta) -> String
     ensures { IsLater server.old.changes server.new.changes server.old.compacted server.new.compacted }
 {
-    answered(alloc, server.put(alloc, DynamicObject::bare(metadata)))
+    answered(rt, alloc, server.put(alloc, DynamicObject::bare(metadata)))
 }
 
-fn remove(alloc: Global, server: &mut Server, name: &str) -> Result<String, NoMemory>
+fn remove(rt: &impl Abort, alloc: Global, server: &mut Server, name: &str) -> String
     ensures { IsLater server.old.changes server.new.changes server.old.compacted server.new.compacted }
 {
-    let key = key(alloc, name)?;
-    answered(alloc, server.remove(alloc, &key))
+    let key = key(rt, alloc, name);
+    answered(rt, alloc, server.remove(alloc, &key))
 }
 
-fn delete(alloc: Global, server: &mut Server, name: &str, now: u64) -> Result<String, NoMemory>
+fn delete(rt: &impl Abort, alloc: Global, server: &mut Server, name: &str, now: u64) -> String
     ensures { IsLater server.old.changes server.new.changes server.old.compacted server.new.compacted }
 {
-    let key = key(alloc, name)?;
-    answered(alloc, server.request_delete(alloc, &key, Moment(now)))
+    let key = key(rt, alloc, name);
+    answered(rt, alloc, server.request_delete(alloc, &key, Moment(now)))
 }
 
-fn patch(alloc: Global, server: &mut Server, name: &str, text: &str) -> Result<String, Fail>
+fn patch(rt: &impl Abort, alloc: Global, server: &mut Server, name: &str, text: &str) -> String
     ensures { IsLater server.old.changes server.new.changes server.old.compacted server.new.compacted }
 {
-    let key = key(alloc, name)?;
-    let patch = operations(alloc, text)?;
+    let patch = operations(rt, alloc, text);
     if patch.len() > 9 {
-        return Ok(String::new(alloc));
+        return String::new(alloc);
     }
-    Ok(patch_answered(alloc, server.patch(alloc, &key, &patch))?)
+    let key = key(rt, alloc, name);
+    patch_answered(rt, alloc, server.patch(alloc, &key, &patch))
 }
 
-fn list(alloc: Global, conn: &mut Conn, params: &ListParams) -> Result<String, NoMemory>
+fn list(rt: &impl Abort, alloc: Global, conn: &mut Conn, params: &ListParams) -> String
     ensures changes { conn.new.changes ≡ conn.old.changes }
     ensures compacted { conn.new.compacted ≡ conn.old.compacted }
 {
-    let answer = conn.list(alloc, params, Moment(0))?;
-    list_answered(alloc, &answer)
+    let answer = conn.list(alloc, params, Moment(0)).expect(rt, "memory");
+    list_answered(rt, alloc, &answer)
 }
 
 fn watch(
+    rt: &impl Abort,
     alloc: Global,
     conn: &mut Conn,
     params: &WatchParams,
     version: &str,
-) -> Result<String, NoMemory>
+) -> String
     ensures changes { conn.new.changes ≡ conn.old.changes }
     ensures compacted { conn.new.compacted ≡ conn.old.compacted }
 {
-    let answer = conn.watch(alloc, params, version, Moment(0))?;
-    watch_answered(alloc, &answer)
+    let answer = conn
+        .watch(alloc, params, version, Moment(0))
+        .expect(rt, "memory");
+    watch_answered(rt, alloc, &answer)
 }
 
-fn next(alloc: Global, conn: &mut Conn) -> Result<String, NoMemory>
+fn next(rt: &impl Abort, alloc: Global, conn: &mut Conn) -> String
     ensures changes { conn.new.changes ≡ conn.old.changes }
     ensures compacted { conn.new.compacted ≡ conn.old.compacted }
 {
-    let answer = conn.next(alloc, Moment(0))?;
-    next_answered(alloc, &answer)
+    let answer = conn.next(alloc, Moment(0)).expect(rt, "memory");
+    next_answered(rt, alloc, &answer)
 }
 
-fn holds(alloc: Global, server: &Server) -> Result<String, NoMemory> {
-    let mut text = String::from_str(alloc, "holds")?;
-    let objects = server.objects(alloc)?;
-    for object in objects.as_slice() {
-        text.push_str(" ")?;
-        text.push_str(shown(alloc, object)?.as_str())?;
-    }
-    Ok(text)
+fn holds(rt: &impl Abort, alloc: Global, server: &Server) -> String {
+    let mut text = owned(rt, alloc, "holds");
+    let objects = server.objects(alloc).expect(rt, "memory");
+    add_objects(rt, alloc, &mut text, objects.as_slice());
+    text
 }
 
 /// What is done with the server; none where it is an act of the connection.
-fn serve(alloc: Global, server: &mut Server, act: Act) -> Result<Option<String>, Fail>
+fn serve(rt: &impl Abort, alloc: Global, server: &mut Server, act: Act) -> Option<String>
     ensures { IsLater server.old.changes server.new.changes server.old.compacted server.new.compacted }
 {
-    Ok(Some(match act {
-        Act::Put(name) => put(alloc, server, metadata(alloc, name)?)?,
-        Act::PutHeld(name) => put(alloc, server, held(alloc, name)?)?,
-        Act::PutUnnamed => put(alloc, server, ObjectMeta::empty())?,
-        Act::Remove(name) => remove(alloc, server, name)?,
-        Act::Delete(name, now) => delete(alloc, server, name, now)?,
-        Act::Patch(name, text) => patch(alloc, server, name, text)?,
-        Act::Holds => holds(alloc, server)?,
+    Some(match act {
+        Act::Put(name) => put(rt, alloc, server, metadata(rt, alloc, name)),
+        Act::PutHeld(name) => put(rt, alloc, server, held(rt, alloc, name)),
+        Act::PutUnnamed => put(rt, alloc, server, ObjectMeta::empty()),
+        Act::Remove(name) => remove(rt, alloc, server, name),
+        Act::Delete(name, now) => delete(rt, alloc, server, name, now),
+        Act::Patch(name, text) => patch(rt, alloc, server, name, text),
+        Act::Holds => holds(rt, alloc, server),
         Act::Compact(revision) => {
             server.compact(revision);
-            String::from_str(alloc, "compacted")?
+            owned(rt, alloc, "compacted")
         }
-        _ => return Ok(None),
-    }))
+        _ => return None,
+    })
 }
 
 /// What is asked of the connection.
-fn ask(alloc: Global, conn: &mut Conn, act: Act) -> Result<String, NoMemory>
+fn ask(rt: &impl Abort, alloc: Global, conn: &mut Conn, act: Act) -> String
     ensures changes { conn.new.changes ≡ conn.old.changes }
     ensures compacted { conn.new.compacted ≡ conn.old.compacted }
 {
     match act {
-        Act::List(limit, token) => { list(alloc, conn, &list_params(alloc, limit, token, "", "")?) }
-        Act::ListBy(labels, fields) => {
-            list(alloc, conn, &list_params(alloc, 0, "x", labels, fields)?)
-        }
-        Act::Watch(version) => watch(alloc, conn, &watch_params(alloc, false, "", "")?, version),
-        Act::WatchAll => watch(alloc, conn, &watch_params(alloc, true, "", "")?, "x"),
-        Act::WatchBy(labels, fields) => {
-            watch(
+        Act::List(limit, token) => {
+            list(
+                rt,
                 alloc,
                 conn,
-                &watch_params(alloc, true, labels, fields)?,
+                &list_params(rt, alloc, limit, token, "", ""),
+            )
+        }
+        Act::ListBy(labels, fields) => {
+            list(
+                rt,
+                alloc,
+                conn,
+                &list_params(rt, alloc, 0, "x", labels, fields),
+            )
+        }
+        Act::Watch(version) => {
+            watch(
+                rt,
+                alloc,
+                conn,
+                &watch_params(rt, alloc, false, "", ""),
+                version,
+            )
+        }
+        Act::WatchAll => watch(rt, alloc, conn, &watch_params(rt, alloc, true, "", ""), "x"),
+        Act::WatchBy(labels, fields) => {
+            watch(
+                rt,
+                alloc,
+                conn,
+                &watch_params(rt, alloc, true, labels, fields),
                 "x",
             )
         }
-        _ => next(alloc, conn),
+        _ => next(rt, alloc, conn),
     }
 }
 
 /// Does one act, and says what came of it.
-fn come_of(alloc: Global, world: &mut World, act: Act) -> Result<String, Fail>
+///
+/// Errors: `NoMemory`, where the connection is fed. Nothing with a drop lives there.
+fn come_of(rt: &impl Abort, alloc: Global, world: &mut World, act: Act) -> Result<String, NoMemory>
     requires { IsLater world.old.conn.changes world.old.server.changes world.old.conn.compacted world.old.server.compacted }
     ensures { IsLater world.new.conn.changes world.new.server.changes world.new.conn.compacted world.new.server.compacted }
 {
-    if let Some(text) = serve(alloc, &mut world.server, act)? {
+    if let Some(text) = serve(rt, alloc, &mut world.server, act) {
         return Ok(text);
     }
     if let Act::Feed = act {
         world.conn.feed(alloc, &world.server)?;
         return Ok(String::from_str(alloc, "fed")?);
     }
-    Ok(ask(alloc, &mut world.conn, act)?)
+    Ok(ask(rt, alloc, &mut world.conn, act))
 }
 
 /// Each act and what came of it, up to the first of which something else came.
-fn first_other(alloc: Global, rows: &[Row]) -> Result<String, Fail> {
-    let mut world = begun(alloc)?;
+fn first_other(rt: &impl Abort, alloc: Global, rows: &[Row]) -> String {
+    let mut world = begun(rt, alloc);
     for (number, (one, wanted)) in rows.iter().enumerate() {
-        let text = come_of(alloc, &mut world, *one)?;
+        let text = come_of(rt, alloc, &mut world, *one).expect(rt, "memory");
         if text.as_str() != *wanted {
-            return Ok(format!(in alloc; "{number}: {text}")?);
+            return format!(in alloc; "{number}: {text}").expect(rt, "memory");
         }
     }
-    Ok(String::new(alloc))
-}
-
-fn is_text(rt: &impl Abort, text: &str, wanted: &str) -> Result<(), Fail> {
-    assert_eq!(rt; text, wanted);
-    Ok(())
+    String::new(alloc)
 }
 
 /// Nothing else came.
-fn is_empty(rt: &impl Abort, text: &str) -> Result<(), Fail> {
+fn is_empty(rt: &impl Abort, text: &str) {
     assert_eq!(rt; text.len(), 0, "{text}");
-    Ok(())
 }
 
-fn plays<R: Abort + AllocGlobal>(rt: &R, rows: &[Row]) -> Result<(), Fail> {
-    let text = first_other(rt.alloc(), rows)?;
-    is_empty(rt, text.as_str())
+fn plays<R: Abort + AllocGlobal>(rt: &R, rows: &[Row]) {
+    let text = first_other(rt, rt.alloc(), rows);
+    is_empty(rt, text.as_str());
 }
 
 type Row = (Act, &'static str);
@@ -432,7 +494,8 @@ const PUTS: [Row; 7] = [
 
 #[test]
 fn a_put_raises_the_revision_and_keeps_the_uid(rt: HostRuntime) -> Result<(), Fail> {
-    plays(&rt, &PUTS)
+    plays(&rt, &PUTS);
+    Ok(())
 }
 
 const PAGES: [Row; 23] = [
@@ -463,7 +526,8 @@ const PAGES: [Row; 23] = [
 
 #[test]
 fn pages_of_a_list_are_of_one_revision(rt: HostRuntime) -> Result<(), Fail> {
-    plays(&rt, &PAGES)
+    plays(&rt, &PAGES);
+    Ok(())
 }
 
 const EXPIRED: [Row; 12] = [
@@ -483,7 +547,8 @@ const EXPIRED: [Row; 12] = [
 
 #[test]
 fn a_watch_from_a_compacted_version_is_refused_once(rt: HostRuntime) -> Result<(), Fail> {
-    plays(&rt, &EXPIRED)
+    plays(&rt, &EXPIRED);
+    Ok(())
 }
 
 const FINALIZED: [Row; 10] = [
@@ -504,7 +569,8 @@ const FINALIZED: [Row; 10] = [
 
 #[test]
 fn the_last_finalizer_lets_an_object_go(rt: HostRuntime) -> Result<(), Fail> {
-    plays(&rt, &FINALIZED)
+    plays(&rt, &FINALIZED);
+    Ok(())
 }
 
 const PATCHES: [Row; 10] = [
@@ -528,7 +594,8 @@ const PATCHES: [Row; 10] = [
 
 #[test]
 fn a_patch_is_all_or_nothing(rt: HostRuntime) -> Result<(), Fail> {
-    plays(&rt, &PATCHES)
+    plays(&rt, &PATCHES);
+    Ok(())
 }
 
 const WATCHES: [Row; 26] = [
@@ -562,7 +629,8 @@ const WATCHES: [Row; 26] = [
 
 #[test]
 fn a_watch_is_without_gaps_over_a_compaction(rt: HostRuntime) -> Result<(), Fail> {
-    plays(&rt, &WATCHES)
+    plays(&rt, &WATCHES);
+    Ok(())
 }
 
 const SELECTORS: [Row; 20] = [
@@ -599,7 +667,8 @@ const SELECTORS: [Row; 20] = [
 
 #[test]
 fn selectors_of_the_name_alone_are_supported(rt: HostRuntime) -> Result<(), Fail> {
-    plays(&rt, &SELECTORS)
+    plays(&rt, &SELECTORS);
+    Ok(())
 }
 
 /// A call to the objects of a server.
@@ -610,76 +679,106 @@ enum Request {
 }
 
 fn patch_told(
+    rt: &impl Abort,
     alloc: Global,
     answer: &Polled<PatchAnswer<DynamicObject>>,
-) -> Result<String, NoMemory> {
+) -> String {
     match answer {
-        Polled::Ready(PatchAnswer::Done(object)) => with_object(alloc, "done", object),
-        Polled::Ready(PatchAnswer::Refused(refusal)) => patch_answered(alloc, Err(*refusal)),
-        _ => Ok(String::from_str(alloc, "another answer")?),
+        Polled::Ready(PatchAnswer::Done(object)) => with_object(rt, alloc, "done", object),
+        Polled::Ready(PatchAnswer::Refused(refusal)) => refused(rt, alloc, *refusal),
+        _ => owned(rt, alloc, "another answer"),
     }
 }
 
 fn delete_told(
+    rt: &impl Abort,
     alloc: Global,
     answer: &Polled<DeleteAnswer<DynamicObject>>,
-) -> Result<String, NoMemory> {
+) -> String {
     match answer {
-        Polled::Ready(DeleteAnswer::Object(object)) => with_object(alloc, "stays", object),
+        Polled::Ready(DeleteAnswer::Object(object)) => with_object(rt, alloc, "stays", object),
         Polled::Ready(DeleteAnswer::Status(status)) => {
             let (code, uid) = (status.code, or_none(&status.uid));
-            Ok(format!(in alloc; "gone {code} {uid}")?)
+            format!(in alloc; "gone {code} {uid}").expect(rt, "memory")
         }
-        Polled::Ready(DeleteAnswer::NotFound) => Ok(String::from_str(alloc, "NotFound")?),
-        _ => Ok(String::from_str(alloc, "another answer")?),
+        Polled::Ready(DeleteAnswer::NotFound) => owned(rt, alloc, "NotFound"),
+        _ => owned(rt, alloc, "another answer"),
     }
 }
 
 fn asked_patch(
+    rt: &impl Abort,
     alloc: Global,
     objects: &mut ServerObjects,
     name: &str,
     text: &str,
-) -> Result<String, Fail> {
-    let patch = operations(alloc, text)?;
+) -> String {
+    let patch = operations(rt, alloc, text);
     if patch.len() > 9 {
-        return Ok(String::new(alloc));
+        return String::new(alloc);
     }
-    let answer = objects.patch(alloc, name, &patch, Moment(0))?;
-    Ok(patch_told(alloc, &answer)?)
+    let answer = objects
+        .patch(alloc, name, &patch, Moment(0))
+        .expect(rt, "memory");
+    patch_told(rt, alloc, &answer)
 }
 
-fn asked(alloc: Global, objects: &mut ServerObjects, ask: Request) -> Result<String, Fail> {
+fn asked_delete(
+    rt: &impl Abort,
+    alloc: Global,
+    objects: &mut ServerObjects,
+    name: &str,
+    now: u64,
+) -> String {
+    let answer = objects
+        .delete(alloc, name, Moment(now))
+        .expect(rt, "memory");
+    delete_told(rt, alloc, &answer)
+}
+
+fn asked(rt: &impl Abort, alloc: Global, objects: &mut ServerObjects, ask: Request) -> String {
     match ask {
-        Request::Patch(name, text) => asked_patch(alloc, objects, name, text),
-        Request::Delete(name, now) => {
-            let answer = objects.delete(alloc, name, Moment(now))?;
-            Ok(delete_told(alloc, &answer)?)
-        }
+        Request::Patch(name, text) => asked_patch(rt, alloc, objects, name, text),
+        Request::Delete(name, now) => asked_delete(rt, alloc, objects, name, now),
     }
+}
+
+/// Puts an object that is to be taken.
+fn stores(rt: &impl Abort, alloc: Global, server: &mut Server, metadata: ObjectMeta) {
+    server
+        .put(alloc, DynamicObject::bare(metadata))
+        .expect(rt, "stored");
 }
 
 /// A server with an object `a` that has a finalizer, and one `b` without.
-fn filled(alloc: Global) -> Result<Server, Fail> {
-    let mut server = Server::new(alloc, resource(alloc)?);
-    let first = held(alloc, "a")?;
-    let second = metadata(alloc, "b")?;
-    server.put(alloc, DynamicObject::bare(first))?;
-    server.put(alloc, DynamicObject::bare(second))?;
-    Ok(server)
+fn filled(rt: &impl Abort, alloc: Global) -> Server {
+    let mut server = Server::new(alloc, resource(rt, alloc));
+    stores(rt, alloc, &mut server, held(rt, alloc, "a"));
+    stores(rt, alloc, &mut server, metadata(rt, alloc, "b"));
+    server
 }
 
 /// Each call and its answer, up to the first that is answered otherwise.
-fn first_other_answer(alloc: Global, rows: &[(Request, &'static str)]) -> Result<String, Fail> {
-    let mut server = filled(alloc)?;
-    let mut objects = server.objects_in(alloc, None)?;
+fn other_answer(
+    rt: &impl Abort,
+    alloc: Global,
+    objects: &mut ServerObjects,
+    rows: &[(Request, &'static str)],
+) -> String {
     for (number, (ask, wanted)) in rows.iter().enumerate() {
-        let text = asked(alloc, &mut objects, *ask)?;
+        let text = asked(rt, alloc, objects, *ask);
         if text.as_str() != *wanted {
-            return Ok(format!(in alloc; "{number}: {text}")?);
+            return format!(in alloc; "{number}: {text}").expect(rt, "memory");
         }
     }
-    Ok(String::new(alloc))
+    String::new(alloc)
+}
+
+/// The same over a server of its own.
+fn first_other_answer(rt: &impl Abort, alloc: Global, rows: &[(Request, &'static str)]) -> String {
+    let mut server = filled(rt, alloc);
+    let mut objects = server.objects_in(alloc, None).expect(rt, "memory");
+    other_answer(rt, alloc, &mut objects, rows)
 }
 
 const ANSWERS: [(Request, &'static str); 9] = [
@@ -702,69 +801,136 @@ const ANSWERS: [(Request, &'static str); 9] = [
 
 #[test]
 fn objects_answer_patches_and_deletions(rt: HostRuntime) -> Result<(), Fail> {
-    let text = first_other_answer(rt.alloc(), &ANSWERS)?;
-    is_empty(&rt, text.as_str())
-}
-
-/// Puts objects with as many names.
-fn put_many(alloc: Global, server: &mut Server, count: u32) -> Result<(), Fail> {
-    for number in 0..count {
-        let name = format!(in alloc; "object-{number}")?;
-        let metadata = metadata(alloc, name.as_str())?;
-        server.put(alloc, DynamicObject::bare(metadata))?;
-    }
+    let text = first_other_answer(&rt, rt.alloc(), &ANSWERS);
+    is_empty(&rt, text.as_str());
     Ok(())
 }
 
-/// How many pages of 500 a list has, at most 100, and how many objects are in them.
-fn counted_pages(alloc: Global, conn: &mut Conn) -> Result<String, Fail> {
-    let mut objects: usize = 0;
-    let mut token: Option<Text> = None;
-    for page in 1..100_u32 {
-        let params = ListParams {
-            continue_token: token,
-            ..list_params(alloc, 500, "", "", "")?
-        };
-        let Polled::Ready(Ok(given)) = conn.list(alloc, &params, Moment(0))? else {
-            return Ok(String::from_str(alloc, "fault")?);
-        };
-        objects = objects.wrapping_add(given.items.len());
-        if given.token.is_none() {
-            return Ok(format!(in alloc; "{objects} in {page}")?);
-        }
-        token = given.token;
+/// Puts objects with as many names.
+fn put_many(rt: &impl Abort, alloc: Global, server: &mut Server, count: u32) {
+    for number in 0..count {
+        let name = format!(in alloc; "object-{number}").expect(rt, "memory");
+        stores(rt, alloc, server, metadata(rt, alloc, name.as_str()));
     }
-    Ok(String::from_str(alloc, "no end")?)
+}
+
+/// What is known of a list after a page of it.
+#[derive(Clone, Copy)]
+enum Paged {
+    /// Further pages follow.
+    More,
+    End,
+    Fault,
+}
+
+/// The objects in the pages so far, and the token of the page that follows.
+#[derive(Drop)]
+struct Paging {
+    objects: usize,
+    token: Text,
+}
+
+/// Adds a page.
+fn add_page(
+    rt: &impl Abort,
+    alloc: Global,
+    pages: &mut Paging,
+    answer: &Polled<Result<Page<DynamicObject>, ApiError>>,
+) -> Paged {
+    let Polled::Ready(Ok(given)) = answer else {
+        return Paged::Fault;
+    };
+    pages.objects = pages.objects.wrapping_add(given.items.len());
+    match &given.token {
+        Some(token) => {
+            pages.token = token.copy(alloc).expect(rt, "memory");
+            Paged::More
+        }
+        None => Paged::End,
+    }
+}
+
+/// Asks for the page of 500 that follows, and adds it.
+fn next_page(rt: &impl Abort, alloc: Global, conn: &mut Conn, pages: &mut Paging) -> Paged {
+    let params = list_params(rt, alloc, 500, pages.token.as_str(), "", "");
+    let answer = conn.list(alloc, &params, Moment(0)).expect(rt, "memory");
+    add_page(rt, alloc, pages, &answer)
+}
+
+/// How many pages of 500 a list has, at most 100, and how many objects are in them.
+fn counted_pages(rt: &impl Abort, alloc: Global, conn: &mut Conn) -> String {
+    let mut pages = Paging {
+        objects: 0,
+        token: Text::new(alloc, "").expect(rt, "memory"),
+    };
+    for page in 1..100_u32 {
+        match next_page(rt, alloc, conn, &mut pages) {
+            Paged::More => {}
+            Paged::End => {
+                let objects = pages.objects;
+                return format!(in alloc; "{objects} in {page}").expect(rt, "memory");
+            }
+            Paged::Fault => return owned(rt, alloc, "fault"),
+        }
+    }
+    owned(rt, alloc, "no end")
+}
+
+/// Opens an initial watch.
+fn open(rt: &impl Abort, alloc: Global, conn: &mut Conn) {
+    let params = watch_params(rt, alloc, true, "", "");
+    let _opened = conn
+        .watch(alloc, &params, "", Moment(0))
+        .expect(rt, "memory");
+}
+
+/// What ends the count of events; nothing where an object was added.
+fn counted_event(
+    rt: &impl Abort,
+    alloc: Global,
+    count: u32,
+    answer: &Polled<Option<Result<WatchEvent<DynamicObject>, ApiError>>>,
+) -> Option<String> {
+    match answer {
+        Polled::Ready(Some(Ok(WatchEvent::Added(_)))) => None,
+        Polled::Ready(Some(Ok(WatchEvent::Bookmark(bookmark)))) => {
+            let version = bookmark.version.as_str();
+            Some(format!(in alloc; "{count} at {version}").expect(rt, "memory"))
+        }
+        _ => Some(owned(rt, alloc, "another event")),
+    }
+}
+
+/// The same of the next event.
+fn next_event(rt: &impl Abort, alloc: Global, conn: &mut Conn, count: u32) -> Option<String> {
+    let answer = conn.next(alloc, Moment(0)).expect(rt, "memory");
+    counted_event(rt, alloc, count, &answer)
 }
 
 /// How many events an initial watch gives before its bookmark.
-fn counted_events(alloc: Global, conn: &mut Conn) -> Result<String, Fail> {
-    let _opened = conn.watch(alloc, &watch_params(alloc, true, "", "")?, "", Moment(0))?;
+fn counted_events(rt: &impl Abort, alloc: Global, conn: &mut Conn) -> String {
+    open(rt, alloc, conn);
     for count in 0..30_000_u32 {
-        match conn.next(alloc, Moment(0))? {
-            Polled::Ready(Some(Ok(WatchEvent::Added(_)))) => {}
-            Polled::Ready(Some(Ok(WatchEvent::Bookmark(bookmark)))) => {
-                let version = bookmark.version.as_str();
-                return Ok(format!(in alloc; "{count} at {version}")?);
-            }
-            _ => return Ok(String::from_str(alloc, "another event")?),
+        if let Some(text) = next_event(rt, alloc, conn, count) {
+            return text;
         }
     }
-    Ok(String::from_str(alloc, "no end")?)
+    owned(rt, alloc, "no end")
 }
 
 /// Pages and a watch of a server of many objects.
-fn counted(alloc: Global, count: u32) -> Result<String, Fail> {
-    let mut server = Server::new(alloc, resource(alloc)?);
-    put_many(alloc, &mut server, count)?;
-    let mut conn = Conn::new(alloc, &server)?;
-    let pages = counted_pages(alloc, &mut conn)?;
-    let events = counted_events(alloc, &mut conn)?;
-    Ok(format!(in alloc; "{pages}, {events}")?)
+fn counted(rt: &impl Abort, alloc: Global, count: u32) -> String {
+    let mut server = Server::new(alloc, resource(rt, alloc));
+    put_many(rt, alloc, &mut server, count);
+    let mut conn = Conn::new(alloc, &server).expect(rt, "memory");
+    let pages = counted_pages(rt, alloc, &mut conn);
+    let events = counted_events(rt, alloc, &mut conn);
+    format!(in alloc; "{pages}, {events}").expect(rt, "memory")
 }
 
 #[test]
 fn twenty_thousand_objects_are_listed_and_watched(rt: HostRuntime) -> Result<(), Fail> {
-    let text = counted(rt.alloc(), 20_000)?;
-    is_text(&rt, text.as_str(), "20000 in 40, 20000 at 20000")
+    let text = counted(&rt, rt.alloc(), 20_000);
+    assert_eq!(rt; text.as_str(), "20000 in 40, 20000 at 20000");
+    Ok(())
 }

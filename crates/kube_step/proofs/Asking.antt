@@ -1,17 +1,19 @@
 -- One more ask of a turn, given to what decides.
 use Rattle.std.proofs.Common.{◌≡◌, ℕ, zero, suc, Bool, true, false, ◌||◌, List, [], ◌∷◌, ◌++◌, map, length, Option, Some, None, if◌then◌else◌, refl, sym, ap, ap₂, subst, ◌∙◌, append_assoc, append-nil}
 use Rattle.std.proofs.lemmas.List.{map-append}
-use Rattle.kube_meta.specs.Reference.{Reference}
+use mathlib.Core.List.{IsPrefix}
+use Rattle.kube_meta.specs.declared.metadata.ObjectMeta.{ObjectMeta}
+use Rattle.kube_meta.specs.Reference.{ObjectType, Reference}
 use Rattle.kube_meta.specs.declared.resource.Resource as resource
 use Rattle.kube_model.specs.World.{World}
-use Rattle.kube_model.specs.History.{Dated, Exchange, Turn, Step, dated, dated_of, exchanges, exchanges_of, exchanges_with}
+use Rattle.kube_model.specs.History.{Dated, Exchange, Taken, Turn, Step, dated, dated_of, exchanges, exchanges_of, exchanges_with}
 use Rattle.kube_model.specs.Asks.{next_asked}
 use Rattle.kube_model.specs.Pause.{gave_up}
 use Rattle.kube_model.specs.Shutdowns.{is_shut, asks_shutdown, is_closed}
 use Rattle.kube_model.specs.Named.{RootIsNamed}
 use Rattle.kube_model.specs.Turns.{next_source}
 use Rattle.kube_model.specs.Traces.{IsNext}
-use Rattle.kube_history.specs.CoreWorld.{core_world}
+use Rattle.kube_history.specs.CoreWorld.{CoreWorld, core_world}
 use Rattle.kube_history.specs.CoreEvents.{CoreEvent, Answered, Requested, answers_in}
 use Rattle.kube_history.specs.TurnEvents.{reload_events}
 use Rattle.kube_history.specs.Legal.{MayBeAnswered}
@@ -21,21 +23,53 @@ use Rattle.kube_history.proofs.TurnParts.{turn-fits}
 use Rattle.kube_streams.specs.declared.backoff.Backoff as backoff
 use Rattle.kube_reflect.specs.Cached.{Kept}
 use Rattle.kube_reflect.specs.Exchanged.{IsLeftBy}
-use Rattle.kube_core.specs.Cores.{Parts, StandsFor as CoreStands}
+use Rattle.kube_core.specs.Cores.{Parts, StandsFor as CoreStands, with_room}
 use Rattle.kube_asks.specs.Asking.{Asking, AskStands, IsNextAsked, IsPolledAt, IsBrokenAt, IsLostAt, IfUnnamed, IsWorldOf, with_asked}
 use Rattle.kube_asks.specs.declared.asks.AskFault.{AskFault}
 use Rattle.kube_asks.specs.declared.asks.AskFault.TheVariants as faults
 use Rattle.kube_asks.specs.declared.root.RootSource as root_source
 use Rattle.kube_asks.specs.declared.set.RelatedSet as related_set
-use Rattle.kube_step.specs.Asked.{AllStand, MayAsk, IsOneAsk, AreAsked, AreCutOff, AreEndedBy, IsLeftOrLost, IsLostNext, IsUnnamedNext, AllStored, LastLost, NotAsked, AskedOnce}
+use Rattle.kube_step.specs.Asked.{AllStand, MayAsk, IsOneAsk, AreAsked, AreCutOff, AreEndedBy, AreGivenUntil, AreGivenOrLost, IsLeftOrLost, IsLostNext, IsUnnamedNext, AllGiven, AllStored, LastLost, LastNotGiven, NotAsked, AskedOnce}
 use Rattle.kube_step.specs.Calls.{ArePolled}
 use Rattle.kube_step.specs.Controllers.{IsWorldOfAsks, AsksStand}
-use Rattle.kube_step.specs.Turns.{requests_first}
+use Rattle.kube_step.specs.Turns.{requests_first, AmongTakes, IsEndedBy}
 use Rattle.kube_step.proofs.Trails.{next-append, named-append}
 
 requests-none : (O : Type 0) (at : ℕ) (rs : List Reference) → answers_in {O = O} (map (Requested at) rs) ≡ []
 requests-none O at [] = refl
 requests-none O at (r ∷ rs) = requests-none O at rs
+
+-- the requests of a turn that name the first of its references are the first of its requests
+pub requests-front : {O : Type 0} (at : ℕ) (reload : Bool) (rs rest all : List Reference) → all ≡ rs ++ rest → IsPrefix (requests_first {O = O} at reload rs) (requests_first at reload all)
+requests-front at reload rs rest all e = (
+  map (Requested at) rest,
+  append_assoc (reload_events at reload) (map (Requested at) rs) (map (Requested at) rest) ∙ ap (λ us. reload_events at reload ++ us) (sym (ap (map (Requested at)) e ∙ map-append (Requested at) rs rest)),
+)
+
+-- exchanges that were answered at one moment
+answers-made : {O : Type 0} (at : ℕ) (xs : List (Exchange O)) → answers_in (map (Answered at) xs) ≡ dated at xs
+answers-made at [] = refl
+answers-made at (x ∷ xs) = ap (λ ds. record { at = at; exchange = x } ∷ ds) (answers-made at xs)
+
+-- room makes no difference to what a core stands for
+pub stands-with-room : {K D : Type 0} (type_of : D → ObjectType) (meta : K → ObjectMeta) (world : CoreWorld K) (es : List (CoreEvent K)) (core : Parts K D) (n : ℕ) → CoreStands type_of meta world es core → CoreStands type_of meta world es (with_room core n)
+stands-with-room type_of meta world es core n s = record {
+  world = s.world;
+  legal = s.legal;
+  stored = s.stored;
+  pending = record {
+    limit = s.pending.limit;
+    debounce = s.pending.debounce;
+    events = s.pending.events;
+    scheduled = record { waits = s.pending.scheduled.waits; comes = s.pending.scheduled.comes };
+    seen_as = s.pending.seen_as;
+    running = s.pending.running;
+    once = s.pending.once;
+  };
+  initial = s.initial;
+  clock = s.clock;
+  shut = s.shut;
+}
 
 module _ {O R S : Type 0} (root_polls : R → List (Dated O) → ℕ → Exchange O → R → Type 0) (related_polls : S → ℕ → List (Dated O) → ℕ → Exchange O → S → Type 0) where
   pub polled-append : (before : List (Dated O)) (r : R) (s : S) (ds es : List (Dated O)) (r' : R) (s' : S) (r'' : R) (s'' : S) → ArePolled root_polls related_polls before r s ds r' s' → ArePolled root_polls related_polls (before ++ ds) r' s' es r'' s''
@@ -66,10 +100,33 @@ module _ {R S B O D : Type 0} (root : root_source.Ghosts R O D) (related : relat
   pub left-now : (xs : List (Exchange O)) (es : List (CoreEvent O)) (a : Asking R S B) (core : Parts O D) → MayAsk root related delays object w h t xs es a core → IsLeftBy w.key (exchanges_of 0 (exchanges_with h t xs)) core.writer.kept
   left-now xs es a core m = subst (λ ds. IsLeftBy w.key (exchanges_of 0 ds) core.writer.kept) m.answers m.core_stands.stored
 
-  -- the same over what was asked before
-  left-more : (xs made : List (Exchange O)) (kept : Kept O) → IsLeftOrLost root related w h t xs made kept → IsLeftOrLost root related w h t [] (xs ++ made) kept
-  left-more xs made kept (AllStored l) = AllStored l
-  left-more xs made kept (LastLost stored last e l) = LastLost (xs ++ stored) last (ap (λ ys. xs ++ ys) e ∙ sym (append_assoc xs stored (last ∷ []))) l
+  abbrev Stand : List (CoreEvent O) → Parts O D → Type 0
+  Stand es core = CoreStands object.type_of object.meta_of (core_world w) es core
+
+  -- what is kept is what those left that what decides was given
+  kept-given : (es : List (CoreEvent O)) (before made : List (Exchange O)) (core : Parts O D) → answers_in es ≡ exchanges_with h t before → Stand (es ++ map (Answered t.at) made) core → IsLeftBy w.key (exchanges_of 0 (exchanges_with h t (before ++ made))) core.writer.kept
+  kept-given es before made core e s =
+      subst (λ ds. IsLeftBy w.key (exchanges_of 0 ds) core.writer.kept) (answers-append es (map (Answered t.at) made) ∙ (ap₂ (λ a b. a ++ b) e (answers-made t.at made) ∙ sym (with-more h t before made))) s.stored
+
+  kept-or-lost : (es : List (CoreEvent O)) (before made : List (Exchange O)) (core : Parts O D) → answers_in es ≡ exchanges_with h t before → AreGivenOrLost root related object w h t es made core → IsLeftOrLost root related w h t before made core.writer.kept
+  kept-or-lost es before made core e (AllGiven s) = AllStored (kept-given es before made core e s)
+  kept-or-lost es before made core e (LastNotGiven given last m s) = LastLost given last m (kept-given es before given core e s)
+
+  -- so did the fault
+  pub ended-until : (f : AskFault) (es : List (CoreEvent O)) (before : List (Exchange O)) (r : R) (s : S) (r' : R) (s' : S) (core : Parts O D) → answers_in es ≡ exchanges_with h t before
+      → AreGivenUntil root related object w h t f es before r s r' s' core → AreEndedBy root related w h t f core.writer.kept before r s r' s'
+  ended-until faults.NoMemory es before r s r' s' core e g = (g.0, kept-or-lost es before g.0.made core e g.1)
+  ended-until (faults.Unnamed source) es before r s r' s' core e g = (g.0, kept-given es before g.0.made core e g.1)
+  ended-until faults.Spent es before r s r' s' core e g = absurd g
+
+  -- what was given before and what was given then
+  given-both : (es : List (CoreEvent O)) (xs made : List (Exchange O)) (core : Parts O D) → Stand (es ++ map (Answered t.at) xs ++ map (Answered t.at) made) core → Stand (es ++ map (Answered t.at) (xs ++ made)) core
+  given-both es xs made core s =
+      subst (λ us. Stand us core) (append_assoc es (map (Answered t.at) xs) (map (Answered t.at) made) ∙ ap (λ us. es ++ us) (sym (map-append (Answered t.at) xs made))) s
+
+  given-or-lost-both : (es : List (CoreEvent O)) (xs made : List (Exchange O)) (core : Parts O D) → AreGivenOrLost root related object w h t (es ++ map (Answered t.at) xs) made core → AreGivenOrLost root related object w h t es (xs ++ made) core
+  given-or-lost-both es xs made core (AllGiven s) = AllGiven (given-both es xs made core s)
+  given-or-lost-both es xs made core (LastNotGiven given last m s) = LastNotGiven (xs ++ given) last (ap (λ ys. xs ++ ys) m ∙ sym (append_assoc xs given (last ∷ []))) (given-both es xs given core s)
 
   module _ (xs : List (Exchange O)) (es : List (CoreEvent O)) (a : Asking R S B) (core : Parts O D) (may : MayAsk root related delays object w h t xs es a core) (x : Exchange O) (a' : Asking R S B)
       (asked : IsNextAsked w t.budget (exchanges h) (dated t.at xs) t.at (Some x))
@@ -133,9 +190,6 @@ module _ {R S B O D : Type 0} (root : root_source.Ghosts R O D) (related : relat
     stand-none : AllStand root related a.root a.related (exchanges_with h t (xs ++ []))
     stand-none = subst (λ ys. AllStand root related a.root a.related (exchanges_with h t ys)) (sym (append-nil xs)) may.asks_stand.sources
 
-    left-none : IsLeftBy w.key (exchanges_of 0 (exchanges_with h t (xs ++ []))) core.writer.kept
-    left-none = subst (λ ys. IsLeftBy w.key (exchanges_of 0 (exchanges_with h t ys)) core.writer.kept) (sym (append-nil xs)) (left-now xs es a core may)
-
     -- nothing more was asked, or the next source and no more
     cut-none : (Ends : Option ℕ → ℕ → R → S → R → S → Type 0) → Ends (next_source w h t xs) t.at a.root a.related a'.root a'.related → AreCutOff root related w h t Ends xs a.root a.related a'.root a'.related
     cut-none Ends e = record {
@@ -149,21 +203,24 @@ module _ {R S B O D : Type 0} (root : root_source.Ghosts R O D) (related : relat
       rest = subst (λ ys. Ends (next_source w h t ys) t.at a.root a.related a'.root a'.related) (sym (append-nil xs)) e;
     }
 
-    pub ended-next : (f : AskFault) → (f ≡ faults.NoMemory → (source : ℕ) × IsLostAt root.polls related.polls root.loses related.loses (AllStand root related a.root a.related) at a.root a.related a'.root a'.related source × Found (Some source))
+    given-none : (core' : Parts O D) → Stand es core' → Stand (es ++ []) core'
+    given-none core' s = subst (λ us. Stand us core') (sym (append-nil es)) s
+
+    pub given-next : (f : AskFault) → (f ≡ faults.NoMemory → (source : ℕ) × IsLostAt root.polls related.polls root.loses related.loses (AllStand root related a.root a.related) at a.root a.related a'.root a'.related source × Found (Some source))
         → IfUnnamed f (λ source. IsBrokenAt root.breaks related.breaks at a.root a.related a'.root a'.related source × Found (Some source)) → (f ≡ faults.Spent → a.is_spent ≡ true)
-        → AreEndedBy root related w h t f core.writer.kept xs a.root a.related a'.root a'.related
+        → (core' : Parts O D) → Stand es core' → AreGivenUntil root related object w h t f es xs a.root a.related a'.root a'.related core'
     unfolding cut-none
-    ended-next faults.NoMemory lost unnamed only =
+    given-next faults.NoMemory lost unnamed only core' stand =
         let l = lost refl in (
           cut-none (IsLostNext root related) (AskedOnce l.0 (found-is (Some l.0) l.2) (subst (λ n. IsLostAt root.polls related.polls root.loses related.loses (AllStand root related a.root a.related) n a.root a.related a'.root a'.related l.0) (sym now) l.1)),
-          AllStored left-none,
+          AllGiven (given-none core' stand),
         )
-    ended-next (faults.Unnamed source) lost unnamed only = (
+    given-next (faults.Unnamed source) lost unnamed only core' stand = (
       cut-none (λ next n p q p' q'. IsUnnamedNext root related next n p q p' q' source)
           (record { next_is = found-is (Some source) unnamed.1; broken = subst (λ n. IsBrokenAt root.breaks related.breaks n a.root a.related a'.root a'.related source) (sym now) unnamed.0 }),
-      left-none,
+      given-none core' stand,
     )
-    ended-next faults.Spent lost unnamed only = absurd (let e : false ≡ true = sym may.unspent ∙ only refl in cc)
+    given-next faults.Spent lost unnamed only core' stand = absurd (let e : false ≡ true = sym may.unspent ∙ only refl in cc)
 
     module _ (x : Exchange O) (next : IsNextAsked w t.budget (exchanges h) (dated t.at xs) at (Some x) × AskStands w (root.stands a'.root) (related.stands a'.related) (length (related.feeds a.related)) t.budget (exchanges h) (with_asked (dated t.at xs) at (Some x)) a'.kept)
         (polled : (ds : List (Dated O)) → AllStand root related a.root a.related ds → IsPolledAt root.polls related.polls ds at x a.root a.related a'.root a'.related x.source)
@@ -200,10 +257,10 @@ module _ {R S B O D : Type 0} (root : root_source.Ghosts R O D) (related : relat
         rest = NotAsked refl refl;
       }
 
-      -- what is kept is then what came before it left
-      pub lost-given : (kept : Kept O) → kept ≡ core.writer.kept → AreEndedBy root related w h t faults.NoMemory kept xs a.root a.related a'.root a'.related
+      -- what decides stands then for what came before it
+      pub lost-given : (core' : Parts O D) → Stand es core' → AreGivenUntil root related object w h t faults.NoMemory es xs a.root a.related a'.root a'.related core'
       unfolding lost-after
-      lost-given kept same = (lost-after, LastLost [] x refl (subst (λ k. IsLeftBy w.key (exchanges_of 0 (exchanges_with h t (xs ++ []))) k) (sym same) left-none))
+      lost-given core' stand = (lost-after, LastNotGiven [] x refl (given-none core' stand))
 
   -- one more of those that are asked one after another
   pub asked-push : (es : List (CoreEvent O)) (a : Asking R S B) (xs : List (Exchange O)) (b : Asking R S B) (core' : Parts O D) (x : Exchange O) (b' : Asking R S B) (core'' : Parts O D) → AreAsked root related delays object w h t es a xs b core'
@@ -244,12 +301,13 @@ module _ {R S B O D : Type 0} (root : root_source.Ghosts R O D) (related : relat
     rest = cut.rest;
   }
 
-  pub ended-more : (f : AskFault) (es : List (CoreEvent O)) (a : Asking R S B) (xs : List (Exchange O)) (b : Asking R S B) (core' : Parts O D) (r : R) (s : S) → AreAsked root related delays object w h t es a xs b core'
-      → (kept : Kept O) → AreEndedBy root related w h t f kept xs b.root b.related r s → AreEndedBy root related w h t f kept [] a.root a.related r s
+  pub given-more : (f : AskFault) (es : List (CoreEvent O)) (a : Asking R S B) (xs : List (Exchange O)) (b : Asking R S B) (core' : Parts O D) (r : R) (s : S) → AreAsked root related delays object w h t es a xs b core'
+      → (core'' : Parts O D) → AreGivenUntil root related object w h t f (es ++ map (Answered t.at) xs) xs b.root b.related r s core'' → AreGivenUntil root related object w h t f es [] a.root a.related r s core''
   unfolding cut-more
-  ended-more faults.NoMemory es a xs b core' r s k kept e = (cut-more (IsLostNext root related) es a xs b core' r s k e.0, left-more xs e.0.made kept e.1)
-  ended-more (faults.Unnamed source) es a xs b core' r s k kept e = (cut-more (λ next n p q p' q'. IsUnnamedNext root related next n p q p' q' source) es a xs b core' r s k e.0, e.1)
-  ended-more faults.Spent es a xs b core' r s k kept e = absurd e
+  given-more faults.NoMemory es a xs b core' r s k core'' e = (cut-more (IsLostNext root related) es a xs b core' r s k e.0, given-or-lost-both es xs e.0.made core'' e.1)
+  given-more (faults.Unnamed source) es a xs b core' r s k core'' e =
+      (cut-more (λ next n p q p' q'. IsUnnamedNext root related next n p q p' q' source) es a xs b core' r s k e.0, given-both es xs e.0.made core'' e.1)
+  given-more faults.Spent es a xs b core' r s k core'' e = absurd e
 
   -- nothing more was asked, and memory was wanting
   pub asked-lost : (es : List (CoreEvent O)) (a : Asking R S B) (xs : List (Exchange O)) (b : Asking R S B) (core' : Parts O D) → AreAsked root related delays object w h t es a xs b core'
@@ -265,12 +323,25 @@ module _ {R S B O D : Type 0} (root : root_source.Ghosts R O D) (related : relat
     rest = NotAsked refl refl;
   }
 
+  -- what decides was given all of it then
+  pub given-lost : (es : List (CoreEvent O)) (a : Asking R S B) (xs : List (Exchange O)) (b : Asking R S B) (core' : Parts O D) → AreAsked root related delays object w h t es a xs b core'
+      → AreGivenUntil root related object w h t faults.NoMemory es [] a.root a.related b.root b.related core'
+  unfolding asked-lost
+  given-lost es a xs b core' k = (asked-lost es a xs b core' k, AllGiven k.may.core_stands)
+
   -- what is kept is then what it left
   pub ended-lost : (es : List (CoreEvent O)) (a : Asking R S B) (xs : List (Exchange O)) (b : Asking R S B) (core' : Parts O D) → AreAsked root related delays object w h t es a xs b core'
       → (kept : Kept O) → kept ≡ core'.writer.kept → AreEndedBy root related w h t faults.NoMemory kept [] a.root a.related b.root b.related
   unfolding asked-lost
   ended-lost es a xs b core' k kept same =
       (asked-lost es a xs b core' k, AllStored (subst (λ j. IsLeftBy w.key (exchanges_of 0 (exchanges_with h t xs)) j) (sym same) (left-now xs (es ++ map (Answered t.at) xs) b core' k.may)))
+
+  -- none was left to make, and memory was wanting among the takes
+  pub ended-among : (Left : List (Exchange O) → List (Taken O) → Type 0) (es : List (CoreEvent O)) (a : Asking R S B) (xs : List (Exchange O)) (b : Asking R S B) (core' : Parts O D) → AreAsked root related delays object w h t es a xs b core'
+      → next_source w h t xs ≡ None → (kept : Kept O) → kept ≡ core'.writer.kept → (ts : List (Taken O)) → Left xs ts → IsEndedBy root related w h t Left faults.NoMemory kept ts a.root a.related b.root b.related
+  unfolding asked-lost
+  ended-among Left es a xs b core' k done kept same ts left =
+      (asked-lost es a xs b core' k, AmongTakes done (subst (λ j. IsLeftBy w.key (exchanges_of 0 (exchanges_with h t xs)) j) (sym same) (left-now xs (es ++ map (Answered t.at) xs) b core' k.may)) left)
 
   -- none is left to make
   pub asked-end : (es : List (CoreEvent O)) (a : Asking R S B) (xs : List (Exchange O)) (b : Asking R S B) (core' : Parts O D) (b' : Asking R S B) (core'' : Parts O D) → AreAsked root related delays object w h t es a xs b core'

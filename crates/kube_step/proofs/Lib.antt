@@ -13,3 +13,4 @@ pub mod Finishing
 pub mod Taking
 pub mod Turning
 pub mod Turned
+pub mod Until

@@ -1,5 +1,5 @@
 -- A turn that was taken, from what was done in it.
-use Rattle.std.proofs.Common.{◌≡◌, Bool, true, false, ◌&&◌, ◌||◌, ◌==◌, List, [], ◌∷◌, ◌++◌, map, length, Some, None, if◌then◌else◌, refl, sym, ap, ap₂, subst, ◌∙◌, append_assoc, append-nil}
+use Rattle.std.proofs.Common.{◌≡◌, ℕ, Bool, true, false, ◌&&◌, ◌||◌, ◌==◌, List, [], ◌∷◌, ◌++◌, map, length, Some, None, if◌then◌else◌, refl, sym, ap, ap₂, subst, ◌∙◌, append_assoc, append-nil}
 use Rattle.std.specs.List.{list_any}
 use Rattle.std.proofs.lemmas.Grind.{flat_map-append}
 use Rattle.kube_meta.specs.declared.resource.Resource as resource
@@ -15,11 +15,12 @@ use Rattle.kube_model.specs.Takes.{running}
 use Rattle.kube_model.specs.Named.{RootIsNamed, EachIsNamed}
 use Rattle.kube_model.specs.Turns.{record_with, taken_in}
 use Rattle.kube_model.specs.Traces.{IsRecord, IsValid, AreFinishesOf, step, unread}
-use Rattle.kube_history.specs.CoreWorld.{core_world}
-use Rattle.kube_history.specs.CoreEvents.{CoreEvent, Answered, Requested, Settled, cache_of, running_of, was_shut}
+use Rattle.kube_history.specs.CoreWorld.{CoreWorld, core_world}
+use Rattle.kube_history.specs.CoreEvents.{CoreEvent, Answered, Requested, Settled, answers_in, cache_of, running_of, was_shut}
 use Rattle.kube_history.specs.TurnEvents.{before_takes, closing, finish_event, reload_events, shut_if, takes, was_over}
 use Rattle.kube_history.specs.Agrees.{Agrees}
 use Rattle.kube_history.proofs.Calls.{idle-is}
+use Rattle.kube_history.proofs.Segments.{answers-append}
 use Rattle.kube_streams.specs.declared.backoff.Backoff as backoff
 use Rattle.kube_core.specs.Cores.{Parts, StandsFor as CoreStands}
 use Rattle.kube_asks.specs.Asking.{Asking}
@@ -28,7 +29,7 @@ use Rattle.kube_asks.specs.declared.set.RelatedSet as related_set
 use Rattle.kube_step.specs.Calls.{ArePolled}
 use Rattle.kube_step.specs.Controllers.{IsWorldOfAsks, AsksStand}
 use Rattle.kube_step.specs.Policies.{answered_in}
-use Rattle.kube_step.specs.Turns.{requests_first, MayGoOn, HasGoneOn, IsTaken}
+use Rattle.kube_step.specs.Turns.{requests_first, MayGoOn, HasAsked, IsTaken}
 use Rattle.kube_step.proofs.Records.{record-is, open-made, closed-made, open-shut, closed-shut}
 
 -- what happens to what decides in an open turn, in the order of its calls, before its takes
@@ -43,6 +44,14 @@ events-before es F R X S H r o e =
 pub events-are : {O : Type 0} (es F R X S H T : List (CoreEvent O)) (r o : List (CoreEvent O)) → R ≡ r ++ o
     → es ++ F ++ R ++ X ++ S ++ H ++ T ≡ es ++ (F ++ r ++ o ++ X ++ S ++ H) ++ T
 events-are es F R X S H T r o e = ap (λ us. us ++ T) (events-before es F R X S H r o e)
+
+-- takes leave what is stored
+pub cache-same : {O : Type 0} (core : CoreWorld O) (at : ℕ) (ts : List (Taken O)) (es : List (CoreEvent O)) → cache_of core es ≡ cache_of core (es ++ takes at ts)
+cache-same {O} core at ts es = ap (λ ds. store_of core.key (exchanges_of 0 ds)) (sym (answers-append es (takes at ts) ∙ (ap (λ ds. answers_in es ++ ds) (none-answered ts) ∙ append-nil (answers_in es))))
+  where
+    none-answered : (us : List (Taken O)) → answers_in (takes at us) ≡ []
+    none-answered [] = refl
+    none-answered (u ∷ us) = none-answered us
 
 module _ {O B : Type 0} (w : World O B) (h : List (Step O)) (t : Turn) (q : TurnRecord O) where
   exchanges-after : exchanges (h ++ step t (unread q) ∷ []) ≡ exchanges_with h t q.exchanges
@@ -112,7 +121,9 @@ module _ {R S B O D : Type 0} (root : root_source.Ghosts R O D) (related : relat
 
   -- an open turn
   module _ (a1 a' : Asking R S B) (core' : Parts O D) (xs : List (Exchange O)) (ts : List (Taken O)) (q : TurnRecord O) (o : is_closed w h t ≡ false) (same_root : a1.root ≡ a.root) (same_related : a1.related ≡ a.related)
-      (gone : HasGoneOn root related delays object w h t (es ++ map (finish_event t.at) fs) a1 xs ts a' core')
+      (core1 : Parts O D) (gone : HasAsked root related delays object w h t (es ++ map (finish_event t.at) fs) a1 xs a' core1)
+      (stands : CoreStands object.type_of object.meta_of (core_world w)
+      (es ++ map (finish_event t.at) fs ++ requests_first t.at t.reload t.on ++ map (Answered t.at) xs ++ Settled t.at ∷ [] ++ shut_if (gave_up w (exchanges_with h t xs)) t.at ++ takes t.at ts) core')
       (at : q.at ≡ t.at) (finished : q.finished ≡ fs) (asked : q.exchanges ≡ xs) (stopped : q.stops ≡ stops_of w t.budget (exchanges h) (dated t.at xs) false) (took : q.taken ≡ ts) (runs : q.runner ≡ None) where
     abbrev all : List (CoreEvent O)
     all = es ++ before_takes w h t fs xs ++ takes t.at ts
@@ -123,7 +134,7 @@ module _ {R S B O D : Type 0} (root : root_source.Ghosts R O D) (related : relat
         (reload_events t.at t.reload) (map (Requested t.at) t.on) refl
 
     pub core-now : CoreStands object.type_of object.meta_of (core_world w) all core'
-    core-now = subst (λ us. CoreStands object.type_of object.meta_of (core_world w) us core') all-are gone.core_stands
+    core-now = subst (λ us. CoreStands object.type_of object.meta_of (core_world w) us core') all-are stands
 
     open-is : IsRecord w (answered_in fs) h t (unread (made-of xs)) × (taken_in w h t nothing_read fs xs ≡ ts) × Agrees w (h ++ step t (unread (made-of xs)) ∷ []) all
     open-is = open-made w may.settings may.is_watched h t (answered_in fs) fs es may.parts.agrees v z xs ts o gone.asked.asked gone.done gone.asked.each_named core-now.legal

@@ -8,10 +8,11 @@ use Rattle.kube_meta.specs.Reference.{ObjectType, Reference}
 use Rattle.kube_model.specs.History.{Taken}
 use Rattle.kube_model.specs.Raw.{grown_by}
 use Rattle.kube_history.specs.CoreWorld.{CoreWorld}
-use Rattle.kube_history.specs.CoreEvents.{CoreEvent, Took, next_taken}
+use Rattle.kube_history.specs.CoreEvents.{CoreEvent, Took, clock_of, next_taken}
 use Rattle.kube_history.specs.Legal.{AreLegal}
 use Rattle.kube_history.specs.TurnEvents.{takes}
 use Rattle.kube_history.proofs.Calls.{legal-right}
+use Rattle.kube_history.proofs.Segments.{legal-append}
 use Rattle.kube_core.specs.Cores.{Parts, StandsFor}
 use Rattle.kube_step.specs.HandOvers.{handed, handed_by}
 use Rattle.kube_step.specs.Takes.{taken_so_far}
@@ -74,3 +75,13 @@ module _ {K D : Type 0} (type_of : D → ObjectType) (meta : K → ObjectMeta) (
   -- takes so far are legal
   pub legal-takes : (core : Parts K D) → StandsFor type_of meta world (es ++ taken_so_far at ts) core → AreLegal world es (taken_so_far at ts)
   legal-takes core s = legal-right world [] es (taken_so_far at ts) s.legal
+
+  -- and so is the next one
+  pub legal-next : (core : Parts K D) → StandsFor type_of meta world (es ++ taken_so_far at ts) core → core.clock.0 ≤ at → (v : Taken K) → Some v ≡ next_taken world (es ++ taken_so_far at ts) → AreLegal world es (taken_so_far at (ts ++ v ∷ []))
+  legal-next core s clock v next =
+      let moment = s.clock in
+      subst (AreLegal world es) (sym (map-append (λ t. Took at (Some t)) ts (v ∷ [])))
+      (legal-right world [] es (taken_so_far at ts ++ Took at (Some v) ∷ [])
+      (subst (AreLegal world []) (append_assoc es (taken_so_far at ts) (Took at (Some v) ∷ []))
+      (legal-append world [] (es ++ taken_so_far at ts) (Took at (Some v) ∷ []) s.legal
+      (record { moment = let l : clock_of (es ++ taken_so_far at ts) ≤ at = omega (arith, moment, clock) in l; reply = next }, tt))))

@@ -1,20 +1,22 @@
 -- A turn that was taken, or that want of memory cut off, by the calls that make it.
-use Rattle.std.proofs.Common.{◌≡◌, ℕ, ◌≤◌, Bool, true, false, not, ◌||◌, ◌&&◌, ◌==◌, List, [], ◌∷◌, ◌++◌, map, length, Some, None, if◌then◌else◌, refl, sym, ap, subst, ◌∙◌, append-nil}
+use Rattle.std.proofs.Common.{◌≡◌, ℕ, ◌≤◌, Bool, true, false, not, ◌||◌, ◌&&◌, ◌==◌, List, [], ◌∷◌, ◌++◌, map, length, Some, None, if◌then◌else◌, refl, sym, ap, subst, ◌∙◌, append_assoc, append-nil, arith}
 use Rattle.std.specs.List.{fold}
 use Rattle.kube_meta.specs.declared.resource.Resource as resource
 use Rattle.kube_model.specs.World.{World}
+use Rattle.kube_model.specs.Reads.{nothing_read}
 use Rattle.kube_model.specs.History.{Dated, Exchange, Turn, TurnRecord, Finished, Taken, Step, dated, exchanges, exchanges_of, exchanges_with}
 use Rattle.kube_model.specs.Asks.{stops_of}
 use Rattle.kube_model.specs.Pause.{gave_up}
 use Rattle.kube_model.specs.Shutdowns.{asks_shutdown, is_closed, is_forced}
 use Rattle.kube_model.specs.Takes.{Running, running}
+use Rattle.kube_model.specs.Turns.{taken_in}
 use Rattle.kube_model.specs.Traces.{IsValid, AreFinishesOf}
 use Rattle.kube_history.specs.CoreWorld.{core_world}
 use Rattle.kube_history.specs.CoreEvents.{CoreEvent, Answered, Requested, Settled, cache_of, clock_of, running_of, running_with, was_shut}
 use Rattle.kube_history.specs.TurnEvents.{before_takes, closing, finish_event, reload_events, shut_if, takes}
 use Rattle.kube_history.specs.Agrees.{Agrees}
 use Rattle.kube_history.specs.Legal.{AreLegal}
-use Rattle.kube_history.proofs.Segments.{running-append}
+use Rattle.kube_history.proofs.Segments.{legal-append, running-append}
 use Rattle.kube_streams.specs.declared.backoff.Backoff as backoff
 use Rattle.kube_reflect.specs.Cached.{Kept}
 use Rattle.kube_reflect.specs.Exchanged.{IsLeftBy}
@@ -29,11 +31,10 @@ use Rattle.kube_step.specs.Controllers.{IsWorldOfAsks, AsksStand}
 use Rattle.kube_step.specs.Errors.{IfUnnamedAsk}
 use Rattle.kube_step.specs.Policies.{answered_in}
 use Rattle.kube_step.specs.Takes.{taken_so_far}
-use Rattle.kube_step.specs.Turns.{requests_first, MayGoOn, HasGoneOn, HasTakenFirst, TookNone, TookThese, AreFirstTakes, NoneTaken, FrontTaken, IsTaken}
-use Rattle.kube_step.proofs.Asking.{ended-lost}
+use Rattle.kube_step.specs.Turns.{requests_first, MayGoOn, HasAsked, BeforeTakes, IsEndedBy, IsTaken}
+use Rattle.kube_step.proofs.Asking.{ended-among, ended-lost}
 use Rattle.kube_step.proofs.Fronts.{takes-front}
-use Rattle.kube_step.proofs.OneTurn.{events-are, events-before, open-taken, closed-taken, core-now}
-use Rattle.kube_step.proofs.Records.{open-made}
+use Rattle.kube_step.proofs.OneTurn.{cache-same, events-are, events-before, open-taken, closed-taken, core-now}
 use Rattle.kube_step.proofs.Turning.{closed-is, closing-is, begun-world, begun-stands, begun-unspent, may-ask-first}
 
 -- a shutdown leaves what runs
@@ -45,6 +46,13 @@ pub if-unnamed : (f : AskFault) (P : Type 0) → P → IfUnnamedAsk f (λ source
 if-unnamed (faults.Unnamed source) P p = p
 if-unnamed faults.NoMemory P p = tt
 if-unnamed faults.Spent P p = tt
+
+-- a fault before the takes ends the turn so
+pub before-takes : {R S O D B : Type 0} (root : root_source.Ghosts R O D) (related : related_set.Ghosts S O D) (w : World O B) (h : List (Step O)) (t : Turn) (Left : List (Exchange O) → List (Taken O) → Type 0)
+    (f : AskFault) (kept : Kept O) (r : R) (s : S) (r' : R) (s' : S) → AreEndedBy root related w h t f kept [] r s r' s' → IsEndedBy root related w h t Left f kept [] r s r' s'
+before-takes root related w h t Left faults.NoMemory kept r s r' s' e = (e.0, BeforeTakes refl e.1)
+before-takes root related w h t Left (faults.Unnamed source) kept r s r' s' e = (e, refl)
+before-takes root related w h t Left faults.Spent kept r s r' s' e = absurd e
 
 pub not-false : (b : Bool) → not b ≡ true → b ≡ false
 not-false true e = absurd (cc)
@@ -139,84 +147,91 @@ module _ {R S B O D : Type 0} (root : root_source.Ghosts R O D) (related : relat
         (subst (λ q. AreEndedBy root related w h t f kept [] a1.root q r s) same-related
         (e.1 (es ++ map (finish_event t.at) fs) (may-first (not-false closed e.0))))
 
-    module _ (v : IsValid h t) (z : AreFinishesOf (answered_in fs) (running h) t.finishes fs) where
-      -- takes of a turn under way are those that it makes first
-      pub front-first : (ts : List (Taken O)) → not closed ≡ true → ((us : List (CoreEvent O)) → MayAsk root related delays object w h t [] us a1 core2 → HasTakenFirst w h t us ts) → AreFirstTakes w h t ts
-      front-first ts e had = go (had (es ++ map (finish_event t.at) fs) (may-first (not-false closed e)))
+    module _ (v : IsValid h t) (z : AreFinishesOf (answered_in fs) (running h) t.finishes fs) (xs : List (Exchange O)) (a' : Asking R S B) (core3 : Parts O D)
+        (stayed : not closed ≡ false → (xs ≡ []) × (a' ≡ a1) × (core3 ≡ core2))
+        (went : not closed ≡ true → (us : List (CoreEvent O)) → MayAsk root related delays object w h t [] us a1 core2 → HasAsked root related delays object w h t us a1 xs a' core3) where
+      went-now : closed ≡ false → HasAsked root related delays object w h t (es ++ map (finish_event t.at) fs) a1 xs a' core3
+      went-now e = went (ap not e) (es ++ map (finish_event t.at) fs) (may-first e)
+
+      -- what happened to what decides before the takes of an open turn
+      abbrev asked-all : List (CoreEvent O)
+      asked-all = es ++ map (finish_event t.at) fs ++ requests_first t.at t.reload t.on ++ map (Answered t.at) xs ++ Settled t.at ∷ [] ++ shut_if (gave_up w (exchanges_with h t xs)) t.at
+
+      -- memory was wanting before the takes
+      pub lost-asked : core2.writer.kept ≡ core.writer.kept → AreEndedBy root related w h t faults.NoMemory core3.writer.kept [] a.root a.related a'.root a'.related
+      lost-asked same-kept = go closed refl
         where
-          go : HasTakenFirst w h t (es ++ map (finish_event t.at) fs) ts → AreFirstTakes w h t ts
-          go (TookNone none) = NoneTaken none
-          go (TookThese xs asked done clock legal) =
-              let before =
-              events-before es (map (finish_event t.at) fs) (requests_first t.at t.reload t.on) (map (Answered t.at) xs) (Settled t.at ∷ []) (shut_if (gave_up w (exchanges_with h t xs)) t.at)
-              (reload_events t.at t.reload) (map (Requested t.at) t.on) refl in
-              let all =
-              events-are es (map (finish_event t.at) fs) (requests_first t.at t.reload t.on) (map (Answered t.at) xs) (Settled t.at ∷ []) (shut_if (gave_up w (exchanges_with h t xs)) t.at) (taken_so_far t.at ts)
-              (reload_events t.at t.reload) (map (Requested t.at) t.on) refl in
-              let front =
-              takes-front w may.settings may.is_watched (answered_in fs) h t fs xs ts es (closed-now w h t es may.parts.agrees closed k ∙ not-false closed e) may.parts.agrees v z asked done
-              (subst (λ us. clock_of us ≤ t.at) before clock) (subst (AreLegal (core_world w) []) all legal) in
-              FrontTaken fs xs front.0 z asked done front.1
+          go : (b : Bool) → closed ≡ b → AreEndedBy root related w h t faults.NoMemory core3.writer.kept [] a.root a.related a'.root a'.related
+          go true e =
+              subst (λ (c : Asking R S B). AreEndedBy root related w h t faults.NoMemory core3.writer.kept [] a.root a.related c.root c.related) (sym (stayed (ap not e)).1)
+              (ended-none core3.writer.kept (ap (λ (q : Parts O D). q.writer.kept) (stayed (ap not e)).2 ∙ same-kept))
+          go false e =
+              let g = went-now e in
+              subst (λ p. AreEndedBy root related w h t faults.NoMemory core3.writer.kept [] p a.related a'.root a'.related) same-root
+              (subst (λ q. AreEndedBy root related w h t faults.NoMemory core3.writer.kept [] a1.root q a'.root a'.related) same-related
+              (ended-lost root related delays object w h t (es ++ map (finish_event t.at) fs ++ requests_first t.at t.reload t.on) a1 xs a' g.asked_core g.asked core3.writer.kept g.kept))
 
-      -- what follows was done whole
-      module _ (xs : List (Exchange O)) (ts : List (Taken O)) (a' : Asking R S B) (core' : Parts O D)
-          (stayed : not closed ≡ false → (xs ≡ []) × (ts ≡ []) × (a' ≡ a1) × (core' ≡ core2))
-          (gone : not closed ≡ true → (us : List (CoreEvent O)) → MayAsk root related delays object w h t [] us a1 core2 → HasGoneOn root related delays object w h t us a1 xs ts a' core') where
-        gone-now : closed ≡ false → HasGoneOn root related delays object w h t (es ++ map (finish_event t.at) fs) a1 xs ts a' core'
-        gone-now e = gone (ap not e) (es ++ map (finish_event t.at) fs) (may-first e)
+      -- memory was wanting among the takes, of which one was left
+      pub lost-taking : not closed ≡ true → core3.clock.0 ≤ t.at → (kept : Kept O) → kept ≡ core3.writer.kept → (ts : List (Taken O))
+          → ((us : List (CoreEvent O)) → CoreStands object.type_of object.meta_of (core_world w) us core3 → (left : Taken O) × AreLegal (core_world w) us (taken_so_far t.at (ts ++ left ∷ [])))
+          → (Left : List (Exchange O) → List (Taken O) → Type 0) → ((left : Taken O) (rest : List (Taken O)) → taken_in w h t nothing_read fs xs ≡ ts ++ left ∷ rest → Left xs ts)
+          → IsEndedBy root related w h t Left faults.NoMemory kept ts a.root a.related a'.root a'.related
+      lost-taking e clock kept same ts legal Left says =
+          let o = not-false closed e in
+          let g = went-now o in
+          let l = legal asked-all g.core_stands in
+          let so-far = g.core_stands.clock in
+          let moment : clock_of asked-all ≤ t.at = omega (arith, so-far, clock) in
+          let before =
+          events-before es (map (finish_event t.at) fs) (requests_first t.at t.reload t.on) (map (Answered t.at) xs) (Settled t.at ∷ []) (shut_if (gave_up w (exchanges_with h t xs)) t.at)
+          (reload_events t.at t.reload) (map (Requested t.at) t.on) refl in
+          let all =
+          events-are es (map (finish_event t.at) fs) (requests_first t.at t.reload t.on) (map (Answered t.at) xs) (Settled t.at ∷ []) (shut_if (gave_up w (exchanges_with h t xs)) t.at) (taken_so_far t.at (ts ++ l.0 ∷ []))
+          (reload_events t.at t.reload) (map (Requested t.at) t.on) refl in
+          let front =
+          takes-front w may.settings may.is_watched (answered_in fs) h t fs xs (ts ++ l.0 ∷ []) es (closed-now w h t es may.parts.agrees closed k ∙ o) may.parts.agrees v z g.asked.asked g.done
+          (subst (λ us. clock_of us ≤ t.at) before moment)
+          (subst (AreLegal (core_world w) []) all (legal-append (core_world w) [] asked-all (taken_so_far t.at (ts ++ l.0 ∷ [])) g.core_stands.legal l.1)) in
+          let left = says l.0 front.0 (front.1 ∙ append_assoc ts (l.0 ∷ []) front.0) in
+          subst (λ p. IsEndedBy root related w h t Left faults.NoMemory kept ts p a.related a'.root a'.related) same-root
+          (subst (λ q. IsEndedBy root related w h t Left faults.NoMemory kept ts a1.root q a'.root a'.related) same-related
+          (ended-among root related delays object w h t Left (es ++ map (finish_event t.at) fs ++ requests_first t.at t.reload t.on) a1 xs a' g.asked_core g.asked g.done kept (same ∙ g.kept) ts left))
 
-        pub front-whole : AreFirstTakes w h t ts
-        front-whole = go closed refl
+      -- the takes were made whole
+      module _ (ts : List (Taken O)) (core' : Parts O D) (rested : not closed ≡ false → (ts ≡ []) × (core' ≡ core3))
+          (took : not closed ≡ true → (us : List (CoreEvent O)) → CoreStands object.type_of object.meta_of (core_world w) us core3 → CoreStands object.type_of object.meta_of (core_world w) (us ++ takes t.at ts) core')
+          (q : TurnRecord O) (at : q.at ≡ t.at) (finished : q.finished ≡ fs) (asked : q.exchanges ≡ xs) (taken : q.taken ≡ ts) (runs : q.runner ≡ None)
+          (stopped : (n : List ℕ) (before mine : List (Dated O)) → IsWorldOfAsks root related delays object w a' → AsksStand root related delays object w n before mine a' → q.stops ≡ stops_of w n before mine closed)
+          (shown : (us : List (CoreEvent O)) → CoreStands object.type_of object.meta_of (core_world w) us core3 → q.store ≡ (if t.show then Some (cache_of (core_world w) us) else None))
+          (ends : (us : List (CoreEvent O)) → CoreStands object.type_of object.meta_of (core_world w) us core' → q.ended ≡ (is_forced t.shutdown || was_shut us && (length (running_of us) == 0))) where
+        pub turned : IsTaken root related delays object w h t a q a' core'
+        turned = go closed refl
           where
-            go : (b : Bool) → closed ≡ b → AreFirstTakes w h t ts
-            go true e = NoneTaken (stayed (ap not e)).1
-            go false e =
-                let g = gone-now e in
-                let legal =
-                subst (AreLegal (core_world w) [])
-                (events-are es (map (finish_event t.at) fs) (requests_first t.at t.reload t.on) (map (Answered t.at) xs) (Settled t.at ∷ []) (shut_if (gave_up w (exchanges_with h t xs)) t.at) (takes t.at ts)
-                (reload_events t.at t.reload) (map (Requested t.at) t.on) refl) g.core_stands.legal in
-                let made = open-made w may.settings may.is_watched h t (answered_in fs) fs es may.parts.agrees v z xs ts (closed-now w h t es may.parts.agrees closed k ∙ e) g.asked.asked g.done g.asked.each_named legal in
-                FrontTaken fs xs [] z g.asked.asked g.done (made.1 ∙ sym (append-nil ts))
-
-        -- and then memory was wanting
-        pub lost-whole : core2.writer.kept ≡ core.writer.kept → AreEndedBy root related w h t faults.NoMemory core'.writer.kept [] a.root a.related a'.root a'.related
-        lost-whole same-kept = go closed refl
-          where
-            go : (b : Bool) → closed ≡ b → AreEndedBy root related w h t faults.NoMemory core'.writer.kept [] a.root a.related a'.root a'.related
+            go : (b : Bool) → closed ≡ b → IsTaken root related delays object w h t a q a' core'
             go true e =
-                subst (λ (c : Asking R S B). AreEndedBy root related w h t faults.NoMemory core'.writer.kept [] a.root a.related c.root c.related) (sym (stayed (ap not e)).2)
-                (ended-none core'.writer.kept (ap (λ (q : Parts O D). q.writer.kept) (stayed (ap not e)).3 ∙ same-kept))
+                let stay = stayed (ap not e) in
+                let rest = rested (ap not e) in
+                let before = subst (λ c. CoreStands object.type_of object.meta_of (core_world w) (es ++ closing w h t fs) c) (sym stay.2)
+                (subst (λ us. CoreStands object.type_of object.meta_of (core_world w) us core2) (closed-events w h t es may.parts.agrees closed k e fs) core_stands) in
+                let now = subst (λ c. CoreStands object.type_of object.meta_of (core_world w) (es ++ closing w h t fs) c) (sym rest.1) before in
+                let world = subst (IsWorldOfAsks root related delays object w) (sym stay.1) (begun-world root related delays object w h t a core may a1 budget same begun stands) in
+                let sources = subst (AsksStand root related delays object w t.budget (exchanges h) []) (sym stay.1) (begun-stands root related delays object w h t a core may a1 budget same begun stands) in
+                closed-taken root related delays object w h t a core may v fs z a' core' q (closed-now w h t es may.parts.agrees closed k ∙ e)
+                (ap (λ (c : Asking R S B). c.root) stay.1 ∙ same-root) (ap (λ (c : Asking R S B). c.related) stay.1 ∙ same-related) world sources
+                (ap (λ (c : Asking R S B). c.is_spent) stay.1 ∙ begun-unspent root related delays object w h t a core may a1 budget same begun stands) now
+                at finished (asked ∙ stay.0) (stopped t.budget (exchanges h) [] world sources ∙ ap (stops_of w t.budget (exchanges h) []) e) (taken ∙ rest.0) runs
+                (shown (es ++ closing w h t fs) before) (ends (es ++ closing w h t fs) now)
             go false e =
-                let g = gone-now e in
-                subst (λ p. AreEndedBy root related w h t faults.NoMemory core'.writer.kept [] p a.related a'.root a'.related) same-root
-                (subst (λ q. AreEndedBy root related w h t faults.NoMemory core'.writer.kept [] a1.root q a'.root a'.related) same-related
-                (ended-lost root related delays object w h t (es ++ map (finish_event t.at) fs ++ requests_first t.at t.reload t.on) a1 xs a' g.asked_core g.asked core'.writer.kept g.kept))
-
-        module _ (q : TurnRecord O) (at : q.at ≡ t.at) (finished : q.finished ≡ fs) (asked : q.exchanges ≡ xs) (took : q.taken ≡ ts) (runs : q.runner ≡ None)
-            (stopped : (n : List ℕ) (before mine : List (Dated O)) → IsWorldOfAsks root related delays object w a' → AsksStand root related delays object w n before mine a' → q.stops ≡ stops_of w n before mine closed)
-            (shown : (us : List (CoreEvent O)) → CoreStands object.type_of object.meta_of (core_world w) us core' → q.store ≡ (if t.show then Some (cache_of (core_world w) us) else None))
-            (ends : (us : List (CoreEvent O)) → CoreStands object.type_of object.meta_of (core_world w) us core' → q.ended ≡ (is_forced t.shutdown || was_shut us && (length (running_of us) == 0))) where
-          pub turned : IsTaken root related delays object w h t a q a' core'
-          turned = go closed refl
-            where
-              go : (b : Bool) → closed ≡ b → IsTaken root related delays object w h t a q a' core'
-              go true e =
-                  let stay = stayed (ap not e) in
-                  let now = subst (λ c. CoreStands object.type_of object.meta_of (core_world w) (es ++ closing w h t fs) c) (sym stay.3)
-                  (subst (λ us. CoreStands object.type_of object.meta_of (core_world w) us core2) (closed-events w h t es may.parts.agrees closed k e fs) core_stands) in
-                  let world = subst (IsWorldOfAsks root related delays object w) (sym stay.2) (begun-world root related delays object w h t a core may a1 budget same begun stands) in
-                  let sources = subst (AsksStand root related delays object w t.budget (exchanges h) []) (sym stay.2) (begun-stands root related delays object w h t a core may a1 budget same begun stands) in
-                  closed-taken root related delays object w h t a core may v fs z a' core' q (closed-now w h t es may.parts.agrees closed k ∙ e)
-                  (ap (λ (c : Asking R S B). c.root) stay.2 ∙ same-root) (ap (λ (c : Asking R S B). c.related) stay.2 ∙ same-related) world sources
-                  (ap (λ (c : Asking R S B). c.is_spent) stay.2 ∙ begun-unspent root related delays object w h t a core may a1 budget same begun stands) now
-                  at finished (asked ∙ stay.0) (stopped t.budget (exchanges h) [] world sources ∙ ap (stops_of w t.budget (exchanges h) []) e) (took ∙ stay.1) runs
-                  (shown (es ++ closing w h t fs) now) (ends (es ++ closing w h t fs) now)
-              go false e =
-                  let g = gone-now e in
-                  let o : is_closed w h t ≡ false = closed-now w h t es may.parts.agrees closed k ∙ e in
-                  let stops : q.stops ≡ stops_of w t.budget (exchanges h) (dated t.at xs) false =
-                  stopped t.budget (exchanges h) (dated t.at xs) g.asked.may.world g.asked.may.asks_stand ∙ ap (stops_of w t.budget (exchanges h) (dated t.at xs)) e in
-                  let now = core-now root related delays object w h t a core may v fs z a1 a' core' xs ts q o same-root same-related g at finished asked stops took runs in
-                  open-taken root related delays object w h t a core may v fs z a1 a' core' xs ts q o same-root same-related g at finished asked stops took runs
-                  (shown (es ++ before_takes w h t fs xs ++ takes t.at ts) now) (ends (es ++ before_takes w h t fs xs ++ takes t.at ts) now)
+                let g = went-now e in
+                let o : is_closed w h t ≡ false = closed-now w h t es may.parts.agrees closed k ∙ e in
+                let all = took (ap not e) asked-all g.core_stands in
+                let stops : q.stops ≡ stops_of w t.budget (exchanges h) (dated t.at xs) false =
+                stopped t.budget (exchanges h) (dated t.at xs) g.asked.may.world g.asked.may.asks_stand ∙ ap (stops_of w t.budget (exchanges h) (dated t.at xs)) e in
+                let now = core-now root related delays object w h t a core may v fs z a1 a' core' xs ts q o same-root same-related core3 g all at finished asked stops taken runs in
+                let before =
+                events-before es (map (finish_event t.at) fs) (requests_first t.at t.reload t.on) (map (Answered t.at) xs) (Settled t.at ∷ []) (shut_if (gave_up w (exchanges_with h t xs)) t.at)
+                (reload_events t.at t.reload) (map (Requested t.at) t.on) refl in
+                open-taken root related delays object w h t a core may v fs z a1 a' core' xs ts q o same-root same-related core3 g all at finished asked stops taken runs
+                (shown (es ++ before_takes w h t fs xs) (subst (λ us. CoreStands object.type_of object.meta_of (core_world w) us core3) before g.core_stands)
+                ∙ ap (λ os. if t.show then Some os else None) (cache-same (core_world w) t.at ts (es ++ before_takes w h t fs xs)))
+                (ends (es ++ before_takes w h t fs xs ++ takes t.at ts) now)

@@ -70,6 +70,20 @@ module _ {R S O D : Type 0} (root : root_source.Ghosts R O D) (related : related
         (cut : AreCutOff (λ next at p q p' q'. IsUnnamedNext next at p q p' q' source) before r s r' s') × IsLeftAfter (before ++ cut.made) kept
     AreEndedBy faults.Spent kept before r s r' s' = ⊥
 
+module _ {R S O D : Type 0} (root : root_source.Ghosts R O D) (related : related_set.Ghosts S O D) (object : resource.Ghosts O D) {B : Type 0} (w : World O B) (h : List (Step O)) (t : Turn) where
+  -- what decides stands for these events and then all of these exchanges, or all but the last, for which memory was wanting
+  pub data AreGivenOrLost (es : List (CoreEvent O)) (made : List (Exchange O)) (core : Parts O D) : Type 0 where
+    AllGiven : CoreStands object.type_of object.meta_of (core_world w) (es ++ map (Answered t.at) made) core → AreGivenOrLost es made core
+    LastNotGiven : (given : List (Exchange O)) (last : Exchange O) → made ≡ given ++ last ∷ [] → CoreStands object.type_of object.meta_of (core_world w) (es ++ map (Answered t.at) given) core → AreGivenOrLost es made core
+
+  -- after exchanges that a turn made more were made until this fault, and given to what decides, which stood for these events: all of them, or, where memory was wanting, maybe all but the last
+  abbrev pub AreGivenUntil : AskFault → List (CoreEvent O) → List (Exchange O) → R → S → R → S → Parts O D → Type 0
+  AreGivenUntil faults.NoMemory es before r s r' s' core = (cut : AreCutOff root related w h t (IsLostNext root related) before r s r' s') × AreGivenOrLost es cut.made core
+  AreGivenUntil (faults.Unnamed source) es before r s r' s' core =
+      (cut : AreCutOff root related w h t (λ next at p q p' q'. IsUnnamedNext root related next at p q p' q' source) before r s r' s')
+      × CoreStands object.type_of object.meta_of (core_world w) (es ++ map (Answered t.at) cut.made) core
+  AreGivenUntil faults.Spent es before r s r' s' core = ⊥
+
 module _ {R S B O D : Type 0} (root : root_source.Ghosts R O D) (related : related_set.Ghosts S O D) (delays : backoff.Ghosts B) (object : resource.Ghosts O D) (w : World O B) (h : List (Step O)) (t : Turn) where
   -- an open turn after a history may go on after these exchanges of it; these events are those of what decides. The root lists and watches
   pub record MayAsk (xs : List (Exchange O)) (es : List (CoreEvent O)) (a : Asking R S B) (core : Parts O D) : Type 0 where

@@ -1,13 +1,15 @@
 -- What was done with the finishes of a turn, with their faults and actions. K is the type of objects, D that of their dynamic types, E that of faults.
-use Rattle.std.specs.Prelude.{◌≡◌, List, Option, Some, None, Result, Ok, Err}
+use Rattle.std.specs.Prelude.{◌≡◌, List, map, length, take, Option, Some, None, Result, Ok, Err}
 use Rattle.std.specs.List.{AllZip}
 use Rattle.kube_meta.specs.Reference.{ObjectType}
 use Rattle.kube_meta.specs.Keys.{reference_of}
 use Rattle.kube_meta.specs.declared.action.Action.{Action}
+use Rattle.kube_model.specs.History.{Finished as PlainFinished}
 use Rattle.kube_model.specs.Takes.{Running}
 use Rattle.kube_model.specs.Traces.{handed_over}
 use Rattle.kube_turn.specs.declared.turn.Finish.{Finish}
 use Rattle.kube_turn.specs.declared.record.Finished.{Finished}
+use Rattle.kube_turn.specs.Records.{finished_of}
 
 -- policy says what the error policy answered of an object and a fault
 module _ {K E : Type 0} (policy : K → E → Action → Type 0) where
@@ -30,3 +32,11 @@ module _ {K D E : Type 0} (type_of : D → ObjectType) (policy : K → E → Act
   -- the finishes of a record, in the order of the turn's; running are those that ran before it
   abbrev pub AreFinished : List (Running K) → List (Finish K E D) → List (Finished K E D) → Type 0
   AreFinished running fs gs = AllZip (IsFinished running) fs gs
+
+  -- the same without what the faults say
+  abbrev pub AreFinishedSo : List (Running K) → List (Finish K E D) → List PlainFinished → Type 0
+  AreFinishedSo running fs plain = (gs : List (Finished K E D)) × AreFinished running fs gs × (plain ≡ map (finished_of type_of) gs)
+
+  -- these are the first of them, as many as they are
+  abbrev pub AreFinishedFirst : List (Running K) → List (Finish K E D) → List PlainFinished → Type 0
+  AreFinishedFirst running fs plain = AreFinishedSo running (take (length plain) fs) plain

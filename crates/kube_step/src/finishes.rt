@@ -1,9 +1,9 @@
 //! The finishes of a turn.
 
-ghost use Rattle.std.specs.Prelude.{◌≡◌, ◌≤◌, ◌++◌, ◌∷◌, [], List, IfOk, OnOk, map, option_map, option_copied, true};
+ghost use Rattle.std.specs.Prelude.{◌≡◌, ◌≤◌, ◌++◌, ◌∷◌, [], List, IfOk, OnOk, OnErr, map, option_map, option_copied, true};
 ghost use Rattle.std.specs.Arc.{arc_value};
 ghost use Rattle.kube_meta.specs.Keys.{reference_of};
-ghost use Rattle.kube_model.specs.History.{Step, Turn as PlainTurn};
+ghost use Rattle.kube_model.specs.History.{Finished as PlainFinished, Step, Turn as PlainTurn};
 ghost use Rattle.kube_model.specs.Takes.{running, runs};
 ghost use Rattle.kube_model.specs.Traces.{IsValid};
 ghost use Rattle.kube_history.specs.CoreWorld.{CoreWorld};
@@ -12,7 +12,7 @@ ghost use Rattle.kube_history.specs.TurnEvents.{finish_event};
 ghost use Rattle.kube_core.specs.Cores.{StandsFor};
 ghost use Rattle.kube_core.specs.Pendings.{handed_over};
 ghost use Rattle.kube_turn.specs.Records.{finish_of, finished_of};
-ghost use Rattle.kube_step.specs.Finishes.{AreFinished, IsActionFor};
+ghost use Rattle.kube_step.specs.Finishes.{AreFinished, AreFinishedFirst, IsActionFor};
 ghost use Rattle.kube_step.specs.Policies.{Answers};
 
 use kube_core::Core;
@@ -86,6 +86,7 @@ where
     ensures stands { IfOk result (λ g. (world : CoreWorld K) (es : List (CoreEvent K)) → StandsFor K.type_of K.meta_of world es core.old
         → runs (running_of es) (reference_of K.type_of finish.reference) ≡ true
         → StandsFor K.type_of K.meta_of world (es ++ finish_event at.0 (finished_of K.type_of g) ∷ []) core.new) }
+    ensures left { OnErr result (core.new ≡ core.old) }
 {
     let Finish { reference, outcome } = finish;
     let action = action_of(error_policy, context, core.running(&reference), &outcome)?;
@@ -101,7 +102,8 @@ where
 ///
 /// # Errors
 ///
-/// `NoMemory` where there is none for the list, or for what the error policy is handed.
+/// `NoMemory` where there is none for the list, or for what the error policy is handed; the first of the references run no
+/// more then, each with its action, and the others run on.
 pub fn finish_all<K: Resource, P, Ctx: Drop, E: Drop>(
     core: &mut Core<K>,
     error_policy: &P,
@@ -122,6 +124,11 @@ where
     ensures stands { IfOk result (λ gs. (world : CoreWorld K) (es : List (CoreEvent K)) (h : List (Step K)) (t : PlainTurn) → StandsFor K.type_of K.meta_of world es core.old
         → running_of es ≡ running h → IsValid h t → t.finishes ≡ map (finish_of K.type_of) finishes
         → StandsFor K.type_of K.meta_of world (es ++ map (finish_event at.0) (map (finished_of K.type_of) gs)) core.new) }
+    // where memory is wanting, the first of them were done so, and nothing else
+    ensures left { OnErr result ((gs : List PlainFinished) × ((world : CoreWorld K) (es : List (CoreEvent K)) (h : List (Step K)) (t : PlainTurn) → StandsFor K.type_of K.meta_of world es core.old
+        → running_of es ≡ running h → IsValid h t → t.finishes ≡ map (finish_of K.type_of) finishes
+        → AreFinishedFirst K.type_of (Answers P.Fn error_policy.now (arc_value context.now)) (running h) finishes gs
+        × StandsFor K.type_of K.meta_of world (es ++ map (finish_event at.0) gs) core.new)) }
 {
     let mut finished = List::new(alloc);
     for finish in Vec::from(finishes) {

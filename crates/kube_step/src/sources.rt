@@ -3,16 +3,14 @@
 ghost use Rattle.std.specs.Prelude.{◌≡◌, ◌<◌, ◌≤◌, ◌+◌, ◌^◌, ◌++◌, ◌∷◌, [], List, length, map, option_map, IfOk, IfErr, IfSome, OnOk, OnErr, None};
 ghost use Rattle.kube_model.specs.World.{World};
 ghost use Rattle.kube_model.specs.History.{Exchange, Step, Turn};
-ghost use Rattle.kube_model.specs.Traces.{EachIsNext};
 ghost use Rattle.kube_model.specs.Turns.{next_source};
-ghost use Rattle.kube_history.specs.CoreWorld.{CoreWorld, core_world};
+ghost use Rattle.kube_history.specs.CoreWorld.{CoreWorld};
 ghost use Rattle.kube_history.specs.CoreEvents.{CoreEvent, Answered, answers_in};
 ghost use Rattle.kube_history.specs.Legal.{MayBeAnswered};
 ghost use Rattle.kube_core.specs.Cores.{HasSameHandles, StandsFor as CoreStands, with_room};
 ghost use Rattle.kube_turn.specs.Views.{exchange_of};
 ghost use Rattle.kube_asks.specs.Kept.{total};
-ghost use Rattle.kube_step.specs.Asked.{AreAsked, AreEndedBy, IsAsked, MayAsk};
-ghost use Rattle.kube_step.specs.Errors.{IfUnnamedAsk};
+ghost use Rattle.kube_step.specs.Asked.{AreAsked, AreEndedBy, AreGivenUntil, IsAsked, MayAsk};
 
 use kube_asks::{AskFault, Asks, Backoff, RelatedSet, RootSource};
 use kube_core::Core;
@@ -59,10 +57,9 @@ fn ask_one<R: RootSource, S: RelatedSet<R::Object>, B: Backoff>(
     ensures asked { IfOk result (λ o. (w : World R.Object B) (h : List (Step R.Object)) (t : Turn) (xs : List (Exchange R.Object)) (es : List (CoreEvent R.Object)) → t.at ≡ now.0
         → MayAsk R.RootSource S.RelatedSet B.Backoff R.Object.Resource w h t xs es asks.old core.old
         → IsAsked R.RootSource S.RelatedSet B.Backoff R.Object.Resource w h t xs es asks.old (option_map (exchange_of R.Object.type_of) o) asks.new core.new) }
-    ensures ended { IfErr result (λ f. (w : World R.Object B) (h : List (Step R.Object)) (t : Turn) (xs : List (Exchange R.Object)) (es : List (CoreEvent R.Object)) → t.at ≡ now.0
+    ensures left { IfErr result (λ f. (w : World R.Object B) (h : List (Step R.Object)) (t : Turn) (xs : List (Exchange R.Object)) (es : List (CoreEvent R.Object)) → t.at ≡ now.0
         → MayAsk R.RootSource S.RelatedSet B.Backoff R.Object.Resource w h t xs es asks.old core.old
-        → AreEndedBy R.RootSource S.RelatedSet w h t f core.new.writer.kept xs asks.old.root asks.old.related asks.new.root asks.new.related) }
-    ensures unnamed { IfErr result (λ f. IfUnnamedAsk f (λ source. core.new ≡ core.old)) }
+        → AreGivenUntil R.RootSource S.RelatedSet R.Object.Resource w h t f es xs asks.old.root asks.old.related asks.new.root asks.new.related core.new) }
 {
     let Some(exchange) = asks.next(alloc, now)? else {
         return Ok(None);
@@ -75,7 +72,8 @@ fn ask_one<R: RootSource, S: RelatedSet<R::Object>, B: Backoff>(
 ///
 /// # Errors
 ///
-/// `Unnamed` where an item of the next one must become a reference and has no name; `NoMemory`.
+/// `Unnamed` where an item of the next one must become a reference and has no name; `NoMemory`. What decides was given the
+/// exchanges that were made then; where memory was wanting, maybe not the last.
 pub fn ask_all<R: RootSource, S: RelatedSet<R::Object>, B: Backoff>(
     asks: &mut Asks<R, S, B>,
     core: &mut Core<R::Object>,
@@ -98,9 +96,9 @@ pub fn ask_all<R: RootSource, S: RelatedSet<R::Object>, B: Backoff>(
     ensures ended { IfErr result (λ f. (w : World R.Object B) (h : List (Step R.Object)) (t : Turn) (es : List (CoreEvent R.Object)) → t.at ≡ now.0
         → MayAsk R.RootSource S.RelatedSet B.Backoff R.Object.Resource w h t [] es asks.old core.old
         → AreEndedBy R.RootSource S.RelatedSet w h t f core.new.writer.kept [] asks.old.root asks.old.related asks.new.root asks.new.related) }
-    ensures unnamed { IfErr result (λ f. IfUnnamedAsk f (λ source. (w : World R.Object B) (h : List (Step R.Object)) (t : Turn) (es : List (CoreEvent R.Object)) → t.at ≡ now.0
+    ensures left { IfErr result (λ f. (w : World R.Object B) (h : List (Step R.Object)) (t : Turn) (es : List (CoreEvent R.Object)) → t.at ≡ now.0
         → MayAsk R.RootSource S.RelatedSet B.Backoff R.Object.Resource w h t [] es asks.old core.old
-        → (xs : List (Exchange R.Object)) × EachIsNext w h t [] xs × CoreStands R.Object.type_of R.Object.meta_of (core_world w) (es ++ map (Answered t.at) xs) core.new)) }
+        → AreGivenUntil R.RootSource S.RelatedSet R.Object.Resource w h t f es [] asks.old.root asks.old.related asks.new.root asks.new.related core.new) }
 {
     let mut all = List::new(alloc);
     loop {

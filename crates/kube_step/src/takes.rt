@@ -5,13 +5,13 @@ ghost use Rattle.std.specs.List.{AllByRecursion, cons_option, filter_map};
 ghost use Rattle.kube_model.specs.History.{Taken as PlainTaken};
 ghost use Rattle.kube_model.specs.Raw.{grown_by};
 ghost use Rattle.kube_history.specs.CoreWorld.{CoreWorld};
-ghost use Rattle.kube_history.specs.CoreEvents.{CoreEvent, Took, next_taken};
+ghost use Rattle.kube_history.specs.CoreEvents.{CoreEvent};
 ghost use Rattle.kube_history.specs.Legal.{AreLegal};
 ghost use Rattle.kube_history.specs.TurnEvents.{takes};
 ghost use Rattle.kube_core.specs.Cores.{StandsFor};
 ghost use Rattle.kube_turn.specs.Views.{taken_of};
 ghost use Rattle.kube_step.specs.HandOvers.{handed_by};
-ghost use Rattle.kube_step.specs.Takes.{IsSomething, taken_so_far};
+ghost use Rattle.kube_step.specs.Takes.{AreHandedOrLost, IsSomething, taken_so_far};
 
 use crate::reconciler::Reconciler;
 use kube_core::Core;
@@ -56,39 +56,26 @@ pub fn hand_over<K: Resource, Ctx: Drop, Rc: Reconciler<K, Ctx>>(
     }
 }
 
-/// Takes the first that is due and held back by nothing, if there is one, and hands it over, where it is found.
-fn take_one<K: Resource, Ctx: Drop, Rc: Reconciler<K, Ctx>>(
-    core: &mut Core<K>,
+/// Hands over what was taken and adds it to these. Memory for that is taken first, so that nothing is handed over that is
+/// not among them.
+///
+/// # Errors
+///
+/// `NoMemory`, also where the reconciler answers so; it was handed nothing then.
+pub fn add_one<K: Resource, Ctx: Drop, Rc: Reconciler<K, Ctx>>(
     reconciler: &mut Rc,
     alloc: Global,
     context: &Arc<Ctx>,
-    now: Moment,
-) -> Result<Taken<K>, NoMemory>
-    requires clock { core.old.clock.0 ≤ now.0 }
-    ensures clock { OnOk result (core.new.clock.0 ≤ now.0) }
-    ensures writer { core.new.writer ≡ core.old.writer }
-    ensures next { IfOk result (λ t. (world : CoreWorld K) (es : List (CoreEvent K)) → StandsFor K.type_of K.meta_of world es core.old → taken_of K.type_of t ≡ next_taken world es) }
-    ensures stands { IfOk result (λ t. (world : CoreWorld K) (es : List (CoreEvent K)) → StandsFor K.type_of K.meta_of world es core.old
-        → StandsFor K.type_of K.meta_of world (es ++ Took now.0 (taken_of K.type_of t) ∷ []) core.new) }
-    ensures handed { IfOk result (λ t. Rc.handed reconciler.new ≡ grown_by (Rc.handed reconciler.old) (handed_by (cons_option (taken_of K.type_of t) []))) }
-    ensures lost { OnErr result (Rc.handed reconciler.new ≡ Rc.handed reconciler.old) }
+    taken: &mut Vec<Taken<K>>,
+    one: Taken<K>,
+) -> Result<(), NoMemory>
+    ensures added { OnOk result (taken.new.items ≡ taken.old.items ++ one ∷ []) }
+    ensures handed { OnOk result (Rc.handed reconciler.new ≡ grown_by (Rc.handed reconciler.old) (handed_by (cons_option (taken_of K.type_of one) []))) }
+    ensures err { OnErr result (Rc.handed reconciler.new ≡ Rc.handed reconciler.old) }
 {
-    let one = core.take(alloc, now)?;
-    match hand_over(reconciler, alloc, context, &one) {
-        Ok(()) => Ok(one),
-        Err(error) => Err(error),
-    }
-}
-
-/// Finds that there is nothing to take.
-fn take_none<K: Resource>(core: &mut Core<K>, alloc: Global, now: Moment) -> Result<(), NoMemory>
-    requires clock { core.old.clock.0 ≤ now.0 }
-    ensures clock { OnOk result (core.new.clock.0 ≤ now.0) }
-    ensures writer { core.new.writer ≡ core.old.writer }
-    ensures stands { OnOk result ((world : CoreWorld K) (es : List (CoreEvent K)) → StandsFor K.type_of K.meta_of world es core.old
-        → StandsFor K.type_of K.meta_of world (es ++ Took now.0 (next_taken world es) ∷ []) core.new) }
-{
-    core.take(alloc, now)?;
+    taken.reserve(1)?;
+    hand_over(reconciler, alloc, context, &one)?;
+    taken.push_reserved(one);
     Ok(())
 }
 
@@ -96,7 +83,8 @@ fn take_none<K: Resource>(core: &mut Core<K>, alloc: Global, now: Moment) -> Res
 ///
 /// # Errors
 ///
-/// `NoMemory` where there is none for a take, for what the reconciler is handed, or for the list.
+/// `NoMemory` where there is none for a take, for what the reconciler is handed, or for the list; at least one take was
+/// left to hand over then, which what decides may count among those that run.
 pub fn take_all<K: Resource, Ctx: Drop, Rc: Reconciler<K, Ctx>>(
     core: &mut Core<K>,
     reconciler: &mut Rc,
@@ -111,18 +99,21 @@ pub fn take_all<K: Resource, Ctx: Drop, Rc: Reconciler<K, Ctx>>(
         → StandsFor K.type_of K.meta_of world (es ++ takes now.0 (filter_map (taken_of K.type_of) ts)) core.new) }
     ensures handed { IfOk result (λ ts. Rc.handed reconciler.new ≡ grown_by (Rc.handed reconciler.old) (handed_by (filter_map (taken_of K.type_of) ts))) }
     ensures something { IfOk result (λ ts. AllByRecursion (IsSomething K.type_of) ts) }
-    // where memory is wanting, takes that were legal were handed over, and no more
+    // where memory is wanting, takes that were legal were handed over, and no more; and one more was legal
     ensures lost { OnErr result ((ts : List (PlainTaken K)) × (Rc.handed reconciler.new ≡ grown_by (Rc.handed reconciler.old) (handed_by ts))
-        × ((world : CoreWorld K) (es : List (CoreEvent K)) → StandsFor K.type_of K.meta_of world es core.old → AreLegal world es (taken_so_far now.0 ts))) }
+        × ((world : CoreWorld K) (es : List (CoreEvent K)) → StandsFor K.type_of K.meta_of world es core.old → (left : PlainTaken K) × AreLegal world es (taken_so_far now.0 (ts ++ left ∷ [])))) }
+    // those were taken, or those and one more
+    ensures left { OnErr result ((ts : List (PlainTaken K)) × (made : List (PlainTaken K)) × (Rc.handed reconciler.new ≡ grown_by (Rc.handed reconciler.old) (handed_by ts)) × AreHandedOrLost ts made
+        × ((world : CoreWorld K) (es : List (CoreEvent K)) → StandsFor K.type_of K.meta_of world es core.old → StandsFor K.type_of K.meta_of world (es ++ taken_so_far now.0 made) core.new)) }
 {
-    let mut taken = List::new(alloc);
+    let mut taken = Vec::new(alloc);
     for _take in 0..core.waiting_len() {
-        let one = take_one(core, reconciler, alloc, context, now)?;
+        let one = core.take(alloc, now)?;
         if is_nothing(&one) {
-            return Ok(taken);
+            return Ok(List::from(taken));
         }
-        taken.push(one)?;
+        add_one(reconciler, alloc, context, &mut taken, one)?;
     }
-    take_none(core, alloc, now)?;
-    Ok(taken)
+    core.take(alloc, now)?;
+    Ok(List::from(taken))
 }

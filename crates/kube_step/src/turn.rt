@@ -1,6 +1,7 @@
 //! One turn.
 
 ghost use Rattle.std.specs.Prelude.{◌≡◌, ◌<◌, ◌≤◌, ◌+◌, ◌^◌, ◌++◌, ◌∷◌, ◌||◌, ◌==◌, ◌&&◌, not, [], List, length, map, IfOk, IfErr, OnOk, OnErr, Some, None, true, false, if◌then◌else◌};
+ghost use mathlib.Core.List.{IsPrefix};
 ghost use Rattle.std.specs.Arc.{arc_value};
 ghost use Rattle.std.specs.List.{AllByRecursion, filter_map};
 ghost use Rattle.kube_meta.specs.Keys.{reference_of};
@@ -13,8 +14,9 @@ ghost use Rattle.kube_model.specs.Takes.{running};
 ghost use Rattle.kube_model.specs.Traces.{IsValid};
 ghost use Rattle.kube_history.specs.CoreWorld.{CoreWorld, core_world};
 ghost use Rattle.kube_history.specs.CoreEvents.{CoreEvent, Settled, cache_of, clock_of, running_of, was_shut};
-ghost use Rattle.kube_history.specs.TurnEvents.{reload_events, shut_if};
-ghost use Rattle.kube_core.specs.Cores.{HasSameHandles, StandsFor};
+ghost use Rattle.kube_history.specs.Legal.{AreLegal};
+ghost use Rattle.kube_history.specs.TurnEvents.{reload_events, shut_if, takes};
+ghost use Rattle.kube_core.specs.Cores.{HasSameHandles, StandsFor, with_room};
 ghost use Rattle.kube_turn.specs.Records.{record_of, turn_of};
 ghost use Rattle.kube_turn.specs.Views.{exchange_of, shown_objects, taken_of};
 ghost use Rattle.kube_step.specs.Asked.{AreEndedBy, MayAsk};
@@ -22,8 +24,8 @@ ghost use Rattle.kube_step.specs.Errors.{IfUnnamedAsk};
 ghost use Rattle.kube_step.specs.Finishes.{AreFinished};
 ghost use Rattle.kube_step.specs.HandOvers.{handed_by};
 ghost use Rattle.kube_step.specs.Policies.{Answers};
-ghost use Rattle.kube_step.specs.Takes.{IsSomething};
-ghost use Rattle.kube_step.specs.Turns.{AreFirstTakes, HasGoneOn, HasTakenFirst, IsTaken, MayGoOn, requests_first};
+ghost use Rattle.kube_step.specs.Takes.{AreHandedOrLost, IsSomething, taken_so_far};
+ghost use Rattle.kube_step.specs.Turns.{AreTakesLeft, HasAsked, HasAskedUntil, IsDoneUntil, IsEndedBy, IsTaken, MayGoOn, requests_first};
 
 use crate::finishes::finish_all;
 use crate::reconciler::Reconciler;
@@ -36,13 +38,6 @@ use kube_model::turn::Shutdown;
 use kube_turn::{SourceExchange, Taken, Turn, TurnRecord};
 use std::alloc::Global;
 use std::sync::Arc;
-
-/// What an open turn makes after its finishes: its exchanges, and its takes.
-#[derive(Drop)]
-struct Made<K: Resource> {
-    exchanges: List<SourceExchange<K>>,
-    taken: List<Taken<K>>,
-}
 
 /// Whether shutdown is asked.
 fn asks_shutdown(shutdown: Shutdown) -> bool
@@ -83,6 +78,7 @@ fn reload_where<K: Resource>(
         → StandsFor K.type_of K.meta_of world (es ++ reload_events at.0 reload) core.new) }
     ensures clock { OnOk result (core.new.clock.0 ≤ at.0) }
     ensures writer { core.new.writer ≡ core.old.writer }
+    ensures left { OnErr result (core.new ≡ with_room core.old core.new.pending.schedule.spare) }
 {
     if reload {
         return core.reload(alloc, at);
@@ -103,6 +99,8 @@ fn request_first<K: Resource>(
         → StandsFor K.type_of K.meta_of world (es ++ requests_first at.0 reload (map (reference_of K.type_of) on)) core.new) }
     ensures clock { OnOk result (core.new.clock.0 ≤ at.0) }
     ensures writer { core.new.writer ≡ core.old.writer }
+    ensures left { OnErr result ((made : List (CoreEvent K)) × IsPrefix made (requests_first at.0 reload (map (reference_of K.type_of) on))
+        × ((world : CoreWorld K) (es : List (CoreEvent K)) → StandsFor K.type_of K.meta_of world es core.old → StandsFor K.type_of K.meta_of world (es ++ made) core.new)) }
 {
     reload_where(core, alloc, reload, at)?;
     for reference in Vec::from(on) {
@@ -130,70 +128,16 @@ fn settle<R: RootSource, S: RelatedSet<R::Object>, B: Backoff>(
     }
 }
 
-/// Goes on with an open turn after its finishes: requests, asks, settles and takes.
-fn go_on<R, S, B, Ctx, Rc>(
-    asks: &mut Asks<R, S, B>,
-    core: &mut Core<R::Object>,
-    reconciler: &mut Rc,
-    alloc: Global,
-    context: &Arc<Ctx>,
-    reload: bool,
-    on: List<ObjectRef<R::Object>>,
-    at: Moment,
-) -> Result<Made<R::Object>, AskFault>
-where
-    R: RootSource,
-    S: RelatedSet<R::Object>,
-    B: Backoff,
-    Ctx: Drop,
-    Rc: Reconciler<R::Object, Ctx>,
-    requires few { length (S.feeds asks.old.related) + 1 < 2 ^ 32 }
-    requires root { R.can_poll asks.old.root }
-    requires related { S.can_poll asks.old.related }
-    requires clock { core.old.clock.0 ≤ at.0 }
-    ensures root { R.can_poll asks.new.root }
-    ensures related { S.can_poll asks.new.related }
-    ensures feeds { S.feeds asks.new.related ≡ S.feeds asks.old.related }
-    ensures handles { HasSameHandles core.old.writer core.new.writer }
-    ensures gone_on { IfOk result (λ m. (w : World R.Object B) (h : List (Step R.Object)) (t : PlainTurn) (es : List (CoreEvent R.Object)) → t.at ≡ at.0 → t.reload ≡ reload → t.on ≡ map (reference_of R.Object.type_of) on
-        → MayAsk R.RootSource S.RelatedSet B.Backoff R.Object.Resource w h t [] es asks.old core.old
-        → HasGoneOn R.RootSource S.RelatedSet B.Backoff R.Object.Resource w h t es asks.old (map (exchange_of R.Object.type_of) m.exchanges) (filter_map (taken_of R.Object.type_of) m.taken) asks.new core.new) }
-    ensures handed { IfOk result (λ m. Rc.handed reconciler.new ≡ grown_by (Rc.handed reconciler.old) (handed_by (filter_map (taken_of R.Object.type_of) m.taken))) }
-    ensures something { IfOk result (λ m. AllByRecursion (IsSomething R.Object.type_of) m.taken) }
-    ensures ended { IfErr result (λ f. (w : World R.Object B) (h : List (Step R.Object)) (t : PlainTurn) (es : List (CoreEvent R.Object)) → t.at ≡ at.0 → t.reload ≡ reload → t.on ≡ map (reference_of R.Object.type_of) on
-        → MayAsk R.RootSource S.RelatedSet B.Backoff R.Object.Resource w h t [] es asks.old core.old
-        → AreEndedBy R.RootSource S.RelatedSet w h t f core.new.writer.kept [] asks.old.root asks.old.related asks.new.root asks.new.related) }
-    ensures handed_before { OnErr result ((ts : List (PlainTaken R.Object)) × (Rc.handed reconciler.new ≡ grown_by (Rc.handed reconciler.old) (handed_by ts))
-        × ((w : World R.Object B) (h : List (Step R.Object)) (t : PlainTurn) (es : List (CoreEvent R.Object)) → t.at ≡ at.0 → t.reload ≡ reload → t.on ≡ map (reference_of R.Object.type_of) on
-        → MayAsk R.RootSource S.RelatedSet B.Backoff R.Object.Resource w h t [] es asks.old core.old
-        → HasTakenFirst w h t es ts)) }
-    ensures starts_nothing { IfErr result (λ f. IfUnnamedAsk f (λ source. Rc.handed reconciler.new ≡ Rc.handed reconciler.old)) }
-{
-    request_first(core, alloc, reload, on, at)?;
-    let exchanges = ask_all(asks, core, alloc, at)?;
-    settle(asks, core, at);
-    let taken = take_all(core, reconciler, alloc, context, at)?;
-    Ok(Made { exchanges, taken })
-}
-
-/// Goes on with a turn after its finishes, where it is open. A closed one does nothing more.
-fn go_on_where<R, S, B, Ctx, Rc>(
+/// What an open turn does after its finishes and before its takes: it requests, asks and settles. A closed one does nothing.
+fn ask_where<R: RootSource, S: RelatedSet<R::Object>, B: Backoff>(
     goes_on: bool,
     asks: &mut Asks<R, S, B>,
     core: &mut Core<R::Object>,
-    reconciler: &mut Rc,
     alloc: Global,
-    context: &Arc<Ctx>,
     reload: bool,
     on: List<ObjectRef<R::Object>>,
     at: Moment,
-) -> Result<Made<R::Object>, AskFault>
-where
-    R: RootSource,
-    S: RelatedSet<R::Object>,
-    B: Backoff,
-    Ctx: Drop,
-    Rc: Reconciler<R::Object, Ctx>,
+) -> Result<List<SourceExchange<R::Object>>, AskFault>
     requires few { length (S.feeds asks.old.related) + 1 < 2 ^ 32 }
     requires root { R.can_poll asks.old.root }
     requires related { S.can_poll asks.old.related }
@@ -201,29 +145,53 @@ where
     ensures root { R.can_poll asks.new.root }
     ensures related { S.can_poll asks.new.related }
     ensures feeds { S.feeds asks.new.related ≡ S.feeds asks.old.related }
+    ensures clock { OnOk result (core.new.clock.0 ≤ at.0) }
     ensures handles { HasSameHandles core.old.writer core.new.writer }
-    ensures closed { IfOk result (λ m. goes_on ≡ false → (m.exchanges ≡ []) × (m.taken ≡ []) × (asks.new ≡ asks.old) × (core.new ≡ core.old)) }
-    ensures gone_on { IfOk result (λ m. goes_on ≡ true → (w : World R.Object B) (h : List (Step R.Object)) (t : PlainTurn) (es : List (CoreEvent R.Object)) → t.at ≡ at.0 → t.reload ≡ reload → t.on ≡ map (reference_of R.Object.type_of) on
+    ensures closed { IfOk result (λ xs. goes_on ≡ false → (xs ≡ []) × (asks.new ≡ asks.old) × (core.new ≡ core.old)) }
+    ensures asked { IfOk result (λ xs. goes_on ≡ true → (w : World R.Object B) (h : List (Step R.Object)) (t : PlainTurn) (es : List (CoreEvent R.Object)) → t.at ≡ at.0 → t.reload ≡ reload → t.on ≡ map (reference_of R.Object.type_of) on
         → MayAsk R.RootSource S.RelatedSet B.Backoff R.Object.Resource w h t [] es asks.old core.old
-        → HasGoneOn R.RootSource S.RelatedSet B.Backoff R.Object.Resource w h t es asks.old (map (exchange_of R.Object.type_of) m.exchanges) (filter_map (taken_of R.Object.type_of) m.taken) asks.new core.new) }
-    ensures handed { IfOk result (λ m. Rc.handed reconciler.new ≡ grown_by (Rc.handed reconciler.old) (handed_by (filter_map (taken_of R.Object.type_of) m.taken))) }
-    ensures something { IfOk result (λ m. AllByRecursion (IsSomething R.Object.type_of) m.taken) }
+        → HasAsked R.RootSource S.RelatedSet B.Backoff R.Object.Resource w h t es asks.old (map (exchange_of R.Object.type_of) xs) asks.new core.new) }
     ensures ended { IfErr result (λ f. (goes_on ≡ true) × ((w : World R.Object B) (h : List (Step R.Object)) (t : PlainTurn) (es : List (CoreEvent R.Object)) → t.at ≡ at.0 → t.reload ≡ reload → t.on ≡ map (reference_of R.Object.type_of) on
         → MayAsk R.RootSource S.RelatedSet B.Backoff R.Object.Resource w h t [] es asks.old core.old
         → AreEndedBy R.RootSource S.RelatedSet w h t f core.new.writer.kept [] asks.old.root asks.old.related asks.new.root asks.new.related)) }
-    ensures handed_before { OnErr result ((ts : List (PlainTaken R.Object)) × (Rc.handed reconciler.new ≡ grown_by (Rc.handed reconciler.old) (handed_by ts))
-        × ((w : World R.Object B) (h : List (Step R.Object)) (t : PlainTurn) (es : List (CoreEvent R.Object)) → t.at ≡ at.0 → t.reload ≡ reload → t.on ≡ map (reference_of R.Object.type_of) on
+    ensures left { IfErr result (λ f. (w : World R.Object B) (h : List (Step R.Object)) (t : PlainTurn) (es : List (CoreEvent R.Object)) → t.at ≡ at.0 → t.reload ≡ reload → t.on ≡ map (reference_of R.Object.type_of) on
         → MayAsk R.RootSource S.RelatedSet B.Backoff R.Object.Resource w h t [] es asks.old core.old
-        → HasTakenFirst w h t es ts)) }
-    ensures starts_nothing { IfErr result (λ f. IfUnnamedAsk f (λ source. Rc.handed reconciler.new ≡ Rc.handed reconciler.old)) }
+        → HasAskedUntil R.RootSource S.RelatedSet R.Object.Resource w h t f es asks.old.root asks.old.related asks.new.root asks.new.related core.new) }
 {
     if !goes_on {
-        return Ok(Made {
-            exchanges: List::new(alloc),
-            taken: List::new(alloc),
-        });
+        return Ok(List::new(alloc));
     }
-    go_on(asks, core, reconciler, alloc, context, reload, on, at)
+    request_first(core, alloc, reload, on, at)?;
+    let exchanges = ask_all(asks, core, alloc, at)?;
+    settle(asks, core, at);
+    Ok(exchanges)
+}
+
+/// Takes what is due in an open turn. A closed one takes nothing.
+fn take_where<K: Resource, Ctx: Drop, Rc: Reconciler<K, Ctx>>(
+    goes_on: bool,
+    core: &mut Core<K>,
+    reconciler: &mut Rc,
+    alloc: Global,
+    context: &Arc<Ctx>,
+    at: Moment,
+) -> Result<List<Taken<K>>, NoMemory>
+    requires { core.old.clock.0 ≤ at.0 }
+    ensures writer { core.new.writer ≡ core.old.writer }
+    ensures closed { IfOk result (λ ts. goes_on ≡ false → (ts ≡ []) × (core.new ≡ core.old)) }
+    ensures took { IfOk result (λ ts. goes_on ≡ true → (world : CoreWorld K) (es : List (CoreEvent K)) → StandsFor K.type_of K.meta_of world es core.old
+        → StandsFor K.type_of K.meta_of world (es ++ takes at.0 (filter_map (taken_of K.type_of) ts)) core.new) }
+    ensures handed { IfOk result (λ ts. Rc.handed reconciler.new ≡ grown_by (Rc.handed reconciler.old) (handed_by (filter_map (taken_of K.type_of) ts))) }
+    ensures something { IfOk result (λ ts. AllByRecursion (IsSomething K.type_of) ts) }
+    ensures lost { OnErr result ((ts : List (PlainTaken K)) × (Rc.handed reconciler.new ≡ grown_by (Rc.handed reconciler.old) (handed_by ts)) × (goes_on ≡ true)
+        × ((world : CoreWorld K) (es : List (CoreEvent K)) → StandsFor K.type_of K.meta_of world es core.old → (left : PlainTaken K) × AreLegal world es (taken_so_far at.0 (ts ++ left ∷ [])))) }
+    ensures left { OnErr result ((ts : List (PlainTaken K)) × (made : List (PlainTaken K)) × (Rc.handed reconciler.new ≡ grown_by (Rc.handed reconciler.old) (handed_by ts)) × AreHandedOrLost ts made
+        × ((world : CoreWorld K) (es : List (CoreEvent K)) → StandsFor K.type_of K.meta_of world es core.old → StandsFor K.type_of K.meta_of world (es ++ taken_so_far at.0 made) core.new)) }
+{
+    if !goes_on {
+        return Ok(List::new(alloc));
+    }
+    take_all(core, reconciler, alloc, context, at)
 }
 
 /// The stored objects, where they are to be shown.
@@ -249,7 +217,12 @@ fn is_last<K: Resource>(core: &Core<K>, shutdown: Shutdown) -> bool
     matches!(shutdown, Shutdown::Forced) || core.is_shut() && core.running_len() == 0
 }
 
-/// Takes a turn that is not refused.
+/// Takes a turn that is not refused. All memory for its record is taken before its last take.
+///
+/// # Errors
+///
+/// `Unnamed` where an object of the next exchange must become a reference and has no name; `NoMemory`. What decides has then
+/// been told what the turn did until there, and no more.
 pub fn take_turn<R, S, B, Ctx, Rc, P, E>(
     asks: &mut Asks<R, S, B>,
     core: &mut Core<R::Object>,
@@ -284,13 +257,15 @@ where
         → AreFinished R.Object.type_of (Answers P.Fn error_policy.now (arc_value context.now)) (running h) turn.finishes r.finished) }
     ensures handed { IfOk result (λ r. Rc.handed reconciler.new ≡ grown_by (Rc.handed reconciler.old) (handed_by (record_of R.Object.type_of r).taken)) }
     ensures something { IfOk result (λ r. AllByRecursion (IsSomething R.Object.type_of) r.taken) }
-    ensures ended { IfErr result (λ f. (w : World R.Object B) (h : List (Step R.Object))
-        → MayGoOn R.RootSource S.RelatedSet B.Backoff R.Object.Resource w h asks.old core.old → IsValid h (turn_of R.Object.type_of turn)
-        → AreEndedBy R.RootSource S.RelatedSet w h (turn_of R.Object.type_of turn) f core.new.writer.kept [] asks.old.root asks.old.related asks.new.root asks.new.related) }
-    ensures handed_before { OnErr result ((ts : List (PlainTaken R.Object)) × (Rc.handed reconciler.new ≡ grown_by (Rc.handed reconciler.old) (handed_by ts))
+    ensures ended { IfErr result (λ f. (ts : List (PlainTaken R.Object)) × (Rc.handed reconciler.new ≡ grown_by (Rc.handed reconciler.old) (handed_by ts))
         × ((w : World R.Object B) (h : List (Step R.Object))
         → MayGoOn R.RootSource S.RelatedSet B.Backoff R.Object.Resource w h asks.old core.old → IsValid h (turn_of R.Object.type_of turn)
-        → AreFirstTakes w h (turn_of R.Object.type_of turn) ts)) }
+        → IsEndedBy R.RootSource S.RelatedSet w h (turn_of R.Object.type_of turn) (AreTakesLeft R.Object.type_of (Answers P.Fn error_policy.now (arc_value context.now)) w h turn)
+        f core.new.writer.kept ts asks.old.root asks.old.related asks.new.root asks.new.related)) }
+    ensures left { IfErr result (λ f. (ts : List (PlainTaken R.Object)) × (Rc.handed reconciler.new ≡ grown_by (Rc.handed reconciler.old) (handed_by ts))
+        × ((w : World R.Object B) (h : List (Step R.Object)) (may : MayGoOn R.RootSource S.RelatedSet B.Backoff R.Object.Resource w h asks.old core.old) → IsValid h (turn_of R.Object.type_of turn)
+        → IsDoneUntil R.RootSource S.RelatedSet R.Object.Resource w h (turn_of R.Object.type_of turn) (Answers P.Fn error_policy.now (arc_value context.now)) turn.finishes
+        f may.parts.events ts asks.old.root asks.old.related asks.new.root asks.new.related core.new)) }
     ensures starts_nothing { IfErr result (λ f. IfUnnamedAsk f (λ source. Rc.handed reconciler.new ≡ Rc.handed reconciler.old)) }
 {
     let Turn {
@@ -305,12 +280,10 @@ where
     let closed = close(core, shutdown);
     asks.begin(Vec::from(budget));
     let finished = finish_all(core, error_policy, context, alloc, finishes, at)?;
-    let made = go_on_where(
-        !closed, asks, core, reconciler, alloc, context, reload, on, at,
-    )?;
-    let Made { exchanges, taken } = made;
+    let exchanges = ask_where(!closed, asks, core, alloc, reload, on, at)?;
     let stops = asks.stops(alloc, closed)?;
     let store = shown(alloc, show, core)?;
+    let taken = take_where(!closed, core, reconciler, alloc, context, at)?;
     let ended = is_last(core, shutdown);
     Ok(TurnRecord {
         at,

@@ -1,5 +1,5 @@
 -- What a filter forgets.
-use Rattle.std.proofs.Common.{◌≡◌, ◌⊎◌, ℕ, ◌-◌, nat_lt, Bool, true, false, cond, if◌then◌else◌, List, Option, Some, None, refl, sym, ap, ◌∙◌, inl, inr}
+use Rattle.std.proofs.Common.{◌≡◌, ◌⊎◌, ℕ, ◌-◌, nat_lt, Bool, true, false, cond, if◌then◌else◌, List, Option, Some, None, refl, ap, ap₂, ◌∙◌, inl, inr}
 use Rattle.std.specs.List.{IsDistinct, filter}
 use Rattle.std.specs.Map.{keys_of, lookup}
 use Rattle.std.proofs.lemmas.Map.Entries.{option_filter, lookup-filter-values}
@@ -27,10 +27,19 @@ module _ {P : Type 0} (now : ℕ) (f : Filtering P) where
   abbrev after_sweep : List (Key × Sight) → Filtering P
   after_sweep es = record f { kept = es; evicted = now }
 
+  swept-as : (b : Bool) (kept : List (Key × Sight)) → record f { kept = if b then f.kept else kept; evicted = if b then f.evicted else now } ≡ (if b then f else after_sweep kept)
+  swept-as true kept = refl
+  swept-as false kept = refl
+
   -- it is swept where that is due
-  pub swept-is : (kept : List (Key × Sight)) → nat_lt (now - f.evicted) f.ttl ≡ false → kept ≡ filter (λ e. is_fresh f.ttl now e.1) f.kept → after_sweep kept ≡ swept now f
-  swept-is kept due same =
-      ap after_sweep same ∙ sym (ap (λ b. if b then f else after_sweep (filter (λ e. is_fresh f.ttl now e.1) f.kept)) due)
+  pub swept-by : (same kept : List (Key × Sight)) (evicted : ℕ) → same ≡ f.kept
+      → kept ≡ (if nat_lt (now - f.evicted) f.ttl then same else filter (λ e. is_fresh f.ttl now e.1) same)
+      → evicted ≡ (if nat_lt (now - f.evicted) f.ttl then f.evicted else now)
+      → record f { kept = kept; evicted = evicted } ≡ swept now f
+  swept-by same kept evicted e k m =
+      let due = nat_lt (now - f.evicted) f.ttl in
+      ap₂ (λ ks at. record f { kept = ks; evicted = at }) (k ∙ ap (λ es. if due then es else filter (λ e. is_fresh f.ttl now e.1) es) e) m
+      ∙ swept-as due (filter (λ e. is_fresh f.ttl now e.1) f.kept)
 
   keeps : (b : Bool) → KeepsSettings f (if b then f else after_sweep (filter (λ e. is_fresh f.ttl now e.1) f.kept))
   keeps true = (refl, refl)

@@ -56,14 +56,14 @@ module _ {S T I J : Type 0} (polls : S → ℕ → ℕ → Answer I → S → Ty
   AreQuiet zero now s t r u = (r ≡ s) × (u ≡ t)
   AreQuiet (suc n) now s t r u = (answer : Answer I) × (q : S) × (v : T) × polls s now 1 answer q × IsQuiet now t answer v × AreQuiet n now q v r u
 
-  -- what an answer comes to: the first that is given, and the rest waits; not ready, the end and faults are passed on
+  -- what an answer comes to: the first that is given, and the rest waits; where it is a fault, all is as before; not ready, the end and faults are passed on
   abbrev pub ComesTo : ℕ → T → Answer I → Answer J → List (Told J) → T → Type 0
   ComesTo now t (Ok (Item told)) (Ok (Item first)) rest u = takes now t told (first ∷ rest) u
   ComesTo now t (Ok (Item told)) (Ok NotReady) rest u = ⊥
   ComesTo now t (Ok (Item told)) (Ok Spent) rest u = ⊥
   ComesTo now t (Ok (Item told)) (Ok End) rest u = ⊥
-  ComesTo now t (Ok (Item told)) (Err NoMemory) rest u = ⊤
-  ComesTo now t (Ok (Item told)) (Err Unnamed) rest u = unnamed t told
+  ComesTo now t (Ok (Item told)) (Err NoMemory) rest u = (rest ≡ []) × (u ≡ t)
+  ComesTo now t (Ok (Item told)) (Err Unnamed) rest u = unnamed t told × (rest ≡ []) × (u ≡ t)
   ComesTo now t (Ok NotReady) answer rest u = (answer ≡ Ok NotReady) × (rest ≡ []) × (u ≡ t)
   ComesTo now t (Ok Spent) answer rest u = ⊥
   ComesTo now t (Ok End) answer rest u = (answer ≡ Ok End) × (rest ≡ []) × (u ≡ t)

@@ -67,8 +67,11 @@ pub record Filtering (P : Type 0) : Type 0 where
   pub ttl : ℕ
   pub evicted : ℕ
 
+abbrev pub sights_of : List (Key × Sight) → Sights
+sights_of kept = λ key. lookup (same_key key) kept
+
 abbrev pub sights_in : {P : Type 0} → Filtering P → Sights
-sights_in f = λ key. lookup (same_key key) f.kept
+sights_in f = sights_of f.kept
 
 -- as it is before it judges an object: where the ttl has passed since it forgot last, only the sights that count are kept
 abbrev pub swept : {P : Type 0} → ℕ → Filtering P → Filtering P

@@ -12,7 +12,7 @@ use std::marker::Model;
 
 /// What is made of what a stream gives, one thing after another.
 pub trait Adapt<I: Drop, J: Drop>: Drop {
-    ghost use Rattle.std.specs.Prelude.{◌≡◌, ℕ, List, [], ⊤};
+    ghost use Rattle.std.specs.Prelude.{◌≡◌, ℕ, List, [], OnErr, ⊤};
     ghost use Rattle.kube_streams.specs.Adapts.{IsTaken, Told};
 
     /// What is made of one thing at a moment in nanoseconds: by the state before it, what is given, and the state after it.
@@ -25,6 +25,11 @@ pub trait Adapt<I: Drop, J: Drop>: Drop {
     ghost may: { Self → Type 0 } = { λ _. ⊤ };
 
     /// Makes of one thing what is to be given, and puts that where nothing waits.
+    ///
+    /// # Errors
+    ///
+    /// `NoMemory`; `Unnamed` where the thing must have a name and has none. After either it is as before, nothing waits, and
+    /// the thing is dropped.
     fn take(
         &mut self,
         alloc: Global,
@@ -35,7 +40,8 @@ pub trait Adapt<I: Drop, J: Drop>: Drop {
         requires may { may self.old }
         requires none { waiting.old.items ≡ [] }
         ensures may { may self.new }
-        ensures taken { IsTaken (takes now.0 self.old told waiting.new.items self.new) (unnamed self.old told) result };
+        ensures taken { IsTaken (takes now.0 self.old told waiting.new.items self.new) (unnamed self.old told) result }
+        ensures err { OnErr result ((self.new ≡ self.old) × (waiting.new.items ≡ [])) };
 }
 
 /// What has an object, or none.

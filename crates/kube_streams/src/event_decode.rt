@@ -1,6 +1,6 @@
 //! Objects of events (kube-runtime's `utils::event_decode`).
 
-ghost use Rattle.std.specs.Prelude.{◌≡◌, []};
+ghost use Rattle.std.specs.Prelude.{◌≡◌, [], OnErr};
 ghost use Rattle.kube_streams.specs.Adapts.{IsTaken};
 ghost use Rattle.kube_streams.specs.Decodes.{decoded};
 
@@ -39,6 +39,7 @@ impl<T: Drop> Adapt<Event<T>, T> for Decode {
     ) -> Result<(), StreamFault>
         requires none { waiting.old.items ≡ [] }
         ensures taken { IsTaken ((waiting.new.items ≡ decoded self.old.deletes told) × (self.new ≡ self.old)) ⊥ result }
+        ensures err { OnErr result ((self.new ≡ self.old) × (waiting.new.items ≡ [])) }
     {
         match told {
             Ok(Event::Apply(object)) | Ok(Event::InitApply(object)) => {

@@ -1,9 +1,11 @@
 //! Objects that pass where a property of theirs changed (kube-runtime's `PredicateFilter`).
 
-ghost use Rattle.std.specs.Prelude.{◌≡◌, ◌∷◌, [], ◌<◌, IfOk, OnOk, OnErr, Ok, cond, true};
+ghost use Rattle.std.specs.Prelude.{◌≡◌, ◌-◌, ◌≤◌, ◌∷◌, [], IfOk, OnOk, OnErr, Ok, if◌then◌else◌, nat_lt};
 ghost use Rattle.std.specs.Arc.{arc_value};
+ghost use Rattle.std.specs.List.{filter};
+ghost use Rattle.indexmap.specs.IndexMap.{spare};
 ghost use Rattle.kube_streams.specs.Adapts.{IsTaken};
-ghost use Rattle.kube_streams.specs.Filters.{Filtered, IsForgotten, JudgedAt, KeepsSettings, SameSights, filter_key, is_fresh as is_fresh_at, passes, sights_in, swept, with_sight};
+ghost use Rattle.kube_streams.specs.Filters.{Filtered, IsForgotten, JudgedAt, KeepsSettings, SameSights, filter_key, is_fresh as is_fresh_at, passes, sights_in, sights_of, swept, with_sight};
 
 use crate::adapted::{Adapt, Adapted, wait};
 use crate::predicate::Predicate;
@@ -155,6 +157,68 @@ fn is_fresh(entry: &CacheEntry, ttl: u64, now: Moment) -> bool
     now.0.saturating_sub(entry.last_seen.0) < ttl
 }
 
+/// Whether an object with this value passes, by its last sight.
+fn is_changed(
+    cache: &IndexMap<PredicateCacheKey, CacheEntry>,
+    ttl: u64,
+    now: Moment,
+    key: &PredicateCacheKey,
+    value: u64,
+) -> bool
+    ensures { result ≡ passes ttl now.0 (sights_of cache.now.entries key.now) value }
+{
+    match cache.get(key) {
+        Some(entry) => !(is_fresh(&entry, ttl, now) && entry.hash == value),
+        None => true,
+    }
+}
+
+/// Sees an object, where there is room for one more; whether it passes.
+fn see(
+    cache: &mut IndexMap<PredicateCacheKey, CacheEntry>,
+    ttl: u64,
+    now: Moment,
+    key: PredicateCacheKey,
+    value: u64,
+) -> bool
+    requires room { 1 ≤ spare cache.old }
+    ensures passes { result ≡ passes ttl now.0 (sights_of cache.old.entries key) value }
+    ensures seen { SameSights (sights_of cache.new.entries) (with_sight (sights_of cache.old.entries) key (record { value = value; seen = now.0 })) }
+{
+    let passed = is_changed(cache, ttl, now, &key, value);
+    let entry = CacheEntry {
+        hash: value,
+        last_seen: now,
+    };
+    let _old = cache.insert(key, entry);
+    passed
+}
+
+/// Forgets the sights that don't count, if so long passed since that was done last; when it was done last.
+fn forget(
+    cache: &mut IndexMap<PredicateCacheKey, CacheEntry>,
+    ttl: u64,
+    last_evicted: Moment,
+    now: Moment,
+) -> Moment
+    ensures kept { cache.new.entries ≡ (if nat_lt (now.0 - last_evicted.0) ttl then cache.old.entries else filter (λ e. is_fresh_at ttl now.0 e.1) cache.old.entries) }
+    ensures evicted { result.0 ≡ (if nat_lt (now.0 - last_evicted.0) ttl then last_evicted.0 else now.0) }
+    ensures forgotten { IsForgotten ttl now.0 (sights_of cache.old.entries) (sights_of cache.new.entries) }
+    ensures room { spare cache.old ≤ spare cache.new }
+{
+    if now.0.saturating_sub(last_evicted.0) < ttl {
+        return last_evicted;
+    }
+    // no two of its keys are equal
+    let _count = cache.len();
+    cache.retain(
+        |_key: &PredicateCacheKey, entry: &mut CacheEntry| -> bool
+            ensures { (result ≡ is_fresh_at ttl now.0 entry.old) × (entry.new ≡ entry.old) }
+        { is_fresh(entry, ttl, now) },
+    );
+    now
+}
+
 impl<P> Filter<P> {
     pub(crate) fn new(alloc: Global, predicate: P, config: PredicateConfig) -> Filter<P>
         ensures { result ≡ record { predicate = predicate; kept = []; ttl = config.ttl; evicted = 0 } }
@@ -167,50 +231,26 @@ impl<P> Filter<P> {
         }
     }
 
-    // Whether an object with this value passes, by its last sight.
-    fn is_changed(&self, now: Moment, key: &PredicateCacheKey, value: u64) -> bool
-        ensures { result ≡ passes self.now.ttl now.0 (sights_in self.now key.now) value }
-    {
-        let ttl = self.ttl;
-        match self.cache.get(key) {
-            Some(entry) => !(is_fresh(&entry, ttl, now) && entry.hash == value),
-            None => true,
-        }
-    }
-
-    // Sees an object; whether it passes.
-    fn see(&mut self, now: Moment, key: PredicateCacheKey, value: u64) -> Result<bool, NoMemory>
-        ensures passes { IfOk result (λ b. b ≡ passes self.old.ttl now.0 (sights_in self.old key) value) }
-        ensures seen { OnOk result (SameSights (sights_in self.new) (with_sight (sights_in self.old) key (record { value = value; seen = now.0 }))) }
-        ensures settings { KeepsSettings self.old self.new }
-        ensures evicted { self.new.evicted ≡ self.old.evicted }
-    {
-        let passed = self.is_changed(now, &key, value);
-        let entry = CacheEntry {
-            hash: value,
-            last_seen: now,
-        };
-        self.cache.insert(key, entry)?;
-        Ok(passed)
-    }
-
     // Forgets the sights that don't count, if so long passed since it did that last.
     fn evict(&mut self, now: Moment)
         ensures swept { self.new ≡ swept now.0 self.old }
         ensures forgotten { IsForgotten self.old.ttl now.0 (sights_in self.old) (sights_in self.new) }
     {
-        let ttl = self.ttl;
-        if now.0.saturating_sub(self.last_evicted.0) < ttl {
-            return;
-        }
-        self.last_evicted = now;
-        // no two of its keys are equal
-        let _count = self.cache.len();
-        self.cache.retain(
-            |_key: &PredicateCacheKey, entry: &mut CacheEntry| -> bool
-                ensures { (result ≡ is_fresh_at ttl now.0 entry.old) × (entry.new ≡ entry.old) }
-            { is_fresh(entry, ttl, now) },
-        );
+        self.last_evicted = forget(&mut self.cache, self.ttl, self.last_evicted, now);
+    }
+
+    // Sees an object after that; whether it passes.
+    fn see(&mut self, now: Moment, key: PredicateCacheKey, value: u64) -> Result<bool, NoMemory>
+        ensures forgotten { OnOk result (IsForgotten self.old.ttl now.0 (sights_in self.old) (sights_in (swept now.0 self.old))) }
+        ensures passes { IfOk result (λ b. b ≡ passes self.old.ttl now.0 (sights_in (swept now.0 self.old) key) value) }
+        ensures seen { OnOk result (SameSights (sights_in self.new) (with_sight (sights_in (swept now.0 self.old)) key (record { value = value; seen = now.0 }))) }
+        ensures settings { KeepsSettings self.old self.new }
+        ensures evicted { OnOk result (self.new.evicted ≡ (swept now.0 self.old).evicted) }
+        ensures err { OnErr result (self.new ≡ self.old) }
+    {
+        self.cache.reserve(1)?;
+        self.last_evicted = forget(&mut self.cache, self.ttl, self.last_evicted, now);
+        Ok(see(&mut self.cache, self.ttl, now, key, value))
     }
 }
 
@@ -227,16 +267,42 @@ impl<P> Filter<P> {
         requires may { P.may self.old.predicate object.now }
         ensures same { self.new.predicate ≡ self.old.predicate }
         ensures judged { IfOk result (λ passed. JudgedAt P.gives K.meta_of now.0 self.old object.now passed self.new) }
+        ensures err { OnErr result (self.new ≡ self.old) }
     {
-        self.evict(now);
         match self.predicate.hash_property(object) {
-            None => Ok(true),
+            None => {
+                self.evict(now);
+                Ok(true)
+            }
             Some(value) => {
                 let key = key_of(alloc, object)?;
                 let passed = self.see(now, key, value)?;
                 Ok(passed)
             }
         }
+    }
+
+    // Lets an object wait where it passes.
+    fn pass<K: Resource>(
+        &mut self,
+        alloc: Global,
+        now: Moment,
+        object: Arc<K>,
+        waiting: &mut VecDeque<Result<Arc<K>, Error>>,
+    ) -> Result<(), NoMemory>
+    where
+        P: Predicate<K>,
+        requires may { P.may self.old.predicate (arc_value object) }
+        requires none { waiting.old.items ≡ [] }
+        ensures same { self.new.predicate ≡ self.old.predicate }
+        ensures passed { OnOk result (Filtered P.gives K.meta_of arc_value now.0 self.old (Ok object) waiting.new.items self.new) }
+        ensures err { OnErr result ((self.new ≡ self.old) × (waiting.new.items ≡ [])) }
+    {
+        waiting.reserve(1)?;
+        if self.judge(alloc, now, &*object)? {
+            waiting.push_back_reserved(Ok(object));
+        }
+        Ok(())
     }
 }
 
@@ -260,13 +326,10 @@ impl<K: Resource, P: Predicate<K>> Adapt<Arc<K>, Arc<K>> for Filter<P> {
         requires none { waiting.old.items ≡ [] }
         ensures may { (object : K) → P.may self.new.predicate object }
         ensures taken { IsTaken (Filtered P.gives K.meta_of arc_value now.0 self.old told waiting.new.items self.new) ⊥ result }
+        ensures err { OnErr result ((self.new ≡ self.old) × (waiting.new.items ≡ [])) }
     {
         match told {
-            Ok(object) => {
-                if self.judge(alloc, now, &*object)? {
-                    wait(waiting, Ok(object))?;
-                }
-            }
+            Ok(object) => self.pass(alloc, now, object, waiting)?,
             Err(error) => wait(waiting, Err(error))?,
         }
         Ok(())

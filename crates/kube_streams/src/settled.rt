@@ -1,6 +1,6 @@
 //! Objects of lists that are whole.
 
-ghost use Rattle.std.specs.Prelude.{◌≡◌, [], ◌∷◌, ◌++◌, OnOk, Ok, map};
+ghost use Rattle.std.specs.Prelude.{◌≡◌, [], ◌∷◌, ◌++◌, OnErr, OnOk, Ok, map};
 ghost use Rattle.kube_streams.specs.Adapts.{IsTaken};
 ghost use Rattle.kube_streams.specs.Decodes.{listed_after, settled};
 
@@ -37,7 +37,8 @@ impl<T: Drop> Settle<T> {
 
     // Keeps an object of a list.
     fn keep(&mut self, object: T) -> Result<(), NoMemory>
-        ensures { OnOk result (self.new ≡ self.old ++ object ∷ []) }
+        ensures kept { OnOk result (self.new ≡ self.old ++ object ∷ []) }
+        ensures err { OnErr result (self.new ≡ self.old) }
     {
         self.listed.push_back(object)?;
         Ok(())
@@ -48,9 +49,11 @@ impl<T: Drop> Settle<T> {
         requires { waiting.old.items ≡ [] }
         ensures given { OnOk result (waiting.new.items ≡ map Ok self.old) }
         ensures none { OnOk result (self.new ≡ []) }
+        ensures err { OnErr result ((self.new ≡ self.old) × (waiting.new.items ≡ [])) }
     {
+        waiting.reserve(self.listed.len())?;
         while let Some(object) = self.listed.pop_front() {
-            wait(waiting, Ok(object))?;
+            waiting.push_back_reserved(Ok(object));
         }
         Ok(())
     }
@@ -71,6 +74,7 @@ impl<T: Drop> Adapt<Event<T>, T> for Settle<T> {
     ) -> Result<(), StreamFault>
         requires none { waiting.old.items ≡ [] }
         ensures taken { IsTaken ((waiting.new.items ≡ settled self.old told) × (self.new ≡ listed_after self.old told)) ⊥ result }
+        ensures err { OnErr result ((self.new ≡ self.old) × (waiting.new.items ≡ [])) }
     {
         match told {
             Ok(Event::Apply(object)) => wait(waiting, Ok(object))?,

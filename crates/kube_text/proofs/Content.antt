@@ -58,7 +58,7 @@ dropped k d ms h a =
     at false false false f g j e = absurd (true≢false (sym e))
 
 -- another member stays
-pub kept : (k : List ℕ) (d : Data) (ms : Members) → is_named k ≡ false → others (member k d ms) ≡ member k d (others ms)
+kept : (k : List ℕ) (d : Data) (ms : Members) → is_named k ≡ false → others (member k d ms) ≡ member k d (others ms)
 unfolding others
 kept k d ms h = at (bytes_eq (codes "apiVersion") k) (bytes_eq (codes "kind") k) (bytes_eq (codes "metadata") k) refl refl refl h
   where
@@ -85,3 +85,9 @@ sorted_rest e es h = h.1
 pub dropped_entry : (e : Entry) (es : List Entry) → IsStrictlySortedBy string_cmp (keys_of (e ∷ es)) → is_named (string_bytes e.0) ≡ true → others (members_view (e ∷ es)) ≡ others (members_view es)
 unfolding IsStrictlySortedBy
 dropped_entry e es h n = dropped (string_bytes e.0) (view e.1) (members_view es) n (absent_after e.0 es h.0)
+
+-- the first entry has another name: its member stays
+pub kept_entry : (name : List ℕ) (e : Entry) (entries es : List Entry) → entries ≡ e ∷ es → name ≡ string_bytes e.0 → is_named name ≡ false → others (members_view entries) ≡ member name (view e.1) (others (members_view es))
+kept_entry name e entries es steps is other =
+    ap (λ xs. others (members_view xs)) steps ∙ kept (string_bytes e.0) (view e.1) (members_view es) (ap is_named (sym is) ∙ other)
+    ∙ ap (λ n. member n (view e.1) (others (members_view es))) (sym is)

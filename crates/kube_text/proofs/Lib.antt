@@ -1,5 +1,6 @@
 pub mod Sinks
 pub mod Shown
+pub mod Fronts
 pub mod Numbers
 pub mod Text
 pub mod Lines

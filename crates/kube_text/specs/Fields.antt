@@ -1,9 +1,9 @@
 -- An object's members by the bytes of their names: types and metadata stand among the members of its content. (Kubernetes API concept "objects".)
-use Rattle.std.specs.Prelude.{◌≡◌, ℕ, Bool, true, false, ◌||◌, ◌&&◌, List, [], ◌∷◌, ◌++◌, Option, Some, None, Result, IfOk, option_map, codes}
+use Rattle.std.specs.Prelude.{◌≡◌, ℕ, Bool, true, false, ◌||◌, ◌&&◌, List, [], ◌∷◌, ◌++◌, Option, Some, None, Result, IfOk, OnErr, option_map, codes}
 use Rattle.std.specs.Str.{bytes_eq}
 use Rattle.std.specs.Ordering.{nat_cmp, is_lt, is_gt}
 use Rattle.std.specs.Cmp.Lexicographic.{slice_cmp}
-use Rattle.json.specs.Written.{Written}
+use Rattle.json.specs.Written.{Written, WritesFront}
 use Rattle.serde_json.specs.Data.{Data, number, string, Members, no_members, member}
 use Rattle.serde_json.specs.Find.{of_integer}
 use Rattle.kube_meta.specs.Reading.{ObjectData, unless_empty}
@@ -106,3 +106,15 @@ ShowsOne result old new o next name d =
 abbrev pub ShowsLeft : {E : Type 0} → Result Next E → Written → Written → ObjectData → Members → Type 0
 ShowsLeft result old new o ms =
     IfOk result (λ after. old.tokens ++ member_tokens (with_fields (left nexts.ApiVersion o) ms) ≡ new.tokens ++ member_tokens (with_fields (left after o) no_members))
+
+-- where one of these failed the first tokens of what it was to show were shown, or none
+abbrev pub ShowsDueFront : {T E : Type 0} → Result T E → Written → Written → Option (List ℕ) → Next → ObjectData → Type 0
+ShowsDueFront result old new name next o =
+    (rest : Members) → Begins name rest → OnErr result (WritesFront old.tokens new.tokens (member_tokens (with_fields (left next o) rest)))
+
+abbrev pub ShowsOneFront : {T E : Type 0} → Result T E → Written → Written → ObjectData → Next → List ℕ → Data → Type 0
+ShowsOneFront result old new o next name d =
+    (rest : Members) → OnErr result (WritesFront old.tokens new.tokens (member_tokens (with_fields (left next o) (member name d rest))))
+
+abbrev pub ShowsLeftFront : {T E : Type 0} → Result T E → Written → Written → ObjectData → Members → Type 0
+ShowsLeftFront result old new o ms = OnErr result (WritesFront old.tokens new.tokens (member_tokens (with_fields (left nexts.ApiVersion o) ms)))

@@ -1,8 +1,8 @@
 -- Data as a writer of JSON's tokens shows it, and an object's members one after the other.
-use Rattle.std.specs.Prelude.{◌≡◌, ℕ, List, ◌++◌, Option, Some, None, Result, OnOk, map}
+use Rattle.std.specs.Prelude.{◌≡◌, ℕ, List, ◌++◌, Option, Some, None, Result, OnOk, OnErr, map}
 use Rattle.json.specs.Token.{Token}
 use Rattle.json.specs.Tree.{json_tokens, items_tokens, members_tokens}
-use Rattle.json.specs.Written.{Written}
+use Rattle.json.specs.Written.{Written, WritesFront}
 use Rattle.serde_json.specs.Data.{Data, null, array, Items, Members, member}
 use Rattle.serde_json.specs.View.{items_of}
 use Rattle.serde_json.specs.Written.{outline, items_outline, members_outline}
@@ -40,3 +40,12 @@ member_if name (Some d) rest = member name d rest
 abbrev pub ShowsMembers : {T E : Type 0} → Result T E → Written → Written → (Members → Members) → Type 0
 ShowsMembers result old new members =
     (rest : Members) → OnOk result (old.tokens ++ member_tokens (members rest) ≡ new.tokens ++ member_tokens rest)
+
+-- where that failed the first of their tokens were shown, or none
+abbrev pub ShowsFront : {T E : Type 0} → Result T E → Written → Written → (Members → Members) → Type 0
+ShowsFront result old new members =
+    (rest : Members) → OnErr result (WritesFront old.tokens new.tokens (member_tokens (members rest)))
+
+-- what was shown before is there, with more behind it, or none
+abbrev pub IsMore : List Token → List Token → Type 0
+IsMore old new = (more : List Token) × (new ≡ old ++ more)

@@ -128,6 +128,9 @@ stop_word stops.Paused = codes "paused"
 abbrev pub stop_data : Stop → Data
 stop_data s = string (stop_word s)
 
+abbrev pub taken_with : Reference → Reason → Option ObjectData → Taken ObjectData
+taken_with reference reason handed = record { message = record { reference = reference; reason = reason }; object = handed }
+
 unfoldable pub taken_members : Taken ObjectData → Members → Members
 taken_members t rest =
     member (codes "found") (boolean (is_some t.object)) (member_if (codes "object") (option_map object_data t.object)

@@ -1,11 +1,11 @@
 //! Calls with their answers, as a trace shows them.
 
-ghost use Rattle.std.specs.Prelude.{◌≡◌, ◌++◌, OnOk};
+ghost use Rattle.std.specs.Prelude.{◌≡◌, ◌++◌};
 ghost use Rattle.serde_json.specs.Data.{string as string_data};
 ghost use Rattle.kube_model.specs.ErrorTexts.{fault_text as fault_text_of};
 ghost use Rattle.kube_model.specs.History.{Exchange as exchange_record, Message as message_record};
 ghost use Rattle.kube_meta.specs.Reading.{ObjectData as object_record};
-ghost use Rattle.kube_text.specs.Shown.{ShowsMembers};
+ghost use Rattle.kube_text.specs.Shown.{ShowsMembers, ShowsFront};
 ghost use Rattle.kube_text.specs.TraceText.{request_data, answer_word as answer_word_of, call_word as call_word_of, error_word as error_word_of, code_members, error_members, from_members, text_members, version_members, exchange_members, exchange_data};
 ghost use Rattle.kube_object.specs.Named.{named_type};
 ghost use Rattle.kube_turn.specs.Views.{exchange_of, message_of};
@@ -53,8 +53,9 @@ fn show_members(
     out: &mut Writer,
     exchange: &SourceExchange<ScriptObject>,
 ) -> Result<(), AllocError>
-    ensures before { OnOk result (out.new.before ≡ out.old.before) }
+    ensures before { out.new.before ≡ out.old.before }
     ensures members { ShowsMembers result out.old out.new (exchange_members (exchange_of named_type exchange.now)) }
+    ensures front { ShowsFront result out.old out.new (exchange_members (exchange_of named_type exchange.now)) }
 {
     let answer = &exchange.answer;
     text_member(out, "answer", answer_word(answer))?;
@@ -129,8 +130,9 @@ fn fault_text(error: &ApiError) -> &str
 
 /// An error item's code, and whether a bookmark ends the initial events.
 fn show_code(alloc: Global, out: &mut Writer, answer: &Answer) -> Result<(), AllocError>
-    ensures before { OnOk result (out.new.before ≡ out.old.before) }
+    ensures before { out.new.before ≡ out.old.before }
     ensures members { ShowsMembers result out.old out.new (code_members answer.now) }
+    ensures front { ShowsFront result out.old out.new (code_members answer.now) }
 {
     match answer {
         Answer::ErrorItem(status) => member(alloc, out, "code", &status.code)?,
@@ -141,8 +143,9 @@ fn show_code(alloc: Global, out: &mut Writer, answer: &Answer) -> Result<(), All
 }
 
 fn show_error(out: &mut Writer, error: &Option<Error>) -> Result<(), AllocError>
-    ensures before { OnOk result (out.new.before ≡ out.old.before) }
+    ensures before { out.new.before ≡ out.old.before }
     ensures members { ShowsMembers result out.old out.new (error_members error.now) }
+    ensures front { ShowsFront result out.old out.new (error_members error.now) }
 {
     if let Some(error) = error {
         text_member(out, "error", error_word(error))?;
@@ -152,8 +155,9 @@ fn show_error(out: &mut Writer, error: &Option<Error>) -> Result<(), AllocError>
 
 /// From where a call lists or watches.
 fn show_from(alloc: Global, out: &mut Writer, call: &Call) -> Result<(), AllocError>
-    ensures before { OnOk result (out.new.before ≡ out.old.before) }
+    ensures before { out.new.before ≡ out.old.before }
     ensures members { ShowsMembers result out.old out.new (from_members call.now) }
+    ensures front { ShowsFront result out.old out.new (from_members call.now) }
 {
     match call {
         Call::List { token } => member(alloc, out, "from", token)?,
@@ -167,8 +171,9 @@ fn show_from(alloc: Global, out: &mut Writer, call: &Call) -> Result<(), AllocEr
 }
 
 fn show_text(out: &mut Writer, answer: &Answer) -> Result<(), AllocError>
-    ensures before { OnOk result (out.new.before ≡ out.old.before) }
+    ensures before { out.new.before ≡ out.old.before }
     ensures members { ShowsMembers result out.old out.new (text_members answer.now) }
+    ensures front { ShowsFront result out.old out.new (text_members answer.now) }
 {
     if let Answer::Fault(error) = answer {
         text_member(out, "text", fault_text(error))?;
@@ -178,8 +183,9 @@ fn show_text(out: &mut Writer, answer: &Answer) -> Result<(), AllocError>
 
 /// A page's token, and the version that came.
 fn show_version(alloc: Global, out: &mut Writer, answer: &Answer) -> Result<(), AllocError>
-    ensures before { OnOk result (out.new.before ≡ out.old.before) }
+    ensures before { out.new.before ≡ out.old.before }
     ensures members { ShowsMembers result out.old out.new (version_members answer.now) }
+    ensures front { ShowsFront result out.old out.new (version_members answer.now) }
 {
     match answer {
         Answer::Page { token, version } => {

@@ -1,6 +1,6 @@
 //! Metadata as a trace shows it.
 
-ghost use Rattle.std.specs.Prelude.{◌≡◌, ℤ, ℕ, List, OnOk, map, option_map};
+ghost use Rattle.std.specs.Prelude.{◌≡◌, ℤ, ℕ, List, map, option_map};
 ghost use Rattle.serde_json.specs.Data.{number as number_data};
 ghost use Rattle.serde_json.specs.Find.{of_integer};
 ghost use Rattle.kube_meta.specs.Reading.{unless_empty};
@@ -8,7 +8,7 @@ ghost use Rattle.kube_meta.specs.Writing.{meta_data, owner_data, texts_data};
 ghost use Rattle.kube_meta.specs.declared.metadata.ObjectMeta.{ObjectMeta as meta_record};
 ghost use Rattle.kube_meta.specs.declared.metadata.OwnerReference.{OwnerReference as owner_record};
 ghost use Rattle.kube_text.specs.Fields.{meta_members, owner_members};
-ghost use Rattle.kube_text.specs.Shown.{ShowsMembers, array_of, member_if as data_member_if};
+ghost use Rattle.kube_text.specs.Shown.{ShowsMembers, ShowsFront, array_of, member_if as data_member_if};
 
 use crate::show::{Show, member, member_if};
 use json::Writer;
@@ -65,8 +65,9 @@ impl Show for OwnerReference {
 }
 
 fn show_owner(alloc: Global, out: &mut Writer, owner: &OwnerReference) -> Result<(), AllocError>
-    ensures before { OnOk result (out.new.before ≡ out.old.before) }
+    ensures before { out.new.before ≡ out.old.before }
     ensures members { ShowsMembers result out.old out.new (owner_members owner.now) }
+    ensures front { ShowsFront result out.old out.new (owner_members owner.now) }
 {
     member(alloc, out, "apiVersion", &owner.api_version)?;
     member(alloc, out, "kind", &owner.kind)?;
@@ -93,8 +94,9 @@ impl Show for ObjectMeta {
 
 /// The members of metadata, by the bytes of their names.
 fn show_members(alloc: Global, out: &mut Writer, meta: &ObjectMeta) -> Result<(), AllocError>
-    ensures before { OnOk result (out.new.before ≡ out.old.before) }
+    ensures before { out.new.before ≡ out.old.before }
     ensures members { ShowsMembers result out.old out.new (meta_members meta.now) }
+    ensures front { ShowsFront result out.old out.new (meta_members meta.now) }
 {
     full_texts(alloc, out, "annotations", &meta.annotations)?;
     member_if(alloc, out, "deletionTimestamp", &meta.deletion_timestamp)?;
@@ -116,8 +118,9 @@ fn full_texts(
     name: &str,
     texts: &Option<TextMap>,
 ) -> Result<(), AllocError>
-    ensures before { OnOk result (out.new.before ≡ out.old.before) }
+    ensures before { out.new.before ≡ out.old.before }
     ensures members { ShowsMembers result out.old out.new (data_member_if name.now (option_map texts_data (unless_empty texts.now))) }
+    ensures front { ShowsFront result out.old out.new (data_member_if name.now (option_map texts_data (unless_empty texts.now))) }
 {
     match texts {
         Some(texts) if !texts.is_empty() => {
@@ -135,8 +138,9 @@ fn full_list<T: Show + Drop>(
     name: &str,
     items: &Option<List<T>>,
 ) -> Result<(), AllocError>
-    ensures before { OnOk result (out.new.before ≡ out.old.before) }
+    ensures before { out.new.before ≡ out.old.before }
     ensures members { ShowsMembers result out.old out.new (data_member_if name.now (option_map (λ xs. array_of T.data_of (map T.seen xs)) (unless_empty items.now))) }
+    ensures front { ShowsFront result out.old out.new (data_member_if name.now (option_map (λ xs. array_of T.data_of (map T.seen xs)) (unless_empty items.now))) }
 {
     match items {
         Some(items) if !items.is_empty() => {

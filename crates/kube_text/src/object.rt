@@ -6,8 +6,8 @@ ghost use Rattle.serde_json.specs.View.{view, members_view};
 ghost use Rattle.serde_json.specs.Written.{has_float, members_have_float};
 ghost use Rattle.kube_meta.specs.Reading.{ObjectData as object_record, others};
 ghost use Rattle.kube_meta.specs.Writing.{content_members, object_data};
-ghost use Rattle.kube_text.specs.Fields.{is_named as named, is_named_one, comes_before, left, IsPast, ShowsDue, ShowsLeft, ShowsOne};
-ghost use Rattle.kube_text.specs.Shown.{ShowsMembers, member_if as data_member_if};
+ghost use Rattle.kube_text.specs.Fields.{is_named as named, is_named_one, comes_before, left, IsPast, ShowsDue, ShowsDueFront, ShowsLeft, ShowsLeftFront, ShowsOne, ShowsOneFront};
+ghost use Rattle.kube_text.specs.Shown.{IsMore, ShowsMembers, ShowsFront, member_if as data_member_if};
 
 use crate::show::{Show, member};
 use crate::value::show_value;
@@ -47,8 +47,10 @@ impl Show for ScriptObject {
 /// none.
 #[tactic(auto, unfolding(kube_meta::specs::Reading::others))]
 fn show_content(alloc: Global, out: &mut Writer, object: &ScriptObject) -> Result<Next, AllocError>
-    ensures before { OnOk result (out.new.before ≡ out.old.before) }
+    ensures before { out.new.before ≡ out.old.before }
     ensures members { ShowsLeft result out.old out.new object.now (others (content_members object.now.content)) }
+    ensures more { OnOk result (IsMore out.old.tokens out.new.tokens) }
+    ensures front { ShowsLeftFront result out.old out.new object.now (others (content_members object.now.content)) }
 {
     match object.content() {
         Value::Object(members) => {
@@ -67,8 +69,10 @@ fn show_content_members(
     members: &Map<String, Value>,
 ) -> Result<Next, AllocError>
     requires { members_have_float (members_view members.now.entries) ≡ false }
-    ensures before { OnOk result (out.new.before ≡ out.old.before) }
+    ensures before { out.new.before ≡ out.old.before }
     ensures members { ShowsLeft result out.old out.new object.now (others (members_view members.now.entries)) }
+    ensures more { OnOk result (IsMore out.old.tokens out.new.tokens) }
+    ensures front { ShowsLeftFront result out.old out.new object.now (others (members_view members.now.entries)) }
 {
     let mut next = Next::ApiVersion;
     for (name, value) in members.iter() {
@@ -97,8 +101,10 @@ fn show_member(
 ) -> Result<Next, AllocError>
     requires whole { has_float (view value.now) ≡ false }
     requires other { named name.now ≡ false }
-    ensures before { OnOk result (out.new.before ≡ out.old.before) }
+    ensures before { out.new.before ≡ out.old.before }
     ensures members { ShowsOne result out.old out.new object.now next name.now (view value.now) }
+    ensures more { OnOk result (IsMore out.old.tokens out.new.tokens) }
+    ensures front { ShowsOneFront result out.old out.new object.now next name.now (view value.now) }
 {
     let next = show_due(alloc, out, object, next, Some(name))?;
     out.key(name)?;
@@ -115,8 +121,10 @@ fn show_due(
     name: Option<&str>,
 ) -> Result<Next, AllocError>
     requires { is_named_one (option_copied name) ≡ false }
-    ensures before { OnOk result (out.new.before ≡ out.old.before) }
+    ensures before { out.new.before ≡ out.old.before }
     ensures members { ShowsDue result out.old out.new (option_copied name.entry) next object.now }
+    ensures more { OnOk result (IsMore out.old.tokens out.new.tokens) }
+    ensures front { ShowsDueFront result out.old out.new (option_copied name.entry) next object.now }
     ensures past { IfOk result (λ after. IsPast (option_copied name.entry) (left after object.now)) }
 {
     match next {
@@ -135,8 +143,10 @@ fn due_api_version(
     name: Option<&str>,
 ) -> Result<Next, AllocError>
     requires { is_named_one (option_copied name) ≡ false }
-    ensures before { OnOk result (out.new.before ≡ out.old.before) }
+    ensures before { out.new.before ≡ out.old.before }
     ensures members { ShowsDue result out.old out.new (option_copied name.entry) Next.ApiVersion object.now }
+    ensures more { OnOk result (IsMore out.old.tokens out.new.tokens) }
+    ensures front { ShowsDueFront result out.old out.new (option_copied name.entry) Next.ApiVersion object.now }
     ensures past { IfOk result (λ after. IsPast (option_copied name.entry) (left after object.now)) }
 {
     if !is_due("apiVersion", name) {
@@ -155,8 +165,10 @@ fn due_kind(
     name: Option<&str>,
 ) -> Result<Next, AllocError>
     requires { is_named_one (option_copied name) ≡ false }
-    ensures before { OnOk result (out.new.before ≡ out.old.before) }
+    ensures before { out.new.before ≡ out.old.before }
     ensures members { ShowsDue result out.old out.new (option_copied name.entry) Next.Kind object.now }
+    ensures more { OnOk result (IsMore out.old.tokens out.new.tokens) }
+    ensures front { ShowsDueFront result out.old out.new (option_copied name.entry) Next.Kind object.now }
     ensures past { IfOk result (λ after. IsPast (option_copied name.entry) (left after object.now)) }
 {
     if !is_due("kind", name) {
@@ -175,8 +187,10 @@ fn due_metadata(
     name: Option<&str>,
 ) -> Result<Next, AllocError>
     requires { is_named_one (option_copied name) ≡ false }
-    ensures before { OnOk result (out.new.before ≡ out.old.before) }
+    ensures before { out.new.before ≡ out.old.before }
     ensures members { ShowsDue result out.old out.new (option_copied name.entry) Next.Metadata object.now }
+    ensures more { OnOk result (IsMore out.old.tokens out.new.tokens) }
+    ensures front { ShowsDueFront result out.old out.new (option_copied name.entry) Next.Metadata object.now }
     ensures past { IfOk result (λ after. IsPast (option_copied name.entry) (left after object.now)) }
 {
     if !is_due("metadata", name) {
@@ -201,8 +215,9 @@ fn show_api_version(
     out: &mut Writer,
     types: &Option<TypeMeta>,
 ) -> Result<(), AllocError>
-    ensures before { OnOk result (out.new.before ≡ out.old.before) }
+    ensures before { out.new.before ≡ out.old.before }
     ensures members { ShowsMembers result out.old out.new (data_member_if (codes "apiVersion") (option_map (λ t. string_data t.api_version) types.now)) }
+    ensures front { ShowsFront result out.old out.new (data_member_if (codes "apiVersion") (option_map (λ t. string_data t.api_version) types.now)) }
 {
     match types {
         None => Ok(()),
@@ -214,8 +229,9 @@ fn show_api_version(
 }
 
 fn show_kind(alloc: Global, out: &mut Writer, types: &Option<TypeMeta>) -> Result<(), AllocError>
-    ensures before { OnOk result (out.new.before ≡ out.old.before) }
+    ensures before { out.new.before ≡ out.old.before }
     ensures members { ShowsMembers result out.old out.new (data_member_if (codes "kind") (option_map (λ t. string_data t.kind) types.now)) }
+    ensures front { ShowsFront result out.old out.new (data_member_if (codes "kind") (option_map (λ t. string_data t.kind) types.now)) }
 {
     match types {
         None => Ok(()),

@@ -9,7 +9,7 @@ ghost use Rattle.kube_model.specs.declared.turn.Stop.{Stop as stop_type};
 ghost use Rattle.kube_text.specs.Causes.{Rose};
 ghost use Rattle.kube_text.specs.Part.{AppendsPart};
 ghost use Rattle.kube_text.specs.Pieces.{AddsMembers, BreaksOffMembers};
-ghost use Rattle.kube_text.specs.Shown.{ShowsMembers, tokens_of, array_of, member_if as data_member_if};
+ghost use Rattle.kube_text.specs.Shown.{ShowsMembers, ShowsFront, tokens_of, array_of, member_if as data_member_if};
 ghost use Rattle.kube_text.specs.TraceText.{ShownFinish, text_or_null, finish_members, finish_data, stop_word as stop_word_of, stop_data, line_members, line_text};
 ghost use Rattle.kube_text.specs.TraceView.{error_text, seen_finish, seen_record};
 
@@ -51,8 +51,9 @@ fn show_finish(
     out: &mut Writer,
     finished: &Finished<ScriptObject, Text>,
 ) -> Result<(), AllocError>
-    ensures before { OnOk result (out.new.before ≡ out.old.before) }
+    ensures before { out.new.before ≡ out.old.before }
     ensures members { ShowsMembers result out.old out.new (finish_members (seen_finish finished.now)) }
+    ensures front { ShowsFront result out.old out.new (finish_members (seen_finish finished.now)) }
 {
     show_outcome(alloc, out, &finished.outcome)?;
     member(alloc, out, "ref", &finished.reference)?;
@@ -67,8 +68,9 @@ fn show_outcome(
     out: &mut Writer,
     outcome: &Result<Action, Text>,
 ) -> Result<(), AllocError>
-    ensures before { OnOk result (out.new.before ≡ out.old.before) }
+    ensures before { out.new.before ≡ out.old.before }
     ensures members { ShowsMembers result out.old out.new (data_member (codes "error") (text_or_null (error_text outcome.now))) }
+    ensures front { ShowsFront result out.old out.new (data_member (codes "error") (text_or_null (error_text outcome.now))) }
 {
     match outcome {
         Ok(_) => {

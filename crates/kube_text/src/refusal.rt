@@ -1,7 +1,7 @@
 //! The lines that tell of a refusal.
 
-ghost use Rattle.std.specs.Prelude.{◌≡◌, ◌++◌, IfOk, OnOk, codes};
-ghost use Rattle.kube_text.specs.Shown.{ShowsMembers, tokens_of};
+ghost use Rattle.std.specs.Prelude.{◌≡◌, ◌++◌, IfOk, codes};
+ghost use Rattle.kube_text.specs.Shown.{ShowsMembers, ShowsFront, tokens_of};
 ghost use Rattle.kube_text.specs.Refusals.{script_members, placed_members, turn_members, finish_members, unnamed_members, refusal_members, refusal_data, refusal_text};
 ghost use Rattle.kube_text.specs.declared.refusal.Refusal as refusals;
 
@@ -51,8 +51,9 @@ impl Show for Refusal {
 
 /// The members of the line, by the bytes of their names.
 fn show_members(alloc: Global, out: &mut Writer, refusal: &Refusal) -> Result<(), AllocError>
-    ensures before { OnOk result (out.new.before ≡ out.old.before) }
+    ensures before { out.new.before ≡ out.old.before }
     ensures members { ShowsMembers result out.old out.new (refusal_members refusal.now) }
+    ensures front { ShowsFront result out.old out.new (refusal_members refusal.now) }
 {
     match refusal {
         Refusal::Usage => text_member(out, "error", "usage")?,
@@ -71,8 +72,9 @@ fn show_members(alloc: Global, out: &mut Writer, refusal: &Refusal) -> Result<()
 }
 
 fn show_script(out: &mut Writer, fault: &str) -> Result<(), AllocError>
-    ensures before { OnOk result (out.new.before ≡ out.old.before) }
+    ensures before { out.new.before ≡ out.old.before }
     ensures members { ShowsMembers result out.old out.new (script_members fault.now) }
+    ensures front { ShowsFront result out.old out.new (script_members fault.now) }
 {
     text_member(out, "error", "script")?;
     text_member(out, "fault", fault)?;
@@ -80,8 +82,9 @@ fn show_script(out: &mut Writer, fault: &str) -> Result<(), AllocError>
 }
 
 fn show_placed(alloc: Global, out: &mut Writer, fault: &str, place: &Text) -> Result<(), AllocError>
-    ensures before { OnOk result (out.new.before ≡ out.old.before) }
+    ensures before { out.new.before ≡ out.old.before }
     ensures members { ShowsMembers result out.old out.new (placed_members fault.now place.now) }
+    ensures front { ShowsFront result out.old out.new (placed_members fault.now place.now) }
 {
     show_script(out, fault)?;
     member(alloc, out, "place", place)?;
@@ -89,8 +92,9 @@ fn show_placed(alloc: Global, out: &mut Writer, fault: &str, place: &Text) -> Re
 }
 
 fn show_turn(alloc: Global, out: &mut Writer, turn: &u32, why: &str) -> Result<(), AllocError>
-    ensures before { OnOk result (out.new.before ≡ out.old.before) }
+    ensures before { out.new.before ≡ out.old.before }
     ensures members { ShowsMembers result out.old out.new (turn_members turn.now why.now) }
+    ensures front { ShowsFront result out.old out.new (turn_members turn.now why.now) }
 {
     text_member(out, "error", "turn")?;
     member(alloc, out, "turn", turn)?;
@@ -105,8 +109,9 @@ fn show_finish(
     turn: &u32,
     why: &str,
 ) -> Result<(), AllocError>
-    ensures before { OnOk result (out.new.before ≡ out.old.before) }
+    ensures before { out.new.before ≡ out.old.before }
     ensures members { ShowsMembers result out.old out.new (finish_members finish.now turn.now why.now) }
+    ensures front { ShowsFront result out.old out.new (finish_members finish.now turn.now why.now) }
 {
     text_member(out, "error", "turn")?;
     member(alloc, out, "finish", finish)?;
@@ -116,8 +121,9 @@ fn show_finish(
 }
 
 fn show_unnamed(alloc: Global, out: &mut Writer, source: &u32, turn: &u32) -> Result<(), AllocError>
-    ensures before { OnOk result (out.new.before ≡ out.old.before) }
+    ensures before { out.new.before ≡ out.old.before }
     ensures members { ShowsMembers result out.old out.new (unnamed_members source.now turn.now) }
+    ensures front { ShowsFront result out.old out.new (unnamed_members source.now turn.now) }
 {
     text_member(out, "error", "unnamed")?;
     member(alloc, out, "source", source)?;

@@ -1,9 +1,10 @@
 //! Values that a writer shows as JSON.
 
-ghost use Rattle.std.specs.Prelude.{◌≡◌, ℕ, Bool, List, Option, ◌++◌, OnOk, map, option_map};
+ghost use Rattle.std.specs.Prelude.{◌≡◌, ℕ, Bool, List, Option, ◌++◌, OnOk, OnErr, map, option_map};
 ghost use Rattle.std.specs.Arc.{arc_value};
+ghost use Rattle.json.specs.Written.{WritesFront};
 ghost use Rattle.serde_json.specs.Data.{Data, boolean, number, unsigned, string as string_data, member as data_member};
-ghost use Rattle.kube_text.specs.Shown.{tokens_of, item_tokens, or_null, array_of, member_if as data_member_if, ShowsMembers};
+ghost use Rattle.kube_text.specs.Shown.{tokens_of, item_tokens, or_null, array_of, member_if as data_member_if, ShowsMembers, ShowsFront};
 
 use json::Writer;
 use kube_meta::{List, Text};
@@ -22,10 +23,11 @@ pub trait Show {
 
     /// Writes it as JSON (RFC 8259).
     ///
-    /// Errors: `AllocError`; a part may have been written then.
+    /// Errors: `AllocError`. What the writer held stays, and the first tokens may stand behind it.
     fn show(&self, alloc: Global, out: &mut Writer) -> Result<(), AllocError>
-        ensures before { OnOk result (out.new.before ≡ out.old.before) }
-        ensures tokens { OnOk result (out.new.tokens ≡ out.old.tokens ++ tokens_of (data_of (seen self.now))) };
+        ensures before { out.new.before ≡ out.old.before }
+        ensures tokens { OnOk result (out.new.tokens ≡ out.old.tokens ++ tokens_of (data_of (seen self.now))) }
+        ensures front { OnErr result (WritesFront out.old.tokens out.new.tokens (tokens_of (data_of (seen self.now)))) };
 }
 
 impl Show for u64 {
@@ -134,11 +136,14 @@ impl<T: Show + Drop> Show for List<T> {
         for value in self.as_slice() {
             value.show(alloc, out)?;
         }
-        out.end_array()
+        out.end_array()?;
+        Ok(())
     }
 }
 
 /// A member of an object.
+///
+/// Errors: `AllocError`. What the writer held stays, and the first tokens of the member may stand behind it.
 #[tactic(auto, using(crate::proofs::Shown::member_shown))]
 pub fn member<T: Show>(
     alloc: Global,
@@ -146,8 +151,9 @@ pub fn member<T: Show>(
     name: &str,
     value: &T,
 ) -> Result<(), AllocError>
-    ensures before { OnOk result (out.new.before ≡ out.old.before) }
+    ensures before { out.new.before ≡ out.old.before }
     ensures members { ShowsMembers result out.old out.new (data_member name.now (T.data_of (T.seen value.now))) }
+    ensures front { ShowsFront result out.old out.new (data_member name.now (T.data_of (T.seen value.now))) }
 {
     out.key(name)?;
     value.show(alloc, out)?;
@@ -155,14 +161,17 @@ pub fn member<T: Show>(
 }
 
 /// A member of an object, where it is there.
+///
+/// Errors: those of [`member`].
 pub fn member_if<T: Show>(
     alloc: Global,
     out: &mut Writer,
     name: &str,
     value: &Option<T>,
 ) -> Result<(), AllocError>
-    ensures before { OnOk result (out.new.before ≡ out.old.before) }
+    ensures before { out.new.before ≡ out.old.before }
     ensures members { ShowsMembers result out.old out.new (data_member_if name.now (option_map T.data_of (option_map T.seen value.now))) }
+    ensures front { ShowsFront result out.old out.new (data_member_if name.now (option_map T.data_of (option_map T.seen value.now))) }
 {
     match value {
         None => Ok(()),
@@ -174,10 +183,13 @@ pub fn member_if<T: Show>(
 }
 
 /// A member of an object whose value is a text.
+///
+/// Errors: those of [`member`].
 #[tactic(auto, using(crate::proofs::Shown::member_shown), unfolding(crate::specs::Shown::tokens_of))]
 pub fn text_member(out: &mut Writer, name: &str, text: &str) -> Result<(), AllocError>
-    ensures before { OnOk result (out.new.before ≡ out.old.before) }
+    ensures before { out.new.before ≡ out.old.before }
     ensures members { ShowsMembers result out.old out.new (data_member name.now (string_data text.now)) }
+    ensures front { ShowsFront result out.old out.new (data_member name.now (string_data text.now)) }
 {
     out.key(name)?;
     out.string(text)?;

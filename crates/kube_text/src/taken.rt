@@ -1,8 +1,9 @@
 //! What was taken, as a trace shows it.
 
-ghost use Rattle.std.specs.Prelude.{◌≡◌, ◌≤◌, ◌++◌, Option, OnOk, IsErrOf, codes, false, true, is_some, map, option_map};
+ghost use Rattle.std.specs.Prelude.{◌≡◌, ◌≤◌, ◌++◌, Option, OnOk, OnErr, IsErrOf, codes, false, true, is_some, map, option_map};
 ghost use Rattle.std.specs.List.{filter_map};
 ghost use Rattle.std.specs.Arc.{arc_value};
+ghost use Rattle.json.specs.Written.{WritesFront};
 ghost use Rattle.serde_json.specs.Data.{member as data_member};
 ghost use Rattle.serde_json.specs.View.{items_of};
 ghost use Rattle.serde_json.specs.Written.{items_text};
@@ -12,8 +13,8 @@ ghost use Rattle.kube_model.specs.History.{Taken as take_record};
 ghost use Rattle.kube_model.specs.ReasonView.{reason_of};
 ghost use Rattle.kube_text.specs.Causes.{Rose};
 ghost use Rattle.kube_text.specs.Pieces.{Adds, BreaksOff, AddsMembers, BreaksOffMembers};
-ghost use Rattle.kube_text.specs.Shown.{ShowsMembers, tokens_of, or_null, array_of, member_if as data_member_if};
-ghost use Rattle.kube_text.specs.TraceText.{taken_members, taken_data};
+ghost use Rattle.kube_text.specs.Shown.{ShowsMembers, ShowsFront, tokens_of, or_null, array_of, member_if as data_member_if};
+ghost use Rattle.kube_text.specs.TraceText.{taken_with, taken_members, taken_data};
 ghost use Rattle.kube_object.specs.Named.{named_type};
 ghost use Rattle.kube_text.specs.TraceView.{seen_reference};
 ghost use Rattle.kube_turn.specs.Views.{taken_of};
@@ -108,11 +109,9 @@ fn show_message(
     reason: &ReconcileReason,
     object: Option<&Arc<ScriptObject>>,
 ) -> Result<(), AllocError>
-    ensures before { OnOk result (out.new.before ≡ out.old.before) }
-    ensures tokens { OnOk result (out.new.tokens ≡ out.old.tokens ++ tokens_of (taken_data (record {
-      message = record { reference = seen_reference reference.now; reason = reason_of reason.now };
-      object = option_map (λ o. arc_value o.now) object.entry;
-    }))) }
+    ensures before { out.new.before ≡ out.old.before }
+    ensures tokens { OnOk result (out.new.tokens ≡ out.old.tokens ++ tokens_of (taken_data (taken_with (seen_reference reference.now) (reason_of reason.now) (option_map (λ o. arc_value o.now) object.entry)))) }
+    ensures front { OnErr result (WritesFront out.old.tokens out.new.tokens (tokens_of (taken_data (taken_with (seen_reference reference.now) (reason_of reason.now) (option_map (λ o. arc_value o.now) object.entry))))) }
 {
     out.begin_object()?;
     show_members(alloc, out, reference, reason, object)?;
@@ -128,11 +127,9 @@ fn show_members(
     reason: &ReconcileReason,
     object: Option<&Arc<ScriptObject>>,
 ) -> Result<(), AllocError>
-    ensures before { OnOk result (out.new.before ≡ out.old.before) }
-    ensures members { ShowsMembers result out.old out.new (taken_members (record {
-      message = record { reference = seen_reference reference.now; reason = reason_of reason.now };
-      object = option_map (λ o. arc_value o.now) object.entry;
-    })) }
+    ensures before { out.new.before ≡ out.old.before }
+    ensures members { ShowsMembers result out.old out.new (taken_members (taken_with (seen_reference reference.now) (reason_of reason.now) (option_map (λ o. arc_value o.now) object.entry))) }
+    ensures front { ShowsFront result out.old out.new (taken_members (taken_with (seen_reference reference.now) (reason_of reason.now) (option_map (λ o. arc_value o.now) object.entry))) }
 {
     member(alloc, out, "found", &object.is_some())?;
     show_object(alloc, out, object)?;
@@ -146,8 +143,10 @@ fn show_object(
     out: &mut Writer,
     object: Option<&Arc<ScriptObject>>,
 ) -> Result<(), AllocError>
-    ensures before { OnOk result (out.new.before ≡ out.old.before) }
+    ensures before { out.new.before ≡ out.old.before }
     ensures members { ShowsMembers result out.old out.new
+        (data_member_if (codes "object") (option_map object_data (option_map (λ o. arc_value o.now) object.entry))) }
+    ensures front { ShowsFront result out.old out.new
         (data_member_if (codes "object") (option_map object_data (option_map (λ o. arc_value o.now) object.entry))) }
 {
     match object {

@@ -1,6 +1,6 @@
 //! Streams of requests (kube-runtime's `controller::trigger_with` and what stands on it).
 
-ghost use Rattle.std.specs.Prelude.{◌≡◌, ◌++◌, ◌∷◌, [], Err, Ok, Vec, false, true, IfOk, IsErrOf, None, OnOk, map};
+ghost use Rattle.std.specs.Prelude.{◌≡◌, ◌++◌, ◌∷◌, [], Err, Ok, Vec, false, true, IfOk, IsErrOf, None, OnErr, OnOk, map};
 ghost use Rattle.std.specs.Arc.{arc_value};
 ghost use Rattle.std.specs.Fn.{FnReturns};
 ghost use Rattle.kube_meta.specs.Keys.{is_named, key_of, reference_of};
@@ -32,15 +32,20 @@ fn call<I, T, F: Fn(I) -> T>(function: &F, item: I) -> T
     function(item)
 }
 
-/// Puts each of these at the end of what waits.
+/// Puts each of these where nothing waits: all of them, or none.
 fn wait_each<J: Drop>(
     waiting: &mut VecDeque<Result<J, Error>>,
     given: Vec<J>,
 ) -> Result<(), NoMemory>
-    ensures { OnOk result (waiting.new.items ≡ waiting.old.items ++ map Ok given.items) }
+    requires none { waiting.old.items ≡ [] }
+    ensures given { OnOk result (waiting.new.items ≡ map Ok given.items) }
+    ensures err { OnErr result (waiting.new.items ≡ []) }
 {
     for one in given {
-        wait(waiting, Ok(one))?;
+        if let Err(fault) = wait(waiting, Ok(one)) {
+            waiting.clear();
+            return Err(fault);
+        }
     }
     Ok(())
 }
@@ -98,6 +103,7 @@ impl<I: Drop, K: Resource, F: Fn(I) -> Result<Vec<ReconcileRequest<K>>, StreamFa
         ensures may { F.IsAlwaysCallable self.new.mapper }
         ensures taken { IsTaken ((self.new ≡ self.old) × IsPassedOn (λ item gives. (requests : Vec (ReconcileRequest K K.DynamicType) Global) × FnReturns F.Fn self.old.mapper (item, tt) (Ok requests) × (gives ≡ map Ok requests.items)) told waiting.new.items)
             (IsItem (λ item. FnReturns F.Fn self.old.mapper (item, tt) (Err StreamFault.Unnamed)) told) result }
+        ensures err { OnErr result ((self.new ≡ self.old) × (waiting.new.items ≡ [])) }
     {
         match told {
             Ok(item) => match call(&self.mapper, item) {
@@ -136,6 +142,7 @@ impl<K: Resource> Adapt<Arc<K>, ReconcileRequest<K>> for Own<K> {
         requires none { waiting.old.items ≡ [] }
         ensures taken { IsTaken ((self.new ≡ self.old) × IsPassedOn (λ object gives. (is_named (K.meta_of (arc_value object)) ≡ true) × AreGiven K.type_of (λ ms. ms ≡ updated_of (K.type_of self.old.dyntype) K.meta_of (arc_value object) ∷ []) gives) told waiting.new.items)
             (IsItem (λ object. is_named (K.meta_of (arc_value object)) ≡ false) told) result }
+        ensures err { OnErr result ((self.new ≡ self.old) × (waiting.new.items ≡ [])) }
     {
         match told {
             Ok(object) => match key(alloc, &self.dyntype, &*object) {
@@ -157,8 +164,8 @@ pub struct Mapped<V: Resource, M> {
     pub dyntype: V::DynamicType,
 }
 
-/// Puts a request for each of these at the end of what waits, for the sake of an object.
-fn wait_related<K: Resource>(
+/// Puts a request for each of these at the end of what waits, for the sake of an object, as far as there is memory.
+fn push_related<K: Resource>(
     alloc: Global,
     waiting: &mut VecDeque<Result<ReconcileRequest<K>, Error>>,
     references: &[ObjectRef<K>],
@@ -171,6 +178,26 @@ fn wait_related<K: Resource>(
         wait(waiting, Ok(request(alloc, reference, related)?))?;
     }
     Ok(())
+}
+
+/// Puts a request for each of these where nothing waits, for the sake of an object: all of them, or none.
+fn wait_related<K: Resource>(
+    alloc: Global,
+    waiting: &mut VecDeque<Result<ReconcileRequest<K>, Error>>,
+    references: &[ObjectRef<K>],
+    related: &ObjectRef<DynamicObject>,
+) -> Result<(), NoMemory>
+    requires none { waiting.old.items ≡ [] }
+    ensures given { OnOk result (AreGiven K.type_of (λ ms. ms ≡ map (related_by (reference_of (λ t. resource_type (arc_value t)) related.now)) (map (reference_of K.type_of) references.now)) waiting.new.items) }
+    ensures err { OnErr result (waiting.new.items ≡ []) }
+{
+    match push_related(alloc, waiting, references, related) {
+        Ok(()) => Ok(()),
+        Err(fault) => {
+            waiting.clear();
+            Err(fault)
+        }
+    }
 }
 
 impl<V: Resource, K: Resource, M: Mapper<V, K>> Adapt<Arc<V>, ReconcileRequest<K>>
@@ -198,6 +225,7 @@ impl<V: Resource, K: Resource, M: Mapper<V, K>> Adapt<Arc<V>, ReconcileRequest<K
         ensures may { M.can_map self.new.mapper }
         ensures taken { IsTaken ((self.new ≡ self.old) × IsPassedOn (λ object gives. GivesMapped K.type_of (V.type_of self.old.dyntype) V.meta_of (M.answers self.old.mapper) (arc_value object) gives) told waiting.new.items)
             (IsItem (λ object. is_named (V.meta_of (arc_value object)) ≡ false) told) result }
+        ensures err { OnErr result ((self.new ≡ self.old) × (waiting.new.items ≡ [])) }
     {
         match told {
             Ok(object) => match key(alloc, &self.dyntype, &*object) {

@@ -1,6 +1,6 @@
 //! Tests of requests, of the configuration and of a turn's results.
 
-use kube_meta::{ApiResource, DynamicObject, List, Moment, NoMemory, ObjectMeta, ObjectRef, Text};
+use kube_meta::{ApiResource, DynamicObject, List, Moment, ObjectMeta, ObjectRef, Text};
 use kube_model::error::{Error as WatcherError, WriterDropped};
 use kube_turn::error::Error;
 use kube_turn::{
@@ -9,6 +9,7 @@ use kube_turn::{
 };
 use std::alloc::Global;
 use std::collections::HashSet;
+use std::panic::Expect;
 use std::process::Abort;
 use std::sync::Arc;
 use std::test::Fail;
@@ -16,77 +17,81 @@ use std::test::Fail;
 type Request = ReconcileRequest<DynamicObject>;
 
 /// The type of config maps.
-fn config_maps(alloc: Global) -> Result<Arc<ApiResource>, NoMemory> {
+fn config_maps(rt: &impl Abort, alloc: Global) -> Arc<ApiResource> {
     let resource = ApiResource {
-        group: Text::new(alloc, "")?,
-        version: Text::new(alloc, "v1")?,
-        api_version: Text::new(alloc, "v1")?,
-        kind: Text::new(alloc, "ConfigMap")?,
-        plural: Text::new(alloc, "configmaps")?,
+        group: Text::new(alloc, "").expect(rt, "memory"),
+        version: Text::new(alloc, "v1").expect(rt, "memory"),
+        api_version: Text::new(alloc, "v1").expect(rt, "memory"),
+        kind: Text::new(alloc, "ConfigMap").expect(rt, "memory"),
+        plural: Text::new(alloc, "configmaps").expect(rt, "memory"),
     };
-    Ok(Arc::new(alloc, resource)?)
+    Arc::new(alloc, resource).expect(rt, "memory")
 }
 
 /// The reference to the config map of a number.
 fn reference(
+    rt: &impl Abort,
     alloc: Global,
     kind: &Arc<ApiResource>,
     number: u32,
-) -> Result<ObjectRef<DynamicObject>, NoMemory> {
-    let name = Text::from(format!(in alloc; "o{number}")?);
-    ObjectRef::new_with(alloc, name.as_str(), kind.clone()?)
+) -> ObjectRef<DynamicObject> {
+    let name = Text::from(format!(in alloc; "o{number}").expect(rt, "memory"));
+    let kind = kind.clone().expect(rt, "memory");
+    ObjectRef::new_with(alloc, name.as_str(), kind).expect(rt, "memory")
 }
 
 /// Requests for so many config maps, each for a reason that is not known.
-fn requests(alloc: Global, kind: &Arc<ApiResource>, end: u32) -> Result<Vec<Request>, NoMemory> {
+fn requests(rt: &impl Abort, alloc: Global, kind: &Arc<ApiResource>, end: u32) -> Vec<Request> {
     let mut requests = Vec::new(alloc);
     for number in 0..end {
-        requests.push(ReconcileRequest::from_ref(reference(alloc, kind, number)?))?;
+        let request = ReconcileRequest::from_ref(reference(rt, alloc, kind, number));
+        requests.push(request).expect(rt, "memory");
     }
-    Ok(requests)
+    requests
 }
 
 /// A copy for another reason.
-fn in_bulk(alloc: Global, request: &Request) -> Result<Request, NoMemory> {
-    let copy = request.copy(alloc)?;
-    Ok(ReconcileRequest {
-        obj_ref: copy.obj_ref,
+fn in_bulk(rt: &impl Abort, alloc: Global, request: &Request) -> Request {
+    ReconcileRequest {
+        obj_ref: request.obj_ref.copy(alloc).expect(rt, "memory"),
         reason: ReconcileReason::BulkReconcile,
-    })
+    }
 }
 
 /// How many different requests these and their copies for another reason are.
-fn count(alloc: Global, requests: &[Request]) -> Result<usize, Fail> {
+fn count(rt: &impl Abort, alloc: Global, requests: &[Request]) -> usize {
     let mut seen = HashSet::new(alloc);
     for request in requests {
-        seen.insert(request.copy(alloc)?)?;
-        seen.insert(in_bulk(alloc, request)?)?;
+        let copy = request.copy(alloc).expect(rt, "memory");
+        seen.insert(copy).expect(rt, "memory");
+        seen.insert(in_bulk(rt, alloc, request))
+            .expect(rt, "memory");
     }
-    Ok(seen.len())
+    seen.len()
 }
 
 #[test]
 fn equal_requests_are_one(rt: HostRuntime) -> Result<(), Fail> {
     let alloc = rt.alloc();
-    let kind = config_maps(alloc)?;
-    let requests = requests(alloc, &kind, 1000)?;
-    assert_eq!(rt; count(alloc, requests.as_slice())?, 1000);
+    let kind = config_maps(&rt, alloc);
+    let requests = requests(&rt, alloc, &kind, 1000);
+    assert_eq!(rt; count(&rt, alloc, requests.as_slice()), 1000);
     Ok(())
 }
 
 /// Whether a request is equal to another one.
-fn is_equal(alloc: Global, numbers: (u32, u32)) -> Result<bool, NoMemory> {
-    let kind = config_maps(alloc)?;
-    let one = ReconcileRequest::from_ref(reference(alloc, &kind, numbers.0)?);
-    let other = ReconcileRequest::from(reference(alloc, &kind, numbers.1)?);
-    Ok(one == in_bulk(alloc, &other)?)
+fn is_equal(rt: &impl Abort, alloc: Global, numbers: (u32, u32)) -> bool {
+    let kind = config_maps(rt, alloc);
+    let one = ReconcileRequest::from_ref(reference(rt, alloc, &kind, numbers.0));
+    let other = ReconcileRequest::from(reference(rt, alloc, &kind, numbers.1));
+    one == in_bulk(rt, alloc, &other)
 }
 
 #[test]
 fn requests_are_equal_where_their_references_are(rt: HostRuntime) -> Result<(), Fail> {
     let alloc = rt.alloc();
-    assert!(rt; is_equal(alloc, (1, 1))?);
-    assert!(rt; !is_equal(alloc, (1, 2))?);
+    assert!(rt; is_equal(&rt, alloc, (1, 1)));
+    assert!(rt; !is_equal(&rt, alloc, (1, 2)));
     Ok(())
 }
 
@@ -106,22 +111,23 @@ fn a_configuration_is_set_by_its_calls(rt: HostRuntime) -> Result<(), Fail> {
 
 /// The config map of a number as it was taken, where it was found.
 fn taken(
+    rt: &impl Abort,
     alloc: Global,
     kind: &Arc<ApiResource>,
     number: u32,
     is_found: bool,
-) -> Result<Taken<DynamicObject>, NoMemory> {
-    let reference = reference(alloc, kind, number)?;
+) -> Taken<DynamicObject> {
+    let reference = reference(rt, alloc, kind, number);
     let reason = ReconcileReason::Unknown;
     if !is_found {
-        return Ok(Taken::NotFound { reference, reason });
+        return Taken::NotFound { reference, reason };
     }
-    let object = Arc::new(alloc, DynamicObject::bare(ObjectMeta::empty()))?;
-    Ok(Taken::Started {
+    let object = Arc::new(alloc, DynamicObject::bare(ObjectMeta::empty())).expect(rt, "memory");
+    Taken::Started {
         reference,
         reason,
         object,
-    })
+    }
 }
 
 /// What was asked of a source that gave an error, or none.
@@ -138,31 +144,43 @@ fn exchange(error: Option<WatcherError>, alloc: Global) -> SourceExchange<Dynami
 
 /// The reconcile of a config map, which ended by this.
 fn finished(
+    rt: &impl Abort,
     alloc: Global,
     kind: &Arc<ApiResource>,
     number: u32,
     outcome: Result<Action, Text>,
-) -> Result<Finished<DynamicObject, Text>, NoMemory> {
-    Ok(Finished {
-        reference: reference(alloc, kind, number)?,
+) -> Finished<DynamicObject, Text> {
+    Finished {
+        reference: reference(rt, alloc, kind, number),
         outcome,
         action: Action::requeue(7),
-    })
+    }
 }
 
 /// What a turn did in which something of each kind happened.
-fn eventful(alloc: Global) -> Result<TurnRecord<DynamicObject, Text>, NoMemory> {
-    let kind = config_maps(alloc)?;
+fn eventful(rt: &impl Abort, alloc: Global) -> TurnRecord<DynamicObject, Text> {
+    let kind = config_maps(rt, alloc);
+    let fault = Text::new(alloc, "no disk").expect(rt, "memory");
     let mut finishes = List::new(alloc);
-    finishes.push(finished(alloc, &kind, 1, Err(Text::new(alloc, "no disk")?))?)?;
-    finishes.push(finished(alloc, &kind, 2, Ok(Action::requeue(7)))?)?;
+    finishes
+        .push(finished(rt, alloc, &kind, 1, Err(fault)))
+        .expect(rt, "memory");
+    finishes
+        .push(finished(rt, alloc, &kind, 2, Ok(Action::requeue(7))))
+        .expect(rt, "memory");
     let mut exchanges = List::new(alloc);
-    exchanges.push(exchange(None, alloc))?;
-    exchanges.push(exchange(Some(WatcherError::NoResourceVersion), alloc))?;
+    exchanges.push(exchange(None, alloc)).expect(rt, "memory");
+    exchanges
+        .push(exchange(Some(WatcherError::NoResourceVersion), alloc))
+        .expect(rt, "memory");
     let mut takes = List::new(alloc);
-    takes.push(taken(alloc, &kind, 3, true)?)?;
-    takes.push(taken(alloc, &kind, 4, false)?)?;
-    Ok(TurnRecord {
+    takes
+        .push(taken(rt, alloc, &kind, 3, true))
+        .expect(rt, "memory");
+    takes
+        .push(taken(rt, alloc, &kind, 4, false))
+        .expect(rt, "memory");
+    TurnRecord {
         at: Moment(0),
         finished: finishes,
         exchanges,
@@ -171,35 +189,37 @@ fn eventful(alloc: Global) -> Result<TurnRecord<DynamicObject, Text>, NoMemory> 
         store: None,
         runner: Some(RunnerError::Readiness(WriterDropped)),
         ended: true,
-    })
+    }
 }
 
 /// What is told of a result.
 fn told(
+    rt: &impl Abort,
     alloc: Global,
     one: &Result<(ObjectRef<DynamicObject>, Action), Error<Text>>,
-) -> Result<String, NoMemory> {
-    Ok(match one {
+) -> String {
+    match one {
         Ok((reference, action)) => {
             let nanos = action.requeue_after().unwrap_or(0);
-            format!(in alloc; "{reference} again after {nanos}")?
+            format!(in alloc; "{reference} again after {nanos}").expect(rt, "memory")
         }
-        Err(error) => format!(in alloc; "{error}")?,
-    })
+        Err(error) => format!(in alloc; "{error}").expect(rt, "memory"),
+    }
 }
 
 /// What is told of these results, a line each.
 fn all_told(
+    rt: &impl Abort,
     alloc: Global,
     results: &[Result<(ObjectRef<DynamicObject>, Action), Error<Text>>],
-) -> Result<String, NoMemory> {
+) -> String {
     let mut lines = String::new(alloc);
     for one in results {
-        let line = told(alloc, one)?;
-        lines.push_str(line.as_str())?;
-        lines.push_str("\n")?;
+        let line = told(rt, alloc, one);
+        lines.push_str(line.as_str()).expect(rt, "memory");
+        lines.push_str("\n").expect(rt, "memory");
     }
-    Ok(lines)
+    lines
 }
 
 /// The results of an eventful turn, in order.
@@ -213,7 +233,9 @@ runner error: readiness gate failed to become ready: writer was dropped before s
 #[test]
 fn results_are_finishes_then_errors_then_what_is_missing(rt: HostRuntime) -> Result<(), Fail> {
     let alloc = rt.alloc();
-    let results = eventful(alloc)?.into_results(alloc)?;
-    assert_eq!(rt; all_told(alloc, results.as_slice())?.as_str(), RESULTS);
+    let results = eventful(&rt, alloc)
+        .into_results(alloc)
+        .expect(&rt, "memory");
+    assert_eq!(rt; all_told(&rt, alloc, results.as_slice()).as_str(), RESULTS);
     Ok(())
 }

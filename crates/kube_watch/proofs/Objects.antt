@@ -1,5 +1,5 @@
 -- What the exchanges of one poll of an object come to.
-use Rattle.std.proofs.Common.{◌≡◌, ℕ, ◌+◌, ◌<◌, length, Bool, true, false, not, List, [], ◌∷◌, ◌++◌, Some, None, refl, sym, ap, ◌∙◌, subst, append_assoc, append-nil, arith}
+use Rattle.std.proofs.Common.{◌≡◌, ℕ, ◌+◌, ◌<◌, length, Bool, true, false, not, List, [], ◌∷◌, ◌++◌, Some, None, refl, sym, ap, ◌∙◌, subst, append_assoc, append-nil, inr, arith}
 use Rattle.std.proofs.lemmas.List.{length-append}
 use Rattle.kube_meta.specs.declared.poll.Next.{Next}
 use Rattle.kube_meta.specs.declared.poll.Next.TheVariants.{Item, NotReady, Spent}
@@ -9,9 +9,9 @@ use Rattle.kube_model.specs.Owed.{is_not_ready, owed}
 use Rattle.kube_watch.specs.Calls.{IsAskedOnce}
 use Rattle.kube_watch.specs.Stands.{StandsFor, exchanges_in, row_of, settings_in}
 use Rattle.kube_watch.specs.Watching.{Told, Watching}
-use Rattle.kube_watch.specs.Polls.{look_of, answered_by, polled, told_by, Api, Exchanged, Lost, Filled}
-use Rattle.kube_watch.specs.Objects.{Found, answer_to, answers_to, answers_in, held_after, held_by, held_through, is_held, object_looks, with_answer, Observing, PolledObject}
-use Rattle.kube_watch.proofs.Polls.{quiets, quiets-snoc, ended_by, answered-then, answered-quiet, look-unready, look-ready, exchanged-none, exchanged-more, exchanged-as, told-last, lost-after}
+use Rattle.kube_watch.specs.Polls.{look_of, answered_by, polled, told_by, Api, Exchanged, LostAfter, Filled}
+use Rattle.kube_watch.specs.Objects.{Found, GiveNothing, LostObject, answer_to, answers_to, answers_in, held_after, held_by, held_through, is_held, object_looks, with_answer, Observing, PolledObject}
+use Rattle.kube_watch.proofs.Polls.{quiets, quiets-of, quiets-snoc, ended_by, answered-then, answered-quiet, look-unready, look-ready, exchanged-none, exchanged-more, exchanged-as, told-last, lost-after}
 
 module _ {V : Type 0} (settings : Settings) where
   looks-snoc : (held : Bool) (before xs : List (Exchange V)) (x : Exchange V)
@@ -150,10 +150,29 @@ module _ {A V : Type 0} (api : Api A V) (now : ℕ) where
   pub lost-quiet : (n fuel : ℕ) (old o v : Observing A V) (new : Watching A V) → v ≡ o → AllQuiet n old o → n < fuel
       → ((ds : List (Dated V)) → StandsFor ds v.watcher
       → IsAskedOnce (settings_in v.watcher) (owed (Watched (settings_in v.watcher)) (exchanges_in ds)) (api.talk v.watcher.api) (api.talk new.api))
-      → Lost api now fuel old.watcher new
+      → LostAfter api now fuel (GiveNothing (settings_in old.watcher) (is_held old)) old.watcher new
   lost-quiet n fuel old o v new same q less lost =
-      lost-after api now fuel old.watcher v.watcher new q.exchanges (subst (λ (u : Observing A V). Exchanged api now old.watcher q.exchanges u.watcher) (sym same) q.exchanged)
-      (let k = q.count in omega arith) lost
+      lost-after api now fuel (GiveNothing (settings_in old.watcher) (is_held old)) old.watcher v.watcher new q.exchanges
+      (subst (λ (u : Observing A V). Exchanged api now old.watcher q.exchanges u.watcher) (sym same) q.exchanged)
+      (let k = q.count in omega arith) (λ ds h. q.quiet ds h ∙ quiets-of q.exchanges n q.count) lost
+
+  -- what waited gave no answer
+  pub lost-taken : (fuel : ℕ) (old o new : Observing A V) → answers_in old ≡ [] → o.watcher ≡ record old.watcher { waiting = o.watcher.waiting } → is_held o ≡ is_held old
+      → LostAfter api now fuel (GiveNothing (settings_in o.watcher) (is_held o)) o.watcher new.watcher → LostObject api now fuel old new
+  lost-taken fuel old o new none same held l =
+      let m = subst (λ (w : Watching A V). LostAfter api now fuel (GiveNothing (settings_in w) (is_held o)) w new.watcher) same l in
+      inr (
+        none,
+        record {
+          exchanges = m.exchanges;
+          reached = m.reached;
+          few = m.few;
+          calls = m.calls;
+          made = λ ds h. m.made ds (record { stands = h.stands; unspent = h.unspent });
+          told = λ ds h. subst (λ k. GiveNothing (settings_in old.watcher) k (exchanges_in ds) m.exchanges) held (m.told ds (record { stands = h.stands; unspent = h.unspent }));
+          once = λ ds h. m.once ds (record { stands = h.stands; unspent = h.unspent });
+        },
+      )
 
   -- the first answer to what waits is given without an exchange
   pub given-first : (fuel : ℕ) (old new : Observing A V) (found : Found V) → answers_in old ≡ found ∷ answers_in new → new.watcher ≡ record old.watcher { waiting = new.watcher.waiting }

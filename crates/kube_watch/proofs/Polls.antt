@@ -1,5 +1,5 @@
 -- What the exchanges of one poll come to.
-use Rattle.std.proofs.Common.{◌≡◌, ℕ, zero, suc, ◌+◌, ◌<◌, ◌≤◌, length, Bool, true, false, not, List, [], ◌∷◌, ◌++◌, map, Option, Some, None, refl, sym, ap, ◌∙◌, subst, append_assoc, append-nil, inl, arith}
+use Rattle.std.proofs.Common.{◌≡◌, ℕ, zero, suc, ◌+◌, ◌<◌, length, Bool, true, false, not, List, [], ◌∷◌, ◌++◌, map, Option, Some, None, refl, sym, ap, ◌∙◌, subst, append_assoc, append-nil, inr, replicate, arith}
 use Rattle.std.proofs.lemmas.List.{length-append}
 use Rattle.kube_meta.specs.declared.poll.Next.{Next}
 use Rattle.kube_meta.specs.declared.poll.Next.TheVariants.{Item, NotReady, Spent}
@@ -12,7 +12,7 @@ use Rattle.kube_watch.specs.Calls.{IsAskedOnce}
 use Rattle.kube_watch.specs.Configs.{settings_of}
 use Rattle.kube_watch.specs.Stands.{StandsFor, exchanges_in, row_of, settings_in}
 use Rattle.kube_watch.specs.Watching.{Told, Watching}
-use Rattle.kube_watch.specs.Polls.{Look, Tells, Waits, Quiet, look_of, answered_by, polled, told_by, looks, IsNext, AreNext, dated_now, Api, IsCall, AreCalls, Exchanged, Lost, Polled, Filled}
+use Rattle.kube_watch.specs.Polls.{Look, Tells, Waits, Quiet, look_of, answered_by, polled, told_by, looks, IsNext, AreNext, dated_now, Api, IsCall, AreCalls, AreQuiet, Exchanged, Lost, LostAfter, Polled, Filled}
 
 -- so many exchanges that tell nothing
 abbrev pub quiets : {T : Type 0} → ℕ → List (Look T)
@@ -22,6 +22,13 @@ quiets (suc n) = Quiet ∷ quiets n
 pub quiets-snoc : {T : Type 0} (n : ℕ) → quiets {T = T} n ++ Quiet ∷ [] ≡ quiets (n + 1)
 quiets-snoc zero = refl
 quiets-snoc {T = T} (suc n) = (let e : suc (n + 1) ≡ suc n + 1 = omega arith in ap (λ ls. Quiet ∷ ls) (quiets-snoc n) ∙ ap (quiets {T = T}) e)
+
+quiets-all : {T : Type 0} (n : ℕ) → quiets {T = T} n ≡ replicate n Quiet
+quiets-all zero = refl
+quiets-all {T = T} (suc n) = ap (λ ls. Quiet ∷ ls) (quiets-all {T = T} n)
+
+pub quiets-of : {T X : Type 0} (xs : List X) (n : ℕ) → length xs ≡ n → quiets {T = T} n ≡ replicate (length xs) Quiet
+quiets-of {T = T} xs n count = quiets-all {T = T} n ∙ ap (λ k. replicate k Quiet) (sym count)
 
 -- how a poll ends by an exchange
 abbrev pub ended_by : {T : Type 0} → Look T → Option (Next T × List T)
@@ -232,40 +239,28 @@ module _ {A V : Type 0} (api : Api A V) (now : ℕ) where
   }
 
   -- memory could not be had after these
-  pub lost-after : (fuel : ℕ) (old w new : Watching A V) (xs : List (Exchange V)) → Exchanged api now old xs w → length xs ≤ fuel
+  pub lost-after : (fuel : ℕ) (is_so : List (Exchange V) → List (Exchange V) → Type 0) (old w new : Watching A V) (xs : List (Exchange V)) → Exchanged api now old xs w → length xs < fuel
+      → ((ds : List (Dated V)) → StandsFor ds old → is_so (exchanges_in ds) xs)
       → ((ds : List (Dated V)) → StandsFor ds w → IsAskedOnce (settings_in w) (owed (Watched (settings_in w)) (exchanges_in ds)) (api.talk w.api) (api.talk new.api))
-      → Lost api now fuel old new
-  lost-after fuel old w new xs e few lost = record {
+      → LostAfter api now fuel is_so old new
+  lost-after fuel is_so old w new xs e few told lost = record {
     exchanges = xs;
     reached = w.api;
     few = few;
     calls = e.calls;
     made = e.made;
+    told = told;
     once = λ ds h.
         subst (λ s. IsAskedOnce s (owed (Watched s) (exchanges_in ds ++ xs)) (api.talk w.api) (api.talk new.api)) (ap settings_of e.config)
         (subst (λ ys. IsAskedOnce (settings_in w) (owed (Watched (settings_in w)) ys) (api.talk w.api) (api.talk new.api)) (exchanges-with now ds xs)
         (lost (ds ++ map (dated_now now) xs) (e.stands ds h)));
   }
 
-  pub lost-quiet : (n fuel : ℕ) (old w new : Watching A V) → AllQuiet n old w → n < fuel
+  pub lost-quiet : (n fuel : ℕ) (old w new : Watching A V) → AllQuiet n old w → n < fuel → old.waiting ≡ []
       → ((ds : List (Dated V)) → StandsFor ds w → IsAskedOnce (settings_in w) (owed (Watched (settings_in w)) (exchanges_in ds)) (api.talk w.api) (api.talk new.api))
       → Lost api now fuel old new
-  lost-quiet n fuel old w new q less lost = lost-after fuel old w new q.exchanges q.exchanged (let k = q.count in omega arith) lost
-
-  -- nothing was asked
-  pub lost-none : (fuel : ℕ) (old : Watching A V) → Lost api now fuel old old
-  lost-none fuel old = lost-after fuel old old old [] (exchanged-none old) (omega arith) (λ ds h. inl refl)
-
-  -- what waits makes no difference
-  pub lost-as : (fuel : ℕ) (old w new : Watching A V) → w ≡ record old { waiting = w.waiting } → Lost api now fuel w new → Lost api now fuel old new
-  lost-as fuel old w new same l = (let m = subst (λ v. Lost api now fuel v new) same l in record {
-    exchanges = m.exchanges;
-    reached = m.reached;
-    few = m.few;
-    calls = m.calls;
-    made = λ ds h. m.made ds (record { stands = h.stands; unspent = h.unspent });
-    once = λ ds h. m.once ds (record { stands = h.stands; unspent = h.unspent });
-  })
+  lost-quiet n fuel old w new q less none lost =
+      inr (none, lost-after fuel (AreQuiet (settings_in old)) old w new q.exchanges q.exchanged (let k = q.count in omega arith) (λ ds h. q.quiet ds h ∙ quiets-of q.exchanges n q.count) lost)
 
   -- what waits is given without an exchange
   pub given-first : (fuel : ℕ) (old new : Watching A V) (told : Told V) → old.waiting ≡ told ∷ new.waiting → new ≡ record old { waiting = new.waiting }

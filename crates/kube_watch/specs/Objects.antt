@@ -1,5 +1,5 @@
 -- What is answered of one object, by what its watcher tells. V is the type of the object. (Crate: `watch_object`.)
-use Rattle.std.specs.Prelude.{◌≡◌, ℕ, Bool, true, false, List, [], ◌∷◌, ◌++◌, Option, Some, None, Result, Ok, Err, codes}
+use Rattle.std.specs.Prelude.{◌≡◌, ◌⊎◌, ℕ, Bool, true, false, List, [], ◌∷◌, ◌++◌, length, replicate, Option, Some, None, Result, Ok, Err, codes}
 use Rattle.std.specs.Arc.{arc_value}
 use Rattle.std.specs.declared.sync.Arc.{Arc}
 use Rattle.std.specs.declared.alloc.Global.{Global}
@@ -11,7 +11,7 @@ use Rattle.kube_model.specs.History.{Dated, Exchange}
 use Rattle.kube_watch.specs.declared.event.Event.TheVariants.{Apply, Delete, Init, InitApply, InitDone}
 use Rattle.kube_watch.specs.Stands.{StandsFor, exchanges_in, row_of, settings_in}
 use Rattle.kube_watch.specs.Watching.{Told, Watching}
-use Rattle.kube_watch.specs.Polls.{Look, look_of, polled, told_by, Api, Exchanged}
+use Rattle.kube_watch.specs.Polls.{Look, Quiet, look_of, polled, told_by, Api, Exchanged, LostAfter}
 
 -- the object, or that it is not there, or an error
 abbrev pub Found : Type 0 → Type 0
@@ -105,6 +105,15 @@ pub record PolledObject {A V : Type 0} (api : Api A V) (now fuel : ℕ) (old : O
   pub answered : (ds : List (Dated V)) → StandsFor ds old.watcher
       → polled (answers_in old) fuel (object_looks (settings_in old.watcher) (is_held old) (exchanges_in ds) exchanges) ≡ Some (answer, answers_in new)
   pub held : (ds : List (Dated V)) → StandsFor ds old.watcher → is_held new ≡ held_through (settings_in old.watcher) (is_held old) (exchanges_in ds) exchanges
+
+-- each of these exchanges, after those before, was ready and gave nothing to answer
+abbrev pub GiveNothing : {V : Type 0} → Settings → Bool → List (Exchange V) → List (Exchange V) → Type 0
+GiveNothing settings held before xs = object_looks settings held before xs ≡ replicate (length xs) Quiet
+
+-- memory could not be had: nothing at all happened; or no answer waited, and memory was wanting for one of so many calls, after exchanges that were ready and gave nothing to answer
+abbrev pub LostObject : {A V : Type 0} → Api A V → ℕ → ℕ → Observing A V → Observing A V → Type 0
+LostObject api now fuel old new =
+    (new ≡ old) ⊎ ((answers_in old ≡ []) × LostAfter api now fuel (GiveNothing (settings_in old.watcher) (is_held old)) old.watcher new.watcher)
 
 -- a watcher of the object of this name that has made no call
 pub record IsOpened {A V : Type 0} (opened : A) (name : List ℕ) (o : Observing A V) : Type 0 where

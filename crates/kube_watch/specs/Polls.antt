@@ -1,5 +1,5 @@
 -- What a poll of a watcher makes of it, by the exchanges that it makes. V is the type of objects. (Crate: `watcher`, as a stream.)
-use Rattle.std.specs.Prelude.{◌≡◌, ◌≤◌, ℕ, zero, suc, Bool, not, List, [], ◌∷◌, ◌++◌, map, length, Option, Some, None, Ok, Err, IsTrue, true, false, if◌then◌else◌}
+use Rattle.std.specs.Prelude.{◌≡◌, ◌⊎◌, ◌<◌, ℕ, zero, suc, Bool, not, List, [], ◌∷◌, ◌++◌, map, length, replicate, Option, Some, None, Ok, Err, IsTrue, true, false, if◌then◌else◌}
 use Rattle.std.specs.declared.sync.Arc.{Arc}
 use Rattle.std.specs.declared.alloc.Global.{Global}
 use Rattle.kube_meta.specs.declared.poll.Next.{Next}
@@ -106,15 +106,24 @@ pub record Polled {A V : Type 0} (api : Api A V) (now fuel : ℕ) (old : Watchin
   pub exchanged : Exchanged api now old exchanges new
   pub answered : (ds : List (Dated V)) → StandsFor ds old → polled old.waiting fuel (looks (settings_in old) (exchanges_in ds) exchanges) ≡ Some (answer, new.waiting)
 
--- memory could not be had: these exchanges were made, one after another, at most so many, and after them the talk grew at most by the call that is then owed
-pub record Lost {A V : Type 0} (api : Api A V) (now fuel : ℕ) (old new : Watching A V) : Type 0 where
+-- memory was wanting for one of so many calls: these exchanges were made before it, one after another, and this is so of them after any that the watcher stood for; after them the talk grew at most by the call that is then owed
+pub record LostAfter {A V : Type 0} (api : Api A V) (now fuel : ℕ) (is_so : List (Exchange V) → List (Exchange V) → Type 0) (old new : Watching A V) : Type 0 where
   pub exchanges : List (Exchange V)
   pub reached : A
-  pub few : length exchanges ≤ fuel
+  pub few : length exchanges < fuel
   pub calls : AreCalls api (settings_in old) now old.api exchanges reached
   pub made : (ds : List (Dated V)) → StandsFor ds old → AreNext (settings_in old) ds now exchanges
+  pub told : (ds : List (Dated V)) → StandsFor ds old → is_so (exchanges_in ds) exchanges
   pub once : (ds : List (Dated V)) → StandsFor ds old
       → IsAskedOnce (settings_in old) (owed (Watched (settings_in old)) (exchanges_in ds ++ exchanges)) (api.talk reached) (api.talk new.api)
+
+-- each of these exchanges, after those before, was ready and told nothing
+abbrev pub AreQuiet : {V : Type 0} → Settings → List (Exchange V) → List (Exchange V) → Type 0
+AreQuiet settings before xs = looks settings before xs ≡ replicate (length xs) Quiet
+
+-- memory could not be had: nothing at all happened; or nothing waited, and memory was wanting for one of so many calls, after exchanges that were ready and told nothing
+abbrev pub Lost : {A V : Type 0} → Api A V → ℕ → ℕ → Watching A V → Watching A V → Type 0
+Lost api now fuel old new = (new ≡ old) ⊎ ((old.waiting ≡ []) × LostAfter api now fuel (AreQuiet (settings_in old)) old new)
 
 -- one exchange was made, which is all that there is to tell, and was ready or not
 pub record Filled {A V : Type 0} (api : Api A V) (now : ℕ) (old : Watching A V) (was_ready : Bool) (new : Watching A V) : Type 0 where

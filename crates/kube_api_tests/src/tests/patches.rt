@@ -4,6 +4,7 @@ use kube_api::{Patch, PatchRefusal, apply_patch};
 use kube_meta::Text;
 use serde_json::Value;
 use std::alloc::Global;
+use std::panic::Expect;
 use std::process::Abort;
 use std::test::Fail;
 
@@ -227,109 +228,141 @@ const IDENTITIES: [Row; 10] = [
     ),
 ];
 
-/// The operation that a list of its kind, path and value stands for.
-fn operation(alloc: Global, given: &Value) -> Result<Patch, Fail> {
-    let kind = given.get(0).and_then(Value::as_str).unwrap_or("");
-    let path = Text::new(alloc, given.get(1).and_then(Value::as_str).unwrap_or(""))?;
-    let value = match given.get(2) {
-        Some(value) => value.clone()?,
+/// A copy of a value, and null for none.
+fn copied(rt: &impl Abort, value: Option<&Value>) -> Value {
+    match value {
+        Some(value) => value.clone().expect(rt, "memory"),
         None => Value::Null,
-    };
-    Ok(match kind {
-        "test" => Patch::Test { path, value },
-        "add" => Patch::Add { path, value },
-        _ => Patch::Remove { path },
-    })
+    }
 }
 
-fn operations(alloc: Global, text: &str) -> Result<Vec<Patch>, Fail> {
-    let given = Value::from_str(alloc, text)?;
+/// The operation that a list of its kind, path and value stands for.
+fn operation(rt: &impl Abort, alloc: Global, given: &Value) -> Patch {
+    let kind = given.get(0).and_then(Value::as_str).unwrap_or("");
+    let path = given.get(1).and_then(Value::as_str).unwrap_or("");
+    let path = Text::new(alloc, path).expect(rt, "memory");
+    match kind {
+        "test" => Patch::Test {
+            path,
+            value: copied(rt, given.get(2)),
+        },
+        "add" => Patch::Add {
+            path,
+            value: copied(rt, given.get(2)),
+        },
+        _ => Patch::Remove { path },
+    }
+}
+
+/// The operations of a value that is read.
+fn listed(rt: &impl Abort, alloc: Global, given: &Value) -> Vec<Patch> {
     let mut patch = Vec::new(alloc);
     if let Some(items) = given.as_array() {
         for item in items {
-            patch.push(operation(alloc, item)?)?;
+            patch.push(operation(rt, alloc, item)).expect(rt, "memory");
         }
     }
-    Ok(patch)
+    patch
 }
 
-/// The answer's text; a refused document is as it was.
-fn answer(alloc: Global, document: &str, patch: &str) -> Result<String, Fail> {
-    let mut value = Value::from_str(alloc, document)?;
-    let before = value.to_string(alloc)?;
-    let patch = operations(alloc, patch)?;
-    if patch.len() > 9 {
-        return Ok(String::new(alloc));
-    }
-    let refusal = match apply_patch(alloc, &mut value, &patch) {
-        Ok(()) => return Ok(value.to_string(alloc)?),
-        Err(refusal) => refusal,
-    };
-    if value.to_string(alloc)? != before {
-        return Ok(String::from_str(alloc, "changed")?);
-    }
-    Ok(match refusal {
+fn operations(rt: &impl Abort, alloc: Global, text: &str) -> Vec<Patch> {
+    let given = Value::from_str(alloc, text).expect(rt, "JSON");
+    listed(rt, alloc, &given)
+}
+
+fn text_of(rt: &impl Abort, alloc: Global, value: &Value) -> String {
+    value.to_string(alloc).expect(rt, "memory")
+}
+
+fn refused(rt: &impl Abort, alloc: Global, refusal: PatchRefusal) -> String {
+    match refusal {
         PatchRefusal::TestFailed(number) | PatchRefusal::PathMissing(number) => {
-            format!(in alloc; "{refusal} {number}")?
+            format!(in alloc; "{refusal} {number}").expect(rt, "memory")
         }
-        _ => format!(in alloc; "{refusal}")?,
-    })
+        _ => format!(in alloc; "{refusal}").expect(rt, "memory"),
+    }
 }
 
-fn answers<R: Abort + AllocGlobal>(
-    rt: &R,
-    document: &str,
-    patch: &str,
-    wanted: &str,
-) -> Result<(), Fail> {
-    assert_eq!(rt; answer(rt.alloc(), document, patch)?.as_str(), wanted);
-    Ok(())
+/// Whether a value's text is this.
+fn has_text(rt: &impl Abort, alloc: Global, value: &Value, text: &str) -> bool {
+    let now = text_of(rt, alloc, value);
+    now.as_str() == text
+}
+
+/// The text of a refusal; a document that was refused is as it was.
+fn refusal_of(
+    rt: &impl Abort,
+    alloc: Global,
+    value: &Value,
+    before: &str,
+    refusal: PatchRefusal,
+) -> String {
+    if has_text(rt, alloc, value, before) {
+        refused(rt, alloc, refusal)
+    } else {
+        String::from_str(alloc, "changed").expect(rt, "memory")
+    }
+}
+
+/// The answer's text; a patch of more than 9 operations has none.
+fn patched(rt: &impl Abort, alloc: Global, value: &mut Value, patch: &[Patch]) -> String {
+    if patch.len() > 9 {
+        return String::new(alloc);
+    }
+    let before = text_of(rt, alloc, value);
+    match apply_patch(alloc, value, patch) {
+        Ok(()) => text_of(rt, alloc, value),
+        Err(refusal) => refusal_of(rt, alloc, value, before.as_str(), refusal),
+    }
+}
+
+/// The same of a document and a patch as texts.
+fn answer(rt: &impl Abort, alloc: Global, document: &str, patch: &str) -> String {
+    let mut value = Value::from_str(alloc, document).expect(rt, "JSON");
+    let patch = operations(rt, alloc, patch);
+    patched(rt, alloc, &mut value, &patch)
+}
+
+/// Each document becomes what it is to.
+fn check<R: Abort + AllocGlobal>(rt: &R, rows: &[Row]) {
+    for (document, patch, wanted) in rows {
+        let answer = answer(rt, rt.alloc(), document, patch);
+        assert_eq!(rt; answer.as_str(), *wanted);
+    }
 }
 
 #[test]
 fn additions_to_objects(rt: HostRuntime) -> Result<(), Fail> {
-    for (document, patch, wanted) in OBJECTS {
-        answers(&rt, document, patch, wanted)?;
-    }
+    check(&rt, &OBJECTS);
     Ok(())
 }
 
 #[test]
 fn additions_to_arrays(rt: HostRuntime) -> Result<(), Fail> {
-    for (document, patch, wanted) in ARRAYS {
-        answers(&rt, document, patch, wanted)?;
-    }
+    check(&rt, &ARRAYS);
     Ok(())
 }
 
 #[test]
 fn removals(rt: HostRuntime) -> Result<(), Fail> {
-    for (document, patch, wanted) in REMOVALS {
-        answers(&rt, document, patch, wanted)?;
-    }
+    check(&rt, &REMOVALS);
     Ok(())
 }
 
 #[test]
 fn escapes_and_all_or_none(rt: HostRuntime) -> Result<(), Fail> {
-    for (document, patch, wanted) in ESCAPES {
-        answers(&rt, document, patch, wanted)?;
-    }
+    check(&rt, &ESCAPES);
     Ok(())
 }
 
 #[test]
 fn tests_of_values(rt: HostRuntime) -> Result<(), Fail> {
-    for (document, patch, wanted) in TESTS {
-        answers(&rt, document, patch, wanted)?;
-    }
+    check(&rt, &TESTS);
     Ok(())
 }
 
 #[test]
 fn the_object_stays_that_object(rt: HostRuntime) -> Result<(), Fail> {
-    for (document, patch, wanted) in IDENTITIES {
-        answers(&rt, document, patch, wanted)?;
-    }
+    check(&rt, &IDENTITIES);
     Ok(())
 }

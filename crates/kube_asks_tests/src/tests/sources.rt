@@ -1,4 +1,4 @@
-//! Sources that answer by a table: an API of lists and watches, and a stream.
+//! Sources that answer by a table: an API of lists and watches, and a stream. Each has what it stops by for want of memory.
 
 use kube_api::{ApiMode, ListParams, Page, ResultPage, WatchEvent, WatchParams};
 use kube_asks::{ReconcileRequest, Related, SourceExchange, StreamFault};
@@ -10,6 +10,8 @@ use kube_model::call::{Answer, Call};
 use kube_model::error::{ApiError, Error};
 use std::alloc::Global;
 use std::marker::PhantomData;
+use std::panic::Expect;
+use std::process::Abort;
 use std::sync::Arc;
 
 pub type Metadata = PartialObjectMeta<DynamicObject>;
@@ -49,88 +51,93 @@ impl Made for Metadata {
 }
 
 /// A type of objects.
-pub fn kind(alloc: Global, name: &str) -> Result<Arc<ApiResource>, NoMemory> {
-    Ok(Arc::new(
-        alloc,
-        ApiResource {
-            group: Text::new(alloc, "")?,
-            version: Text::new(alloc, "v1")?,
-            api_version: Text::new(alloc, "v1")?,
-            kind: Text::new(alloc, name)?,
-            plural: Text::new(alloc, name)?,
-        },
-    )?)
+pub fn kind(rt: &impl Abort, alloc: Global, name: &str) -> Arc<ApiResource> {
+    let resource = ApiResource {
+        group: Text::new(alloc, "").expect(rt, "memory"),
+        version: Text::new(alloc, "v1").expect(rt, "memory"),
+        api_version: Text::new(alloc, "v1").expect(rt, "memory"),
+        kind: Text::new(alloc, name).expect(rt, "memory"),
+        plural: Text::new(alloc, name).expect(rt, "memory"),
+    };
+    Arc::new(alloc, resource).expect(rt, "memory")
 }
 
-fn text_of(alloc: Global, text: &str) -> Result<Option<Text>, NoMemory> {
+fn text_of(rt: &impl Abort, alloc: Global, text: &str) -> Option<Text> {
     if text.is_empty() {
-        return Ok(None);
+        return None;
     }
-    Ok(Some(Text::new(alloc, text)?))
+    Some(Text::new(alloc, text).expect(rt, "memory"))
 }
 
-fn labels(alloc: Global, text: &str) -> Result<Option<TextMap>, NoMemory> {
+fn labels(rt: &impl Abort, alloc: Global, text: &str) -> Option<TextMap> {
     if text.is_empty() {
-        return Ok(None);
+        return None;
     }
+    let text = Text::new(alloc, text).expect(rt, "memory");
     let mut labels = TextMap::new(alloc);
-    labels.insert(alloc, "of", Text::new(alloc, text)?)?;
-    Ok(Some(labels))
+    labels.insert(alloc, "of", text).expect(rt, "memory");
+    Some(labels)
 }
 
 /// Version 2, a name and a label.
-fn metadata(alloc: Global, name: &str, label: &str) -> Result<ObjectMeta, NoMemory> {
-    let name = text_of(alloc, name)?;
-    let labels = labels(alloc, label)?;
-    let resource_version = text_of(alloc, "2")?;
-    Ok(ObjectMeta {
-        name,
-        labels,
-        resource_version,
-        ..ObjectMeta::empty()
-    })
+fn metadata(rt: &impl Abort, alloc: Global, name: &str, label: &str) -> ObjectMeta {
+    ObjectMeta {
+        name: text_of(rt, alloc, name),
+        namespace: None,
+        uid: None,
+        resource_version: text_of(rt, alloc, "2"),
+        deletion_timestamp: None,
+        generation: None,
+        labels: labels(rt, alloc, label),
+        annotations: None,
+        finalizers: None,
+        owner_references: None,
+    }
 }
 
-fn object<V: Made>(alloc: Global, name: &str, label: &str) -> Result<Arc<V>, NoMemory> {
-    let metadata = metadata(alloc, name, label)?;
-    Ok(Arc::new(alloc, V::made(metadata))?)
+fn object<V: Made>(rt: &impl Abort, alloc: Global, name: &str, label: &str) -> Arc<V> {
+    let metadata = metadata(rt, alloc, name, label);
+    Arc::new(alloc, V::made(metadata)).expect(rt, "memory")
 }
 
-fn all_objects<V: Made>(alloc: Global, objects: &[(&str, &str)]) -> Result<Vec<Arc<V>>, NoMemory> {
+fn all_objects<V: Made>(rt: &impl Abort, alloc: Global, objects: &[(&str, &str)]) -> Vec<Arc<V>> {
     let mut all = Vec::new(alloc);
     for (name, label) in objects {
-        all.push(object(alloc, name, label)?)?;
+        all.push(object(rt, alloc, name, label))
+            .expect(rt, "memory");
     }
-    Ok(all)
+    all
 }
 
-fn empty_page<V: Made>(alloc: Global, more: bool) -> Result<ResultPage<V>, NoMemory> {
+fn empty_page<V: Made>(rt: &impl Abort, alloc: Global, more: bool) -> ResultPage<V> {
     let (token, version) = if more { ("t", "") } else { ("", "1") };
     ResultPage::empty(alloc)
-        .continue_token(alloc, Some(token))?
+        .continue_token(alloc, Some(token))
+        .expect(rt, "memory")
         .resource_version(alloc, Some(version))
+        .expect(rt, "memory")
 }
 
 /// A page of these; it has a token where a further one follows, and else a version.
-fn page<V: Made>(alloc: Global, objects: &[(&str, &str)], more: bool) -> Result<Page<V>, NoMemory> {
-    let objects = all_objects(alloc, objects)?;
-    let page = empty_page(alloc, more)?;
-    Ok(page.items(objects).into_page())
+fn page<V: Made>(rt: &impl Abort, alloc: Global, objects: &[(&str, &str)], more: bool) -> Page<V> {
+    let objects = all_objects(rt, alloc, objects);
+    empty_page(rt, alloc, more).items(objects).into_page()
 }
 
-fn torn(alloc: Global) -> Result<ApiError, NoMemory> {
-    Ok(ApiError::Transport(Text::new(alloc, "torn")?))
+fn torn(rt: &impl Abort, alloc: Global) -> ApiError {
+    ApiError::Transport(Text::new(alloc, "torn").expect(rt, "memory"))
 }
 
 /// Gives its replies, one a call, and then is never ready.
 #[derive(Drop)]
-pub struct Tabled<V> {
+pub struct Tabled<R, V> {
+    pub rt: R,
     pub replies: &'static [Reply],
     pub next: usize,
     pub of: PhantomData<V>,
 }
 
-impl<V> Tabled<V> {
+impl<R, V> Tabled<R, V> {
     fn reply(&mut self) -> Reply {
         match self.replies.get(self.next) {
             Some(reply) => {
@@ -142,7 +149,7 @@ impl<V> Tabled<V> {
     }
 }
 
-impl<V: Made> ApiMode for Tabled<V> {
+impl<R: Abort + Copy, V: Made> ApiMode for Tabled<R, V> {
     ghost use Rattle.std.specs.Prelude.{None, ◌^◌, ◌-◌};
 
     type Value = V;
@@ -158,8 +165,8 @@ impl<V: Made> ApiMode for Tabled<V> {
         _now: Moment,
     ) -> Result<Polled<Result<Page<V>, ApiError>>, NoMemory> {
         Ok(match self.reply() {
-            Reply::Page(objects, more) => Polled::Ready(Ok(page(alloc, objects, more)?)),
-            Reply::Fault => Polled::Ready(Err(torn(alloc)?)),
+            Reply::Page(objects, more) => Polled::Ready(Ok(page(&self.rt, alloc, objects, more))),
+            Reply::Fault => Polled::Ready(Err(torn(&self.rt, alloc))),
             _ => Polled::NotReady,
         })
     }
@@ -173,7 +180,7 @@ impl<V: Made> ApiMode for Tabled<V> {
     ) -> Result<Polled<Result<(), ApiError>>, NoMemory> {
         Ok(match self.reply() {
             Reply::Opened => Polled::Ready(Ok(())),
-            Reply::Fault => Polled::Ready(Err(torn(alloc)?)),
+            Reply::Fault => Polled::Ready(Err(torn(&self.rt, alloc))),
             _ => Polled::NotReady,
         })
     }
@@ -185,12 +192,14 @@ impl<V: Made> ApiMode for Tabled<V> {
     ) -> Result<Polled<Option<Result<WatchEvent<V>, ApiError>>>, NoMemory> {
         Ok(match self.reply() {
             Reply::Added(name, label) => {
-                Polled::Ready(Some(Ok(WatchEvent::Added(object(alloc, name, label)?))))
+                let object = object(&self.rt, alloc, name, label);
+                Polled::Ready(Some(Ok(WatchEvent::Added(object))))
             }
             Reply::Deleted(name, label) => {
-                Polled::Ready(Some(Ok(WatchEvent::Deleted(object(alloc, name, label)?))))
+                let object = object(&self.rt, alloc, name, label);
+                Polled::Ready(Some(Ok(WatchEvent::Deleted(object))))
             }
-            Reply::Fault => Polled::Ready(Some(Err(torn(alloc)?))),
+            Reply::Fault => Polled::Ready(Some(Err(torn(&self.rt, alloc)))),
             Reply::End => Polled::Ready(None),
             _ => Polled::NotReady,
         })
@@ -209,14 +218,14 @@ pub enum Tick {
 
 /// A stream that gives its ticks, and then is never ready.
 #[derive(Drop)]
-pub struct Ticks {
+pub struct Ticks<R> {
+    pub rt: R,
     pub ticks: &'static [Tick],
     pub next: usize,
     pub dyntype: Arc<ApiResource>,
-    pub fault: Option<StreamFault>,
 }
 
-impl Ticks {
+impl<R> Ticks<R> {
     fn tick(&mut self) -> Option<Tick> {
         let tick = self.ticks.get(self.next);
         self.next = self.next.saturating_add(1);
@@ -229,16 +238,20 @@ impl Ticks {
 
 /// What a tick requests.
 fn requests(
+    rt: &impl Abort,
     alloc: Global,
     dyntype: &Arc<ApiResource>,
     tick: Option<Tick>,
-) -> Result<List<ReconcileRequest<DynamicObject>>, NoMemory> {
+) -> List<ReconcileRequest<DynamicObject>> {
     let mut requests = List::new(alloc);
     if let Some(Tick::Item(name)) = tick {
-        let reference = ObjectRef::new_with(alloc, name, dyntype.clone()?)?;
-        requests.push(ReconcileRequest::from_ref(reference))?;
+        let dyntype = dyntype.clone().expect(rt, "memory");
+        let reference = ObjectRef::new_with(alloc, name, dyntype).expect(rt, "memory");
+        requests
+            .push(ReconcileRequest::from_ref(reference))
+            .expect(rt, "memory");
     }
-    Ok(requests)
+    requests
 }
 
 fn answer(tick: Option<Tick>) -> Answer {
@@ -257,7 +270,7 @@ fn error(tick: Option<Tick>) -> Option<Error> {
     }
 }
 
-impl Related<DynamicObject> for Ticks {
+impl<R: Abort + Copy> Related<DynamicObject> for Ticks<R> {
     ghost use Rattle.std.specs.Prelude.{None};
 
     ghost settings = { λ _. None };
@@ -265,26 +278,21 @@ impl Related<DynamicObject> for Ticks {
     // it stands for no exchanges: what it gives is any table's
     ghost stands = { λ _ _. ⊥ };
 
-    ghost fault = { λ t. t.fault };
+    // it answers no fault
+    ghost fault = { λ _. None };
 
     fn poll_unit(
         &mut self,
         alloc: Global,
         _now: Moment,
     ) -> Result<SourceExchange<DynamicObject>, StreamFault> {
-        if let Some(fault) = self.fault {
-            return Err(fault);
-        }
         let tick = self.tick();
-        self.fault = Some(StreamFault::NoMemory);
-        let requests = requests(alloc, &self.dyntype, tick)?;
-        self.fault = None;
         Ok(SourceExchange {
             source: 0,
             call: Call::Stream,
             answer: answer(tick),
             items: List::new(alloc),
-            requests,
+            requests: requests(&self.rt, alloc, &self.dyntype, tick),
             error: error(tick),
         })
     }

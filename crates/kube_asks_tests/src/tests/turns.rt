@@ -1,26 +1,28 @@
 //! Turns over three sources: a watched root, a watched source that a label maps, and a stream.
 
-ghost use Rattle.std.specs.Prelude.{◌≡◌, length, IfOk};
+ghost use Rattle.std.specs.Prelude.{◌≡◌, length};
 
 use super::sources::{Made, Metadata, Reply, Tabled, Tick, Ticks, kind};
 use kube_asks::{
     AskFault, Asks, Backoff, Beside, ByLabel, One, RelatedList, RelatedWatch, SourceExchange,
     WatchRoot,
 };
-use kube_meta::{ApiResource, DynamicObject, Moment, NoMemory, Text};
+use kube_meta::{ApiResource, DynamicObject, Moment, Text};
 use kube_model::call::Answer;
 use kube_streams::{ConstantBackoff, DefaultBackoff, LinearBackoff, StopBackoff};
 use kube_watch::Config;
-use std::alloc::{AllocError, Global};
+use std::alloc::Global;
 use std::marker::PhantomData;
+use std::panic::Expect;
+use std::process::Abort;
 use std::sync::Arc;
 use std::test::Fail;
 
-type Root = WatchRoot<Tabled<DynamicObject>>;
+type Root<R> = WatchRoot<Tabled<R, DynamicObject>>;
 
-type Labelled = RelatedWatch<Tabled<Metadata>, ByLabel<DynamicObject>>;
+type Labelled<R> = RelatedWatch<Tabled<R, Metadata>, ByLabel<DynamicObject>>;
 
-type Three<B> = Asks<Root, Beside<One<Labelled>, One<Ticks>>, B>;
+type Three<R, B> = Asks<Root<R>, Beside<One<Labelled<R>>, One<Ticks<R>>>, B>;
 
 /// A turn at a moment: what is asked in it, and why no more.
 #[derive(Drop)]
@@ -52,8 +54,9 @@ struct Case {
     turns: &'static [Turn],
 }
 
-fn api<V: Made>(replies: &'static [Reply]) -> Tabled<V> {
+fn api<R: Abort + Copy, V: Made>(rt: &R, replies: &'static [Reply]) -> Tabled<R, V> {
     Tabled {
+        rt: *rt,
         replies,
         next: 0,
         of: PhantomData,
@@ -64,28 +67,35 @@ fn plain() -> Config {
     Config::default()
 }
 
-fn root(alloc: Global, dyntype: Arc<ApiResource>, replies: &'static [Reply]) -> Root {
-    WatchRoot::new(alloc, api(replies), plain(), dyntype)
+fn root<R: Abort + Copy>(
+    rt: &R,
+    alloc: Global,
+    dyntype: Arc<ApiResource>,
+    replies: &'static [Reply],
+) -> Root<R> {
+    WatchRoot::new(alloc, api(rt, replies), plain(), dyntype)
 }
 
-fn mapper(alloc: Global) -> Result<ByLabel<DynamicObject>, NoMemory> {
-    let dyntype = kind(alloc, "Root")?;
-    let label = Text::new(alloc, "of")?;
-    Ok(ByLabel { label, dyntype })
+fn mapper(rt: &impl Abort, alloc: Global) -> ByLabel<DynamicObject> {
+    ByLabel {
+        label: Text::new(alloc, "of").expect(rt, "memory"),
+        dyntype: kind(rt, alloc, "Root"),
+    }
 }
 
-fn labelled(
+fn labelled<R: Abort + Copy>(
+    rt: &R,
     alloc: Global,
     child: Arc<ApiResource>,
     mapper: ByLabel<DynamicObject>,
     replies: &'static [Reply],
-) -> Labelled {
-    RelatedWatch::new(alloc, api(replies), plain(), child, mapper)
+) -> Labelled<R> {
+    RelatedWatch::new(alloc, api(rt, replies), plain(), child, mapper)
 }
 
-fn ticks(dyntype: Arc<ApiResource>, ticks: &'static [Tick]) -> Ticks {
+fn ticks<R: Abort + Copy>(rt: &R, dyntype: Arc<ApiResource>, ticks: &'static [Tick]) -> Ticks<R> {
     Ticks {
-        fault: None,
+        rt: *rt,
         ticks,
         next: 0,
         dyntype,
@@ -101,25 +111,27 @@ struct Kinds {
     mapper: ByLabel<DynamicObject>,
 }
 
-fn new_kinds(alloc: Global) -> Result<Kinds, NoMemory> {
-    let root = kind(alloc, "Root")?;
-    let child = kind(alloc, "Child")?;
-    let ticked = kind(alloc, "Root")?;
-    let mapper = mapper(alloc)?;
-    Ok(Kinds {
-        root,
-        child,
-        ticked,
-        mapper,
-    })
+fn new_kinds(rt: &impl Abort, alloc: Global) -> Kinds {
+    Kinds {
+        root: kind(rt, alloc, "Root"),
+        child: kind(rt, alloc, "Child"),
+        ticked: kind(rt, alloc, "Root"),
+        mapper: mapper(rt, alloc),
+    }
 }
 
-fn three<B: Backoff>(alloc: Global, kinds: Kinds, backoff: B, case: &Case) -> Three<B> {
-    let first = One(labelled(alloc, kinds.child, kinds.mapper, case.labelled));
-    let rest = One(ticks(kinds.ticked, case.ticks));
+fn three<R: Abort + Copy, B: Backoff>(
+    rt: &R,
+    alloc: Global,
+    kinds: Kinds,
+    backoff: B,
+    case: &Case,
+) -> Three<R, B> {
+    let first = One(labelled(rt, alloc, kinds.child, kinds.mapper, case.labelled));
+    let rest = One(ticks(rt, kinds.ticked, case.ticks));
     Asks::new(
         alloc,
-        root(alloc, kinds.root, case.root),
+        root(rt, alloc, kinds.root, case.root),
         Beside { first, rest },
         backoff,
     )
@@ -141,154 +153,161 @@ fn word(answer: &Answer) -> &'static str {
 }
 
 /// The names that are requested.
-fn names(alloc: Global, exchange: &SourceExchange<DynamicObject>) -> Result<String, AllocError> {
+fn names(rt: &impl Abort, alloc: Global, exchange: &SourceExchange<DynamicObject>) -> String {
     let mut names = String::new(alloc);
     for request in exchange.requests.as_slice() {
-        names.push_str(" ")?;
-        names.push_str(request.obj_ref.name.as_str())?;
+        names.push_str(" ").expect(rt, "memory");
+        names
+            .push_str(request.obj_ref.name.as_str())
+            .expect(rt, "memory");
     }
-    Ok(names)
+    names
 }
 
 /// The source, the answer, what is requested, and whether there is an error.
-fn shown(alloc: Global, exchange: &SourceExchange<DynamicObject>) -> Result<String, AllocError> {
+fn shown(rt: &impl Abort, alloc: Global, exchange: &SourceExchange<DynamicObject>) -> String {
     let source = exchange.source;
     let word = word(&exchange.answer);
-    let names = names(alloc, exchange)?;
     let error = if exchange.error.is_some() {
         " failed"
     } else {
         ""
     };
-    format!(in alloc; "{source} {word}:{names}{error}")
+    let names = names(rt, alloc, exchange);
+    format!(in alloc; "{source} {word}:{names}{error}").expect(rt, "memory")
+}
+
+/// A text of its own.
+fn owned(rt: &impl Abort, alloc: Global, text: &str) -> String {
+    String::from_str(alloc, text).expect(rt, "memory")
 }
 
 /// What an ask gave.
 fn asked(
+    rt: &impl Abort,
     alloc: Global,
     given: &Result<Option<SourceExchange<DynamicObject>>, AskFault>,
-) -> Result<String, AllocError> {
+) -> String {
     match given {
-        Ok(Some(exchange)) => shown(alloc, exchange),
-        Ok(None) => String::from_str(alloc, "none"),
-        Err(AskFault::Unnamed { source }) => format!(in alloc; "unnamed {source}"),
-        Err(AskFault::Spent) => String::from_str(alloc, "spent"),
-        Err(AskFault::NoMemory) => Err(AllocError),
+        Ok(Some(exchange)) => shown(rt, alloc, exchange),
+        Ok(None) => owned(rt, alloc, "none"),
+        Err(AskFault::Unnamed { source }) => {
+            format!(in alloc; "unnamed {source}").expect(rt, "memory")
+        }
+        Err(AskFault::Spent) => owned(rt, alloc, "spent"),
+        Err(AskFault::NoMemory) => panic!(rt; "memory"),
     }
 }
 
 fn asked_once(
+    rt: &impl Abort,
     alloc: Global,
     given: Result<Option<SourceExchange<DynamicObject>>, AskFault>,
-) -> Result<String, AllocError> {
-    asked(alloc, &given)
+) -> String {
+    asked(rt, alloc, &given)
 }
 
-fn ask<B: Backoff>(alloc: Global, asks: &mut Three<B>, at: u64) -> Result<String, AllocError> {
-    asked_once(alloc, asks.next(alloc, Moment(at)))
+fn ask<R: Abort + Copy, B: Backoff>(
+    rt: &R,
+    alloc: Global,
+    asks: &mut Three<R, B>,
+    at: u64,
+) -> String {
+    asked_once(rt, alloc, asks.next(alloc, Moment(at)))
 }
 
-fn stops<B: Backoff>(alloc: Global, asks: &Three<B>) -> Result<String, NoMemory> {
-    let stops = asks.stops(alloc, false)?;
-    Ok(format!(in alloc; "{:?}", stops.as_slice())?)
+fn stops<R: Abort + Copy, B: Backoff>(rt: &R, alloc: Global, asks: &Three<R, B>) -> String {
+    let stops = asks.stops(alloc, false).expect(rt, "memory");
+    format!(in alloc; "{:?}", stops.as_slice()).expect(rt, "memory")
 }
 
-fn budget(alloc: Global, numbers: &[u32]) -> Result<Vec<u32>, AllocError> {
+fn budget(rt: &impl Abort, alloc: Global, numbers: &[u32]) -> Vec<u32> {
     let mut budget = Vec::new(alloc);
     for number in numbers {
-        budget.push(*number)?;
+        budget.push(*number).expect(rt, "memory");
     }
-    Ok(budget)
+    budget
 }
 
-fn add_line(lines: &mut String, line: &str) -> Result<(), AllocError> {
-    lines.push_str(line)?;
-    lines.push_str("\n")
+fn add_line(rt: &impl Abort, lines: &mut String, line: &str) {
+    lines.push_str(line).expect(rt, "memory");
+    lines.push_str("\n").expect(rt, "memory");
 }
 
 /// Makes the asks of a turn, and adds what they give and the stops after them, a line each.
-fn add_turn<B: Backoff>(
+fn add_turn<R: Abort + Copy, B: Backoff>(
+    rt: &R,
     alloc: Global,
-    asks: &mut Three<B>,
+    asks: &mut Three<R, B>,
     turn: &Turn,
     lines: &mut String,
-) -> Result<(), NoMemory> {
-    asks.begin(budget(alloc, turn.budget)?);
+) {
+    asks.begin(budget(rt, alloc, turn.budget));
     for _wanted in turn.asked {
-        add_line(lines, ask(alloc, asks, turn.at)?.as_str())?;
+        let asked = ask(rt, alloc, asks, turn.at);
+        add_line(rt, lines, asked.as_str());
     }
-    add_line(lines, stops(alloc, asks)?.as_str())?;
-    Ok(())
+    let stops = stops(rt, alloc, asks);
+    add_line(rt, lines, stops.as_str());
 }
 
 fn end(gives_up: bool) -> &'static str {
     if gives_up { "given up" } else { "not given up" }
 }
 
-fn add_turns<B: Backoff>(
+fn add_turns<R: Abort + Copy, B: Backoff>(
+    rt: &R,
     alloc: Global,
-    asks: &mut Three<B>,
+    asks: &mut Three<R, B>,
     turns: &[Turn],
     lines: &mut String,
-) -> Result<(), NoMemory> {
+) {
     for one in turns {
-        add_turn(alloc, asks, one, lines)?;
+        add_turn(rt, alloc, asks, one, lines);
     }
-    add_line(lines, end(asks.given_up()))?;
-    Ok(())
-}
-
-/// The same of sources that are let go then.
-fn add_all_turns<B: Backoff>(
-    alloc: Global,
-    asks: Three<B>,
-    turns: &[Turn],
-    lines: &mut String,
-) -> Result<(), NoMemory> {
-    let mut asks = asks;
-    add_turns(alloc, &mut asks, turns, lines)
+    add_line(rt, lines, end(asks.given_up()));
 }
 
 /// The turns of a case under a backoff.
-fn add_played<B: Backoff>(
+fn add_played<R: Abort + Copy, B: Backoff>(
+    rt: &R,
     alloc: Global,
     backoff: B,
     case: &Case,
     lines: &mut String,
-) -> Result<(), NoMemory> {
-    match new_kinds(alloc) {
-        Ok(kinds) => add_all_turns(alloc, three(alloc, kinds, backoff, case), case.turns, lines),
-        Err(error) => Err(error),
-    }
+) {
+    let kinds = new_kinds(rt, alloc);
+    let mut asks = three(rt, alloc, kinds, backoff, case);
+    add_turns(rt, alloc, &mut asks, case.turns, lines);
 }
 
-fn add_made(alloc: Global, case: &Case, lines: &mut String) -> Result<(), NoMemory> {
+fn add_made<R: Abort + Copy>(rt: &R, alloc: Global, case: &Case, lines: &mut String) {
     match case.delays {
-        Delays::Constant => add_played(alloc, ConstantBackoff { delay: 1 }, case, lines),
-        Delays::Linear => add_played(alloc, LinearBackoff::new(10), case, lines),
-        Delays::Default => add_played(alloc, DefaultBackoff::default(), case, lines),
-        Delays::Stop => add_played(alloc, StopBackoff, case, lines),
+        Delays::Constant => add_played(rt, alloc, ConstantBackoff { delay: 1 }, case, lines),
+        Delays::Linear => add_played(rt, alloc, LinearBackoff::new(10), case, lines),
+        Delays::Default => add_played(rt, alloc, DefaultBackoff::default(), case, lines),
+        Delays::Stop => add_played(rt, alloc, StopBackoff, case, lines),
     }
 }
 
 /// What the turns of a case give.
-fn made(alloc: Global, case: &Case) -> Result<String, NoMemory> {
+fn made<R: Abort + Copy>(rt: &R, alloc: Global, case: &Case) -> String {
     let mut lines = String::new(alloc);
-    add_made(alloc, case, &mut lines)?;
-    Ok(lines)
+    add_made(rt, alloc, case, &mut lines);
+    lines
 }
 
 /// What they should give.
-fn wanted(alloc: Global, case: &Case) -> Result<String, AllocError> {
+fn wanted(rt: &impl Abort, alloc: Global, case: &Case) -> String {
     let mut lines = String::new(alloc);
     for turn in case.turns {
         for asked in turn.asked {
-            add_line(&mut lines, asked)?;
+            add_line(rt, &mut lines, asked);
         }
-        add_line(&mut lines, turn.stops)?;
+        add_line(rt, &mut lines, turn.stops);
     }
-    add_line(&mut lines, end(case.gives_up))?;
-    Ok(lines)
+    add_line(rt, &mut lines, end(case.gives_up));
+    lines
 }
 
 const CASES: [Case; 5] = [
@@ -493,9 +512,10 @@ const CASES: [Case; 5] = [
 
 #[test]
 fn asks_each_source_in_its_turn(rt: HostRuntime) -> Result<(), Fail> {
+    let alloc = rt.alloc();
     for case in &CASES {
-        let made = made(rt.alloc(), case)?;
-        let wanted = wanted(rt.alloc(), case)?;
+        let made = made(&rt, alloc, case);
+        let wanted = wanted(&rt, alloc, case);
         assert_eq!(rt; made.as_str(), wanted.as_str(), "{}", case.name);
     }
     Ok(())
@@ -516,78 +536,70 @@ const LENT: Case = Case {
 const FAILING: &[Reply] = &[Reply::NotReady, Reply::Fault];
 
 /// What an ask gives, and a second one after the API of the root was lent and given other replies.
-fn lent(alloc: Global, asks: &mut Three<StopBackoff>) -> Result<String, NoMemory> {
-    asks.begin(budget(alloc, &[9])?);
-    let first = ask(alloc, asks, 0)?;
+fn lent<R: Abort + Copy>(rt: &R, alloc: Global, asks: &mut Three<R, StopBackoff>) -> String {
+    asks.begin(budget(rt, alloc, &[9]));
+    let first = ask(rt, alloc, asks, 0);
     asks.root_api().replies = FAILING;
-    let second = ask(alloc, asks, 0)?;
-    Ok(format!(in alloc; "{first}, {second}")?)
+    let second = ask(rt, alloc, asks, 0);
+    format!(in alloc; "{first}, {second}").expect(rt, "memory")
 }
 
-fn lent_once(alloc: Global, asks: Three<StopBackoff>) -> Result<String, NoMemory> {
-    let mut asks = asks;
-    lent(alloc, &mut asks)
-}
-
-fn made_lent(alloc: Global) -> Result<String, NoMemory> {
-    match new_kinds(alloc) {
-        Ok(kinds) => lent_once(alloc, three(alloc, kinds, StopBackoff, &LENT)),
-        Err(error) => Err(error),
-    }
+fn made_lent<R: Abort + Copy>(rt: &R, alloc: Global) -> String {
+    let kinds = new_kinds(rt, alloc);
+    let mut asks = three(rt, alloc, kinds, StopBackoff, &LENT);
+    lent(rt, alloc, &mut asks)
 }
 
 #[test]
 fn lends_the_api_of_its_root(rt: HostRuntime) -> Result<(), Fail> {
-    let made = made_lent(rt.alloc())?;
+    let made = made_lent(&rt, rt.alloc());
     assert_eq!(rt; made.as_str(), "0 page:, 0 fault: failed");
     Ok(())
 }
 
-type Listed = Asks<Root, RelatedList<Ticks>, StopBackoff>;
+type Listed<R> = Asks<Root<R>, RelatedList<Ticks<R>>, StopBackoff>;
 
 /// A list of two streams.
-fn listed(alloc: Global) -> Result<RelatedList<Ticks>, NoMemory>
-    ensures { IfOk result (λ list. length list.items.items ≡ 2) }
+fn listed<R: Abort + Copy>(rt: &R, alloc: Global) -> RelatedList<Ticks<R>>
+    ensures { length result.items.items ≡ 2 }
 {
-    let first = kind(alloc, "Root")?;
-    let second = kind(alloc, "Root")?;
+    let first = kind(rt, alloc, "Root");
+    let second = kind(rt, alloc, "Root");
     let mut list = RelatedList::new(alloc);
-    list.push(ticks(first, &[Tick::Item("a")]))?;
-    list.push(ticks(second, &[Tick::Item("b")]))?;
-    Ok(list)
+    list.push(ticks(rt, first, &[Tick::Item("a")]))
+        .expect(rt, "memory");
+    list.push(ticks(rt, second, &[Tick::Item("b")]))
+        .expect(rt, "memory");
+    list
 }
 
 /// What two asks over a list give.
-fn list_asked(alloc: Global, asks: &mut Listed) -> Result<String, NoMemory>
+fn list_asked<R: Abort + Copy>(rt: &R, alloc: Global, asks: &mut Listed<R>) -> String
     requires { length asks.old.related.items.items ≡ 2 }
 {
-    asks.begin(budget(alloc, &[0, 1, 1])?);
-    let first = asked_once(alloc, asks.next(alloc, Moment(0)))?;
-    let second = asked_once(alloc, asks.next(alloc, Moment(0)))?;
-    Ok(format!(in alloc; "{first}, {second}")?)
+    asks.begin(budget(rt, alloc, &[0, 1, 1]));
+    let first = asked_once(rt, alloc, asks.next(alloc, Moment(0)));
+    let second = asked_once(rt, alloc, asks.next(alloc, Moment(0)));
+    format!(in alloc; "{first}, {second}").expect(rt, "memory")
 }
 
-fn list_asked_once(alloc: Global, asks: Listed) -> Result<String, NoMemory>
+fn list_asked_once<R: Abort + Copy>(rt: &R, alloc: Global, asks: Listed<R>) -> String
     requires { length asks.related.items.items ≡ 2 }
 {
     let mut asks = asks;
-    list_asked(alloc, &mut asks)
+    list_asked(rt, alloc, &mut asks)
 }
 
-fn made_listed(alloc: Global) -> Result<String, NoMemory> {
-    let dyntype = kind(alloc, "Root")?;
-    match listed(alloc) {
-        Ok(list) => list_asked_once(
-            alloc,
-            Asks::new(alloc, root(alloc, dyntype, &[]), list, StopBackoff),
-        ),
-        Err(error) => Err(error),
-    }
+fn made_listed<R: Abort + Copy>(rt: &R, alloc: Global) -> String {
+    let dyntype = kind(rt, alloc, "Root");
+    let root = root(rt, alloc, dyntype, &[]);
+    let list = listed(rt, alloc);
+    list_asked_once(rt, alloc, Asks::new(alloc, root, list, StopBackoff))
 }
 
 #[test]
 fn asks_the_streams_of_a_list(rt: HostRuntime) -> Result<(), Fail> {
-    let made = made_listed(rt.alloc())?;
+    let made = made_listed(&rt, rt.alloc());
     assert_eq!(rt; made.as_str(), "1 item: a, 2 item: b");
     Ok(())
 }

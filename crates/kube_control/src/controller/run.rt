@@ -129,13 +129,14 @@ impl<A: ApiMode, S: RelatedSet<A::Value>, B: Backoff> Controller<WatchRoot<A>, S
         // is stored then is what came before it.
         ensures unnamed { IfErr result (λ e. IfUnnamed e (λ turn source. (turn ≡ length (records_before e))
             × ((w : World A.Value B) (h : List (Step A.Value)) → StandsFor ⟦<WatchRoot<A> as RootSource>⟧ S.RelatedSet B.Backoff A.Value.Resource w h self.old
-            → WereBrokenOff ⟦<WatchRoot<A> as RootSource>⟧ S.RelatedSet B.Backoff A.Value.Resource w (AskFault.Unnamed source) h (turns_of A.Value.type_of turns.items) self.old (records_of A.Value.type_of (records_before e)) self.new (Rc.handed reconciler.old) (Rc.handed reconciler.new)))) }
+            → WereBrokenOff ⟦<WatchRoot<A> as RootSource>⟧ S.RelatedSet A.Value.Resource (Answers P.Fn error_policy.now (arc_value context)) w (AskFault.Unnamed source) h turns.items self.old (records_of A.Value.type_of (records_before e)) self.new (Rc.handed reconciler.old) (Rc.handed reconciler.new)))) }
 
-        // After want of memory all turns that were done have their records, the sources were asked at most once more than
-        // the turn under way owed, and the reconciler was handed at most the first takes of that turn. What is stored then is
-        // what was asked until then left, but maybe for the last exchange.
+        // After want of memory the records are those of the first turns, and the next one was broken off: it asked its sources
+        // as it asks them, at most once more than it has exchanges, and handed over what it takes first. It had not handed over
+        // all, and where it handed over anything it had asked all. What is stored then is what was asked until then left, but
+        // maybe for the last exchange. A turn of which it was not told whether it is valid asked and handed over nothing.
         ensures no_memory { IfErr result (λ e. IfNoMemory e ((w : World A.Value B) (h : List (Step A.Value)) → StandsFor ⟦<WatchRoot<A> as RootSource>⟧ S.RelatedSet B.Backoff A.Value.Resource w h self.old
-            → WereBrokenOff ⟦<WatchRoot<A> as RootSource>⟧ S.RelatedSet B.Backoff A.Value.Resource w AskFault.NoMemory h (turns_of A.Value.type_of turns.items) self.old (records_of A.Value.type_of (records_before e)) self.new (Rc.handed reconciler.old) (Rc.handed reconciler.new))) }
+            → WereBrokenOff ⟦<WatchRoot<A> as RootSource>⟧ S.RelatedSet A.Value.Resource (Answers P.Fn error_policy.now (arc_value context)) w AskFault.NoMemory h turns.items self.old (records_of A.Value.type_of (records_before e)) self.new (Rc.handed reconciler.old) (Rc.handed reconciler.new))) }
 
         // A turn that is refused, and one in which such an object came, start nothing.
         ensures handed_refused { IfErr result (λ e. IfRefused e (λ turn why. Rc.handed reconciler.new ≡ grown_by (Rc.handed reconciler.old) (handed_by (taken_by (records_of A.Value.type_of (records_before e)))))) }

@@ -75,7 +75,7 @@ where
     ensures refused { IfErr result (λ s. IfRefusedTurn s (λ why. (controller.new ≡ controller.old) × (Rc.handed reconciler.new ≡ Rc.handed reconciler.old)
         × ((w : World R.Object B) (h : List (Step R.Object)) → IsWatching R.RootSource S.RelatedSet B.Backoff R.Object.Resource w h controller.old → refusal h (turn_of R.Object.type_of turn) ≡ Some why))) }
     ensures broken { IfErr result (λ s. IfFaulted s (λ f. (w : World R.Object B) (h : List (Step R.Object)) → IsWatching R.RootSource S.RelatedSet B.Backoff R.Object.Resource w h controller.old
-        → IsBrokenOff R.RootSource S.RelatedSet B.Backoff R.Object.Resource w f h (turn_of R.Object.type_of turn) controller.old.asks.root controller.old.asks.related controller.new.core.writer.kept controller.new.asks.root controller.new.asks.related
+        → IsBrokenOff R.RootSource S.RelatedSet R.Object.Resource (Answers P.Fn error_policy.now (arc_value context.now)) w f h turn controller.old.asks.root controller.old.asks.related controller.new.core.writer.kept controller.new.asks.root controller.new.asks.related
         (Rc.handed reconciler.old) (Rc.handed reconciler.new))) }
     ensures starts_nothing { IfErr result (λ s. IfFaulted s (λ f. IfUnnamedAsk f (λ source. Rc.handed reconciler.new ≡ Rc.handed reconciler.old))) }
 {
@@ -107,8 +107,8 @@ fn reserve_one<T: Drop>(items: &mut Vec<T>) -> Result<(), NoMemory>
     Ok(())
 }
 
-/// Takes a turn, unless one was the last, and adds its record. Memory for the record is taken first, so that no turn is
-/// done of which there is none.
+/// Takes a turn, unless one was the last, and adds its record. Memory for its place is taken first, so that none is wanting
+/// once the turn was taken.
 fn add_turn<R, S, B, Ctx, Rc, P, E>(
     controller: &mut Controller<R, S, B>,
     reconciler: &mut Rc,
@@ -146,7 +146,7 @@ where
     ensures refused { IfErr result (λ s. IfRefusedTurn s (λ why. (controller.new ≡ controller.old) × (Rc.handed reconciler.new ≡ Rc.handed reconciler.old)
         × ((w : World R.Object B) (h : List (Step R.Object)) → IsWatching R.RootSource S.RelatedSet B.Backoff R.Object.Resource w h controller.old → refusal h (turn_of R.Object.type_of turn) ≡ Some why))) }
     ensures broken { IfErr result (λ s. IfFaulted s (λ f. (w : World R.Object B) (h : List (Step R.Object)) → IsWatching R.RootSource S.RelatedSet B.Backoff R.Object.Resource w h controller.old
-        → IsBrokenOff R.RootSource S.RelatedSet B.Backoff R.Object.Resource w f h (turn_of R.Object.type_of turn) controller.old.asks.root controller.old.asks.related controller.new.core.writer.kept controller.new.asks.root controller.new.asks.related
+        → IsBrokenOff R.RootSource S.RelatedSet R.Object.Resource (Answers P.Fn error_policy.now (arc_value context.now)) w f h turn controller.old.asks.root controller.old.asks.related controller.new.core.writer.kept controller.new.asks.root controller.new.asks.related
         (Rc.handed reconciler.old) (Rc.handed reconciler.new))) }
     ensures starts_nothing { IfErr result (λ s. IfFaulted s (λ f. IfUnnamedAsk f (λ source. Rc.handed reconciler.new ≡ Rc.handed reconciler.old))) }
 {
@@ -197,7 +197,7 @@ where
         → IsRefusedAfter w (answered_by (records_of R.Object.type_of records.new.items)) h (turns_of R.Object.type_of turns.items) (map unread (records_of R.Object.type_of records.new.items)) why
         × HaveRun R.RootSource S.RelatedSet B.Backoff R.Object.Resource w h (take (length records.new.items) (turns_of R.Object.type_of turns.items)) controller.old (records_of R.Object.type_of records.new.items) controller.new))) }
     ensures broken { IfErr result (λ s. IfFaulted s (λ f. (w : World R.Object B) (h : List (Step R.Object)) → IsWatching R.RootSource S.RelatedSet B.Backoff R.Object.Resource w h controller.old
-        → WereBrokenOff R.RootSource S.RelatedSet B.Backoff R.Object.Resource w f h (turns_of R.Object.type_of turns.items) controller.old (records_of R.Object.type_of records.new.items) controller.new
+        → WereBrokenOff R.RootSource S.RelatedSet R.Object.Resource (Answers P.Fn error_policy.now (arc_value context.now)) w f h turns.items controller.old (records_of R.Object.type_of records.new.items) controller.new
         (Rc.handed reconciler.old) (Rc.handed reconciler.new))) }
     ensures starts_nothing { IfErr result (λ s. IfFaulted s (λ f. IfUnnamedAsk f (λ source. Rc.handed reconciler.new ≡ grown_by (Rc.handed reconciler.old) (handed_by (taken_by (records_of R.Object.type_of records.new.items)))))) }
 {

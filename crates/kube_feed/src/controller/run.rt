@@ -92,9 +92,11 @@ impl<R: RootSource, S: RelatedSet<R::Object>, B: Backoff> FedController<R, S, B>
             → IsBrokenRun R.RootSource S.RelatedSet B.Backoff R.Object.Resource (Answers P.Fn error_policy.now (arc_value context)) w (AskFault.Unnamed source) h turns.items self.old (records_before e) self.new
             (Rc.handed reconciler.old) (Rc.handed reconciler.new)))) }
 
-        // After want of memory all turns that were done have their records, with what the error policy answered, the sources were
-        // asked at most once more than the turn under way owed, and the reconciler was handed at most the first takes of that
-        // turn, by what it read until then.
+        // After want of memory the records are those of the first turns, with what the error policy answered, and the next one
+        // was broken off: it asked its sources as it asks them, at most once more than it has exchanges, and handed over what it
+        // takes first by what it read until then. Where it handed over anything it had asked all; and a take at least was left,
+        // or what it shows was still to be read. A turn of which it was not told whether it is valid asked, read and handed over
+        // nothing.
         ensures no_memory { IfErr result (λ e. IfNoMemory e ((w : World R.Object B) (h : List (Step R.Object)) → StandsFor R.RootSource S.RelatedSet B.Backoff R.Object.Resource w h self.old
             → IsBrokenRun R.RootSource S.RelatedSet B.Backoff R.Object.Resource (Answers P.Fn error_policy.now (arc_value context)) w AskFault.NoMemory h turns.items self.old (records_before e) self.new
             (Rc.handed reconciler.old) (Rc.handed reconciler.new))) }

@@ -70,7 +70,7 @@ where
     ensures refused { IfErr result (λ s. IfRefusedTurn s (λ why. (controller.new ≡ controller.old) × (Rc.handed reconciler.new ≡ Rc.handed reconciler.old)
         × ((w : World R.Object B) (h : List (Step R.Object)) → StandsFor R.RootSource S.RelatedSet B.Backoff R.Object.Resource w h controller.old → refusal h (turn_of R.Object.type_of turn) ≡ Some why))) }
     ensures broken { IfErr result (λ s. IfFaulted s (λ f. (w : World R.Object B) (h : List (Step R.Object)) → StandsFor R.RootSource S.RelatedSet B.Backoff R.Object.Resource w h controller.old
-        → IsBrokenOff R.RootSource S.RelatedSet R.Object.Resource w f h (turn_of R.Object.type_of turn) controller.old.asks.root controller.old.asks.related controller.old.reader controller.new.asks.root controller.new.asks.related controller.new.reader
+        → IsBrokenOff R.RootSource S.RelatedSet R.Object.Resource (Answers P.Fn error_policy.now (arc_value context.now)) w f h turn controller.old.asks.root controller.old.asks.related controller.old.reader controller.new.asks.root controller.new.asks.related controller.new.reader
         (Rc.handed reconciler.old) (Rc.handed reconciler.new))) }
     ensures starts_nothing { IfErr result (λ s. IfFaulted s (λ f. IfUnnamedAsk f (λ source. Rc.handed reconciler.new ≡ Rc.handed reconciler.old))) }
 {
@@ -102,8 +102,8 @@ fn reserve_one<T: Drop>(items: &mut Vec<T>) -> Result<(), NoMemory>
     Ok(())
 }
 
-/// Takes a turn, unless one was the last, and adds its record. Memory for the record is taken first, so that no turn is
-/// done of which there is none.
+/// Takes a turn, unless one was the last, and adds its record. Memory for its place is taken first, so that none is wanting
+/// once the turn was taken.
 fn add_turn<R, S, B, W, Ctx, Rc, P, E>(
     rt: &W,
     alloc: Global,
@@ -144,7 +144,7 @@ where
     ensures refused { IfErr result (λ s. IfRefusedTurn s (λ why. (controller.new ≡ controller.old) × (Rc.handed reconciler.new ≡ Rc.handed reconciler.old)
         × ((w : World R.Object B) (h : List (Step R.Object)) → StandsFor R.RootSource S.RelatedSet B.Backoff R.Object.Resource w h controller.old → refusal h (turn_of R.Object.type_of turn) ≡ Some why))) }
     ensures broken { IfErr result (λ s. IfFaulted s (λ f. (w : World R.Object B) (h : List (Step R.Object)) → StandsFor R.RootSource S.RelatedSet B.Backoff R.Object.Resource w h controller.old
-        → IsBrokenOff R.RootSource S.RelatedSet R.Object.Resource w f h (turn_of R.Object.type_of turn) controller.old.asks.root controller.old.asks.related controller.old.reader controller.new.asks.root controller.new.asks.related controller.new.reader
+        → IsBrokenOff R.RootSource S.RelatedSet R.Object.Resource (Answers P.Fn error_policy.now (arc_value context.now)) w f h turn controller.old.asks.root controller.old.asks.related controller.old.reader controller.new.asks.root controller.new.asks.related controller.new.reader
         (Rc.handed reconciler.old) (Rc.handed reconciler.new))) }
     ensures starts_nothing { IfErr result (λ s. IfFaulted s (λ f. IfUnnamedAsk f (λ source. Rc.handed reconciler.new ≡ Rc.handed reconciler.old))) }
 {

@@ -5,9 +5,9 @@ ghost use Rattle.std.specs.Prelude.{◌≡◌};
 use kube_meta::Polled;
 use kube_reflect::{DelayedInit, InitDropped, Initializer};
 use std::alloc::Global;
+use std::panic::Expect;
 use std::process::Abort;
 use std::sync::Wait;
-use std::test::Fail;
 use std::thread;
 
 type Delayed = DelayedInit<u32>;
@@ -65,21 +65,19 @@ const ROWS: &[(How, &str)] = &[
     (How::Dropped, "not ready"),
 ];
 
-fn check_row<R: Abort + Wait>(rt: &R, alloc: Global, how: &How, wanted: &str) -> Result<(), Fail> {
-    let (initializer, mut delayed) = DelayedInit::new(alloc)?;
+fn check_row<R: Abort + Wait>(rt: &R, alloc: Global, how: &How, wanted: &str) {
+    let (initializer, mut delayed) = DelayedInit::new(alloc).expect(rt, "memory");
     check_poll(rt, &mut delayed, "not ready");
     set(rt, initializer, &mut delayed, how);
     check_poll(rt, &mut delayed, wanted);
     check_poll(rt, &mut delayed, wanted);
-    Ok(())
 }
 
 #[test]
-fn what_was_set_stays(rt: HostRuntime) -> Result<(), Fail> {
+fn what_was_set_stays(rt: HostRuntime) {
     for (how, wanted) in ROWS {
-        check_row(&rt, rt.alloc(), how, wanted)?;
+        check_row(&rt, rt.alloc(), how, wanted);
     }
-    Ok(())
 }
 
 /// Polls until there is an outcome, or so many turns are over.
@@ -94,8 +92,8 @@ fn poll_for<R: Wait>(rt: &R, mut delayed: Delayed, turns: u32) -> Delayed {
 }
 
 #[test]
-fn one_thread_sets_what_another_sees(rt: HostRuntime) -> Result<(), Fail> {
-    let (initializer, delayed) = DelayedInit::new(rt.alloc())?;
+fn one_thread_sets_what_another_sees(rt: HostRuntime) {
+    let (initializer, delayed) = DelayedInit::new(rt.alloc()).expect(&rt, "memory");
     let shared = &rt;
     let (_note, mut delayed) = thread::join(
         &rt,
@@ -103,5 +101,4 @@ fn one_thread_sets_what_another_sees(rt: HostRuntime) -> Result<(), Fail> {
         move || poll_for(shared, delayed, 1000),
     );
     check_poll(&rt, &mut delayed, "1");
-    Ok(())
 }

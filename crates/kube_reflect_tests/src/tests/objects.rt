@@ -1,9 +1,11 @@
 //! Objects, references and events for the tests, and what is compared of them.
 
-use kube_meta::{ApiResource, DynamicObject, NoMemory, ObjectMeta, ObjectRef, Text, TextMap};
+use kube_meta::{ApiResource, DynamicObject, ObjectMeta, ObjectRef, Text, TextMap};
 use kube_reflect::Writer;
 use kube_watch::Event;
 use std::alloc::Global;
+use std::panic::Expect;
+use std::process::Abort;
 use std::sync::Arc;
 
 pub type Object = Arc<DynamicObject>;
@@ -11,7 +13,7 @@ pub type Object = Arc<DynamicObject>;
 pub type Maps = Writer<DynamicObject>;
 
 /// An object of a table.
-#[derive(Drop)]
+#[derive(Clone, Copy)]
 pub enum Shape<'a> {
     Named(&'a str),
     /// Of a namespace.
@@ -24,59 +26,85 @@ pub enum Shape<'a> {
     Generated(&'a str, i64),
 }
 
-/// Its name, namespace, version, label and generation; empty texts and 0 are absent.
-type Parts<'a> = (&'a str, &'a str, &'a str, &'a str, i64);
-
-fn parts_of<'a>(shape: &Shape<'a>) -> Parts<'a> {
+/// Its name; here and below the empty text stands for none.
+fn name_in<'a>(shape: &Shape<'a>) -> &'a str {
     match shape {
-        Shape::Named(name) => (name, "", "", "", 0),
-        Shape::Within(name, namespace) => (name, namespace, "", "", 0),
-        Shape::Versioned(name, version) => (name, "", version, "", 0),
-        Shape::Labelled(name, app) => (name, "", "", app, 0),
-        Shape::Generated(name, generation) => (name, "", "", "", *generation),
+        Shape::Named(name) => name,
+        Shape::Within(name, _) => name,
+        Shape::Versioned(name, _) => name,
+        Shape::Labelled(name, _) => name,
+        Shape::Generated(name, _) => name,
     }
 }
 
-fn some_text(alloc: Global, text: &str) -> Result<Option<Text>, NoMemory> {
+fn namespace_in<'a>(shape: &Shape<'a>) -> &'a str {
+    match shape {
+        Shape::Within(_, namespace) => namespace,
+        _ => "",
+    }
+}
+
+fn version_in<'a>(shape: &Shape<'a>) -> &'a str {
+    match shape {
+        Shape::Versioned(_, version) => version,
+        _ => "",
+    }
+}
+
+fn app_in<'a>(shape: &Shape<'a>) -> &'a str {
+    match shape {
+        Shape::Labelled(_, app) => app,
+        _ => "",
+    }
+}
+
+fn generation_in(shape: &Shape<'_>) -> Option<i64> {
+    match shape {
+        Shape::Generated(_, generation) => Some(*generation),
+        _ => None,
+    }
+}
+
+fn text_of(rt: &impl Abort, alloc: Global, text: &str) -> Text {
+    Text::new(alloc, text).expect(rt, "memory")
+}
+
+fn some_text(rt: &impl Abort, alloc: Global, text: &str) -> Option<Text> {
     if text.is_empty() {
-        return Ok(None);
+        return None;
     }
-    Ok(Some(Text::new(alloc, text)?))
+    Some(text_of(rt, alloc, text))
 }
 
-fn some_labels(alloc: Global, app: &str) -> Result<Option<TextMap>, NoMemory> {
+fn some_labels(rt: &impl Abort, alloc: Global, app: &str) -> Option<TextMap> {
     if app.is_empty() {
-        return Ok(None);
+        return None;
     }
     let mut labels = TextMap::new(alloc);
-    labels.insert(alloc, "app", Text::new(alloc, app)?)?;
-    Ok(Some(labels))
+    let app = text_of(rt, alloc, app);
+    labels.insert(alloc, "app", app).expect(rt, "memory");
+    Some(labels)
 }
 
-fn some_number(number: i64) -> Option<i64> {
-    if number == 0 { None } else { Some(number) }
-}
-
-fn metadata_of(alloc: Global, parts: Parts<'_>) -> Result<ObjectMeta, NoMemory> {
-    let (name, namespace, version, app, generation) = parts;
-    Ok(ObjectMeta {
-        name: some_text(alloc, name)?,
-        namespace: some_text(alloc, namespace)?,
-        resource_version: some_text(alloc, version)?,
-        generation: some_number(generation),
-        labels: some_labels(alloc, app)?,
+fn metadata_of(rt: &impl Abort, alloc: Global, shape: &Shape<'_>) -> ObjectMeta {
+    ObjectMeta {
+        name: some_text(rt, alloc, name_in(shape)),
+        namespace: some_text(rt, alloc, namespace_in(shape)),
+        resource_version: some_text(rt, alloc, version_in(shape)),
+        generation: generation_in(shape),
+        labels: some_labels(rt, alloc, app_in(shape)),
         ..ObjectMeta::empty()
-    })
+    }
 }
 
 /// The object of a table.
-pub fn object_of(alloc: Global, shape: &Shape<'_>) -> Result<Object, NoMemory> {
-    let metadata = metadata_of(alloc, parts_of(shape))?;
-    Ok(Arc::new(alloc, DynamicObject::bare(metadata))?)
+pub fn object_of(rt: &impl Abort, alloc: Global, shape: &Shape<'_>) -> Object {
+    let metadata = metadata_of(rt, alloc, shape);
+    Arc::new(alloc, DynamicObject::bare(metadata)).expect(rt, "memory")
 }
 
 /// An event of a table.
-#[derive(Drop)]
+#[derive(Clone, Copy)]
 pub enum Told<'a> {
     Apply(Shape<'a>),
     Delete(Shape<'a>),
@@ -86,14 +114,14 @@ pub enum Told<'a> {
 }
 
 /// The event of a table.
-pub fn event_of(alloc: Global, told: &Told<'_>) -> Result<Event<Object>, NoMemory> {
-    Ok(match told {
-        Told::Apply(shape) => Event::Apply(object_of(alloc, shape)?),
-        Told::Delete(shape) => Event::Delete(object_of(alloc, shape)?),
+pub fn event_of(rt: &impl Abort, alloc: Global, told: &Told<'_>) -> Event<Object> {
+    match told {
+        Told::Apply(shape) => Event::Apply(object_of(rt, alloc, shape)),
+        Told::Delete(shape) => Event::Delete(object_of(rt, alloc, shape)),
         Told::Init => Event::Init,
-        Told::InitApply(shape) => Event::InitApply(object_of(alloc, shape)?),
+        Told::InitApply(shape) => Event::InitApply(object_of(rt, alloc, shape)),
         Told::InitDone => Event::InitDone,
-    })
+    }
 }
 
 /// A type of the core group in the version `v1`.
@@ -102,44 +130,53 @@ pub enum Kind {
     Pod,
 }
 
-/// Its name, for one object and for many.
-fn words_of(kind: &Kind) -> (&'static str, &'static str) {
+/// Its name, for one object.
+fn word_of(kind: &Kind) -> &'static str {
     match kind {
-        Kind::ConfigMap => ("ConfigMap", "configmaps"),
-        Kind::Pod => ("Pod", "pods"),
+        Kind::ConfigMap => "ConfigMap",
+        Kind::Pod => "Pod",
+    }
+}
+
+/// Its name, for many objects.
+fn plural_of(kind: &Kind) -> &'static str {
+    match kind {
+        Kind::ConfigMap => "configmaps",
+        Kind::Pod => "pods",
     }
 }
 
 /// The type of objects of a kind.
-pub fn type_of(alloc: Global, kind: &Kind) -> Result<Arc<ApiResource>, NoMemory> {
-    let (kind, plural) = words_of(kind);
+pub fn type_of(rt: &impl Abort, alloc: Global, kind: &Kind) -> Arc<ApiResource> {
     let resource = ApiResource {
-        group: Text::new(alloc, "")?,
-        version: Text::new(alloc, "v1")?,
-        api_version: Text::new(alloc, "v1")?,
-        kind: Text::new(alloc, kind)?,
-        plural: Text::new(alloc, plural)?,
+        group: text_of(rt, alloc, ""),
+        version: text_of(rt, alloc, "v1"),
+        api_version: text_of(rt, alloc, "v1"),
+        kind: text_of(rt, alloc, word_of(kind)),
+        plural: text_of(rt, alloc, plural_of(kind)),
     };
-    Ok(Arc::new(alloc, resource)?)
+    Arc::new(alloc, resource).expect(rt, "memory")
 }
 
 /// A reference of this kind, name and namespace, where that is not empty.
 pub fn reference_of(
+    rt: &impl Abort,
     alloc: Global,
     kind: &Kind,
     name: &str,
     namespace: &str,
-) -> Result<ObjectRef<DynamicObject>, NoMemory> {
-    let reference = ObjectRef::new_with(alloc, name, type_of(alloc, kind)?)?;
+) -> ObjectRef<DynamicObject> {
+    let kind = type_of(rt, alloc, kind);
+    let reference = ObjectRef::new_with(alloc, name, kind).expect(rt, "memory");
     if namespace.is_empty() {
-        return Ok(reference);
+        return reference;
     }
-    reference.within(alloc, namespace)
+    reference.within(alloc, namespace).expect(rt, "memory")
 }
 
 /// A reference to a config map.
-pub fn key_of(alloc: Global, name: &str) -> Result<ObjectRef<DynamicObject>, NoMemory> {
-    reference_of(alloc, &Kind::ConfigMap, name, "")
+pub fn key_of(rt: &impl Abort, alloc: Global, name: &str) -> ObjectRef<DynamicObject> {
+    reference_of(rt, alloc, &Kind::ConfigMap, name, "")
 }
 
 /// The name of an object, or the empty text.

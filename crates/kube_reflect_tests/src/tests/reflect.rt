@@ -1,19 +1,20 @@
 //! Reflectors, and the subscribers of their writers.
 
-ghost use Rattle.std.specs.Prelude.{◌≡◌, true, IfOk};
+ghost use Rattle.std.specs.Prelude.{◌≡◌, ◌≤◌, true};
 ghost use Rattle.kube_reflect.specs.Writers.{is_live, AllStay};
 
 use super::objects::Shape::{Named, Versioned};
 use super::objects::Told::{Apply, Delete, Init, InitApply, InitDone};
 use super::objects::{Kind, Maps, Object, Told, event_of, key_of, name_of, type_of, version_of};
-use kube_meta::{DynamicObject, Moment, Next, NoMemory};
+use super::steps::{drop_handle, drop_writer, has_place, with_places};
+use kube_meta::{DynamicObject, Moment, Next};
 use kube_reflect::reflector::reflector;
 use kube_reflect::{OfferError, ReflectHandle, Reflector, Writer};
 use kube_watch::{Error, Event, EventStream, StreamFault};
 use std::alloc::Global;
 use std::collections::VecDeque;
+use std::panic::Expect;
 use std::process::Abort;
-use std::test::Fail;
 
 type Said = Next<Result<Event<Object>, Error>>;
 
@@ -52,48 +53,69 @@ pub enum Given {
     NotReady,
 }
 
-fn answer_of(alloc: Global, given: &Given) -> Result<Said, NoMemory> {
-    Ok(match given {
-        Given::Told(told) => Next::Item(Ok(event_of(alloc, told)?)),
+fn answer_of(rt: &impl Abort, alloc: Global, given: &Given) -> Said {
+    match given {
+        Given::Told(told) => Next::Item(Ok(event_of(rt, alloc, told))),
         Given::Fault => Next::Item(Err(Error::NoResourceVersion)),
         Given::Spent => Next::Spent,
         Given::NotReady => Next::NotReady,
-    })
+    }
 }
 
-fn script_of(alloc: Global, all: &[Given]) -> Result<Script, NoMemory> {
+fn script_of(rt: &impl Abort, alloc: Global, all: &[Given]) -> Script {
     let mut answers = VecDeque::new(alloc);
     for given in all {
-        answers.push_back(answer_of(alloc, given)?)?;
+        let answer = answer_of(rt, alloc, given);
+        answers.push_back(answer).expect(rt, "memory");
     }
-    Ok(Script { answers })
+    Script { answers }
+}
+
+/// A writer of config maps with room for so many offers.
+fn shared_writer(rt: &impl Abort, alloc: Global, room: u32) -> Maps
+    requires { 1 ≤ room }
+{
+    let kind = type_of(rt, alloc, &Kind::ConfigMap);
+    Writer::new_shared(alloc, room, kind, 1).expect(rt, "memory")
 }
 
 /// A writer of config maps with room for so many offers; one that takes no subscribers for 0.
-fn writer_of(alloc: Global, room: u32) -> Result<Maps, NoMemory> {
-    let kind = type_of(alloc, &Kind::ConfigMap)?;
+fn writer_of(rt: &impl Abort, alloc: Global, room: u32) -> Maps {
     if room == 0 {
-        return Writer::new(alloc, kind, 1);
+        return with_places(rt, alloc, &Kind::ConfigMap, 1);
     }
-    Writer::new_shared(alloc, room, kind, 1)
+    shared_writer(rt, alloc, room)
 }
 
-/// A reflector of such a writer, over a script.
-fn reflector_of(alloc: Global, room: u32, script: &[Given]) -> Result<Reflected, NoMemory> {
-    let writer = writer_of(alloc, room)?;
-    Ok(reflector(writer, script_of(alloc, script)?))
+/// A reflector of a writer, over a script.
+fn reflector_of(rt: &impl Abort, alloc: Global, writer: Maps, script: &[Given]) -> Reflected
+    ensures { result.writer ≡ writer }
+{
+    reflector(writer, script_of(rt, alloc, script))
+}
+
+/// The writer of a reflector, whose script ends with it.
+fn writer_in(reflected: Reflected) -> Maps
+    ensures { result ≡ reflected.writer }
+{
+    reflected.into_writer()
+}
+
+/// The end of a reflector.
+fn drop_reflector(reflected: Reflected) {
+    drop_writer(writer_in(reflected));
 }
 
 /// Whether an event is shown so.
-fn is_shown(alloc: Global, event: &Event<Object>, wanted: &str) -> Result<bool, Fail> {
-    let shown = format!(in alloc; "{event}")?;
-    Ok(shown.as_str() == wanted)
+fn is_shown(rt: &impl Abort, alloc: Global, event: &Event<Object>, wanted: &str) -> bool {
+    let shown = format!(in alloc; "{event}").expect(rt, "memory");
+    shown.as_str() == wanted
 }
 
 /// Whether an answer is called so.
-fn is_called(alloc: Global, answer: &Answer, wanted: &str) -> Result<bool, Fail> {
+fn is_called(rt: &impl Abort, alloc: Global, answer: &Answer, wanted: &str) -> bool {
     let word = match answer {
-        Ok(Next::Item(Ok(event))) => return is_shown(alloc, event, wanted),
+        Ok(Next::Item(Ok(event))) => return is_shown(rt, alloc, event, wanted),
         Ok(Next::Item(Err(_))) => "error",
         Ok(Next::NotReady) => "not ready",
         Ok(Next::Spent) => "spent",
@@ -101,21 +123,22 @@ fn is_called(alloc: Global, answer: &Answer, wanted: &str) -> Result<bool, Fail>
         Err(StreamFault::Unnamed) => "unnamed",
         Err(StreamFault::NoMemory) => "no memory",
     };
-    Ok(word == wanted)
+    word == wanted
 }
 
-/// Checks what a poll gives. Subscribers stay.
-fn check_poll(
-    rt: &impl Abort,
-    alloc: Global,
-    reflected: &mut Reflected,
-    wanted: &str,
-) -> Result<(), Fail>
+/// Whether a poll gives what is called so. Subscribers stay.
+fn gives(rt: &impl Abort, alloc: Global, reflected: &mut Reflected, wanted: &str) -> bool
     ensures live { AllStay reflected.old.writer reflected.new.writer }
 {
     let answer = reflected.poll_next(alloc, Moment(0), 2);
-    assert!(rt; is_called(alloc, &answer, wanted)?, "{wanted}");
-    Ok(())
+    is_called(rt, alloc, &answer, wanted)
+}
+
+/// Checks what a poll gives. Subscribers stay.
+fn check_poll(rt: &impl Abort, alloc: Global, reflected: &mut Reflected, wanted: &str)
+    ensures live { AllStay reflected.old.writer reflected.new.writer }
+{
+    assert!(rt; gives(rt, alloc, reflected, wanted), "{wanted}");
 }
 
 /// Names and versions of stored objects, in order.
@@ -126,12 +149,23 @@ fn are_versions(objects: &[Object], wanted: &[(&str, &str)]) -> bool {
     if objects.len() != wanted.len() {
         return false;
     }
-    for (object, (name, version)) in objects.iter().zip(wanted.iter()) {
-        if name_of(&**object) != *name || version_of(&**object) != *version {
+    for (object, wanted) in objects.iter().zip(wanted.iter()) {
+        if !is_version(&**object, wanted) {
             return false;
         }
     }
     true
+}
+
+/// Whether an object has this name and version.
+fn is_version(object: &DynamicObject, wanted: &(&str, &str)) -> bool {
+    name_of(object) == wanted.0 && version_of(object) == wanted.1
+}
+
+/// Whether a writer stores objects of these names and versions, in order.
+fn stores(rt: &impl Abort, alloc: Global, writer: &Maps, wanted: &[(&str, &str)]) -> bool {
+    let objects = writer.cache().state(alloc).expect(rt, "memory");
+    are_versions(objects.as_slice(), wanted)
 }
 
 /// Checks what a poll gives, and what is then stored.
@@ -141,11 +175,9 @@ fn check_stored(
     reflected: &mut Reflected,
     wanted: &str,
     stored: &[(&str, &str)],
-) -> Result<(), Fail> {
-    check_poll(rt, alloc, reflected, wanted)?;
-    let objects = reflected.writer().cache().state(alloc)?;
-    assert!(rt; are_versions(objects.as_slice(), stored), "{wanted}");
-    Ok(())
+) {
+    check_poll(rt, alloc, reflected, wanted);
+    assert!(rt; stores(rt, alloc, reflected.writer(), stored), "{wanted}");
 }
 
 /// A case: what it shows, the room of the writer, the script, what each poll gives and what is then stored, and whether a
@@ -240,23 +272,34 @@ const ROWS: &[Row] = &[
     ),
 ];
 
-/// A reflector gives and stores what a case says.
-fn check_row(rt: &impl Abort, alloc: Global, row: &Row) -> Result<(), Fail> {
-    let (case, room, script, polls, is_ready) = row;
-    let mut reflected = reflector_of(alloc, *room, script)?;
+/// Checks what each poll gives, and what is then stored.
+fn check_polls(
+    rt: &impl Abort,
+    alloc: Global,
+    reflected: &mut Reflected,
+    polls: &[(&str, Versions)],
+) {
     for (wanted, stored) in polls.iter() {
-        check_stored(rt, alloc, &mut reflected, wanted, stored)?;
+        check_stored(rt, alloc, reflected, wanted, stored);
     }
-    assert_eq!(rt; reflected.into_writer().is_ready(), *is_ready, "{case}");
-    Ok(())
+}
+
+/// A reflector gives and stores what a case says.
+fn check_row(rt: &impl Abort, alloc: Global, row: &Row) {
+    let (case, room, script, polls, is_ready) = row;
+    let writer = writer_of(rt, alloc, *room);
+    let mut reflected = reflector_of(rt, alloc, writer, script);
+    check_polls(rt, alloc, &mut reflected, polls);
+    let writer = writer_in(reflected);
+    assert_eq!(rt; writer.is_ready(), *is_ready, "{case}");
+    drop_writer(writer);
 }
 
 #[test]
-fn a_reflector_applies_what_it_gives(rt: HostRuntime) -> Result<(), Fail> {
+fn a_reflector_applies_what_it_gives(rt: HostRuntime) {
     for row in ROWS {
-        check_row(&rt, rt.alloc(), row)?;
+        check_row(&rt, rt.alloc(), row);
     }
-    Ok(())
 }
 
 /// The next of numbers that look like chance.
@@ -267,38 +310,41 @@ fn next_number(state: u64) -> u64 {
 }
 
 /// An event of an object of a hundred, by a number.
-fn any_event(alloc: Global, state: u64) -> Result<Event<Object>, Fail> {
+fn any_event(rt: &impl Abort, alloc: Global, state: u64) -> Event<Object> {
     let number = (state >> 33) % 100;
-    let name = format!(in alloc; "{number}")?;
-    if (state >> 40) % 5 < 2 {
-        return Ok(event_of(alloc, &Delete(Named(name.as_str())))?);
-    }
-    Ok(event_of(alloc, &Apply(Named(name.as_str())))?)
+    let name = format!(in alloc; "{number}").expect(rt, "memory");
+    let shape = Named(name.as_str());
+    let told = if (state >> 40) % 5 < 2 {
+        Delete(shape)
+    } else {
+        Apply(shape)
+    };
+    event_of(rt, alloc, &told)
 }
 
 /// A script of so many events.
-fn events(alloc: Global, count: u32) -> Result<Script, Fail> {
+fn events(rt: &impl Abort, alloc: Global, count: u32) -> Script {
     let mut answers = VecDeque::new(alloc);
     let mut state = 1;
     for _event in 0..count {
         state = next_number(state);
-        answers.push_back(Next::Item(Ok(any_event(alloc, state)?)))?;
+        let answer: Said = Next::Item(Ok(any_event(rt, alloc, state)));
+        answers.push_back(answer).expect(rt, "memory");
     }
-    Ok(Script { answers })
+    Script { answers }
+}
+
+/// Whether a reflector gives an event.
+fn gives_event(alloc: Global, reflected: &mut Reflected) -> bool {
+    let answer = reflected.poll_next(alloc, Moment(0), 1);
+    matches!(&answer, Ok(Next::Item(Ok(_))))
 }
 
 /// A reflector gives so many events.
-fn reflect_many(
-    rt: &impl Abort,
-    alloc: Global,
-    reflected: &mut Reflected,
-    count: u32,
-) -> Result<(), Fail> {
+fn reflect_many(rt: &impl Abort, alloc: Global, reflected: &mut Reflected, count: u32) {
     for _event in 0..count {
-        let answer = reflected.poll_next(alloc, Moment(0), 1);
-        assert!(rt; matches!(answer, Ok(Next::Item(Ok(_)))));
+        assert!(rt; gives_event(alloc, reflected));
     }
-    Ok(())
 }
 
 /// How many objects have this name.
@@ -319,15 +365,22 @@ fn are_different(objects: &[Object]) -> bool {
     true
 }
 
-#[test]
-fn no_name_is_stored_twice(rt: HostRuntime) -> Result<(), Fail> {
-    let alloc = rt.alloc();
-    let mut reflected = reflector(writer_of(alloc, 0)?, events(alloc, 100_000)?);
-    reflect_many(&rt, alloc, &mut reflected, 100_000)?;
-    let objects = reflected.writer().cache().state(alloc)?;
+/// A writer stores no name twice, and more than ten objects.
+fn check_different(rt: &impl Abort, alloc: Global, writer: &Maps) {
+    let objects = writer.cache().state(alloc).expect(rt, "memory");
     assert!(rt; are_different(objects.as_slice()));
     assert!(rt; objects.len() > 10);
-    Ok(())
+}
+
+#[test]
+fn no_name_is_stored_twice(rt: HostRuntime) {
+    let alloc = rt.alloc();
+    let writer = writer_of(&rt, alloc, 0);
+    let mut reflected = reflector(writer, events(&rt, alloc, 100_000));
+    reflect_many(&rt, alloc, &mut reflected, 100_000);
+    let writer = writer_in(reflected);
+    check_different(&rt, alloc, &writer);
+    drop_writer(writer);
 }
 
 /// A turn of a reflector, of its writer, or of a subscriber.
@@ -347,18 +400,20 @@ pub enum Turn {
 }
 
 /// Offers a reference.
-fn offer(alloc: Global, writer: &mut Maps, name: &str) -> Result<(), OfferError>
+fn offer(rt: &impl Abort, alloc: Global, writer: &mut Maps, name: &str) -> Result<(), OfferError>
     ensures live { AllStay writer.old writer.new }
 {
-    writer.offer(alloc, key_of(alloc, name)?)
+    let key = key_of(rt, alloc, name);
+    writer.offer(alloc, key)
 }
 
 /// Applies an event.
-fn apply(alloc: Global, writer: &mut Maps, told: &Told<'_>) -> Result<(), Fail>
+fn apply(rt: &impl Abort, alloc: Global, writer: &mut Maps, told: &Told<'_>)
     ensures live { AllStay writer.old writer.new }
 {
-    writer.apply_watcher_event(alloc, &event_of(alloc, told)?)?;
-    Ok(())
+    let event = event_of(rt, alloc, told);
+    let answer = writer.apply_watcher_event(alloc, &event);
+    answer.expect(rt, "applied");
 }
 
 pub type Handle = ReflectHandle<DynamicObject>;
@@ -374,43 +429,29 @@ fn word(answer: &Next<Object>) -> &str {
 }
 
 /// Checks what a subscriber is given.
-fn check_taken(
-    rt: &impl Abort,
-    alloc: Global,
-    handle: &mut Handle,
-    writer: &mut Maps,
-    wanted: &str,
-) -> Result<(), Fail>
+fn check_taken(rt: &impl Abort, alloc: Global, handle: &mut Handle, writer: &mut Maps, wanted: &str)
     requires { is_live writer.old handle.old.number ≡ true }
     ensures number { handle.new.number ≡ handle.old.number }
     ensures live { AllStay writer.old writer.new }
 {
-    let answer = handle.poll_next(alloc, writer)?;
+    let answer = handle.poll_next(alloc, writer).expect(rt, "memory");
     assert_eq!(rt; word(&answer), wanted);
-    Ok(())
 }
 
 /// Checks a turn of a reflector's writer or of its subscriber.
-fn check_turn(
-    rt: &impl Abort,
-    alloc: Global,
-    handle: &mut Handle,
-    writer: &mut Maps,
-    turn: &Turn,
-) -> Result<(), Fail>
+fn check_turn(rt: &impl Abort, alloc: Global, handle: &mut Handle, writer: &mut Maps, turn: &Turn)
     requires { is_live writer.old handle.old.number ≡ true }
     ensures number { handle.new.number ≡ handle.old.number }
     ensures live { AllStay writer.old writer.new }
 {
     match turn {
         Turn::Gives(_) => {}
-        Turn::Event(told) => apply(alloc, writer, told)?,
-        Turn::Offer(name) => offer(alloc, writer, name)?,
-        Turn::Full(name) => assert_eq!(rt; offer(alloc, writer, name), Err(OfferError::Full)),
+        Turn::Event(told) => apply(rt, alloc, writer, told),
+        Turn::Offer(name) => assert_eq!(rt; offer(rt, alloc, writer, name), Ok(())),
+        Turn::Full(name) => assert_eq!(rt; offer(rt, alloc, writer, name), Err(OfferError::Full)),
         Turn::Close => writer.close_subscribers(),
-        Turn::Takes(wanted) => check_taken(rt, alloc, handle, writer, wanted)?,
+        Turn::Takes(wanted) => check_taken(rt, alloc, handle, writer, wanted),
     }
-    Ok(())
 }
 
 /// Checks a turn.
@@ -420,7 +461,7 @@ fn check_next(
     handle: &mut Handle,
     reflected: &mut Reflected,
     turn: &Turn,
-) -> Result<(), Fail>
+)
     requires { is_live reflected.old.writer handle.old.number ≡ true }
     ensures number { handle.new.number ≡ handle.old.number }
     ensures live { AllStay reflected.old.writer reflected.new.writer }
@@ -438,34 +479,40 @@ fn check_turns(
     handle: &mut Handle,
     reflected: &mut Reflected,
     turns: &[Turn],
-) -> Result<(), Fail>
+)
     requires { is_live reflected.old.writer handle.old.number ≡ true }
     ensures number { handle.new.number ≡ handle.old.number }
     ensures live { AllStay reflected.old.writer reflected.new.writer }
 {
     for turn in turns {
-        check_next(rt, alloc, handle, reflected, turn)?;
+        check_next(rt, alloc, handle, reflected, turn);
     }
-    Ok(())
 }
 
 /// A subscriber, where the writer is shared.
-fn subscriber(rt: &impl Abort, alloc: Global, reflected: &mut Reflected) -> Result<Handle, NoMemory>
-    ensures own { IfOk result (λ h. is_live reflected.new.writer h.number ≡ true) }
-    ensures live { AllStay reflected.old.writer reflected.new.writer }
+fn subscriber(rt: &impl Abort, alloc: Global, writer: &mut Maps) -> Handle
+    ensures own { is_live writer.new result.number ≡ true }
+    ensures live { AllStay writer.old writer.new }
 {
-    Ok(reflected.writer().subscribe(alloc)?.expect(rt, "shared"))
+    let added = writer.subscribe(alloc).expect(rt, "memory");
+    added.expect(rt, "shared")
+}
+
+/// There is room for 20 offers.
+fn check_room(rt: &impl Abort, alloc: Global, writer: &mut Maps) {
+    for _offer in 0..20 {
+        assert_eq!(rt; offer(rt, alloc, writer, "a"), Ok(()));
+    }
 }
 
 /// A subscriber that has left is offered nothing, so there is room for it.
-fn check_left(rt: &impl Abort, alloc: Global, handle: Handle, writer: &mut Maps) -> Result<(), Fail>
-    requires { is_live writer.old handle.number ≡ true }
+fn check_left(rt: &impl Abort, alloc: Global, handle: Handle, reflected: Reflected)
+    requires { is_live reflected.writer handle.number ≡ true }
 {
-    handle.leave(writer);
-    for _offer in 0..20 {
-        assert_eq!(rt; offer(alloc, writer, "a"), Ok(()));
-    }
-    Ok(())
+    let mut writer = writer_in(reflected);
+    handle.leave(&mut writer);
+    check_room(rt, alloc, &mut writer);
+    drop_writer(writer);
 }
 
 /// A case: the room of the writer, the script, what is applied before, and the turns of one subscriber.
@@ -537,35 +584,30 @@ const SHARED: &[Shared] = &[
     ),
 ];
 
-/// A reflector to whose writer these events were applied.
-fn reflector_after(
-    alloc: Global,
-    room: u32,
-    script: &[Given],
-    before: &[Told<'_>],
-) -> Result<Reflected, Fail> {
-    let mut reflected = reflector_of(alloc, room, script)?;
+/// A writer of config maps to which these events were applied, as `writer_of`.
+fn writer_after(rt: &impl Abort, alloc: Global, room: u32, before: &[Told<'_>]) -> Maps {
+    let mut writer = writer_of(rt, alloc, room);
     for told in before {
-        apply(alloc, reflected.writer(), told)?;
+        apply(rt, alloc, &mut writer, told);
     }
-    Ok(reflected)
+    writer
 }
 
 /// A case of one subscriber, which leaves at last.
-fn check_shared(rt: &impl Abort, alloc: Global, row: &Shared) -> Result<(), Fail> {
+fn check_shared(rt: &impl Abort, alloc: Global, row: &Shared) {
     let (room, script, before, turns) = row;
-    let mut reflected = reflector_after(alloc, *room, script, before)?;
-    let mut handle = subscriber(rt, alloc, &mut reflected)?;
-    check_turns(rt, alloc, &mut handle, &mut reflected, turns)?;
-    check_left(rt, alloc, handle, reflected.writer())
+    let mut writer = writer_after(rt, alloc, *room, before);
+    let mut handle = subscriber(rt, alloc, &mut writer);
+    let mut reflected = reflector_of(rt, alloc, writer, script);
+    check_turns(rt, alloc, &mut handle, &mut reflected, turns);
+    check_left(rt, alloc, handle, reflected);
 }
 
 #[test]
-fn a_subscriber_is_given_what_is_offered(rt: HostRuntime) -> Result<(), Fail> {
+fn a_subscriber_is_given_what_is_offered(rt: HostRuntime) {
     for row in SHARED {
-        check_shared(&rt, rt.alloc(), row)?;
+        check_shared(&rt, rt.alloc(), row);
     }
-    Ok(())
 }
 
 /// Whose turn it is.
@@ -582,7 +624,7 @@ fn check_one(
     second: &mut Handle,
     reflected: &mut Reflected,
     turn: &(Who, Turn),
-) -> Result<(), Fail>
+)
     requires first { is_live reflected.old.writer first.old.number ≡ true }
     requires second { is_live reflected.old.writer second.old.number ≡ true }
     ensures first { is_live reflected.new.writer first.new.number ≡ true }
@@ -602,14 +644,18 @@ fn check_both(
     second: &mut Handle,
     reflected: &mut Reflected,
     turns: &[(Who, Turn)],
-) -> Result<(), Fail>
+)
     requires first { is_live reflected.old.writer first.old.number ≡ true }
     requires second { is_live reflected.old.writer second.old.number ≡ true }
 {
     for turn in turns {
-        check_one(rt, alloc, first, second, reflected, turn)?;
+        check_one(rt, alloc, first, second, reflected, turn);
     }
-    Ok(())
+}
+
+/// The end of two subscribers and of their reflector.
+fn drop_both(_first: Handle, _second: Handle, reflected: Reflected) {
+    drop_reflector(reflected);
 }
 
 /// With room for one offer.
@@ -638,12 +684,14 @@ const APPLIES: &[Given] = &[
 ];
 
 #[test]
-fn a_slow_subscriber_holds_a_reflector(rt: HostRuntime) -> Result<(), Fail> {
+fn a_slow_subscriber_holds_a_reflector(rt: HostRuntime) {
     let alloc = rt.alloc();
-    let mut reflected = reflector_of(alloc, 1, APPLIES)?;
-    let mut fast = subscriber(&rt, alloc, &mut reflected)?;
-    let mut slow = subscriber(&rt, alloc, &mut reflected)?;
-    check_both(&rt, alloc, &mut fast, &mut slow, &mut reflected, SLOW)
+    let mut writer = writer_of(&rt, alloc, 1);
+    let mut fast = subscriber(&rt, alloc, &mut writer);
+    let mut slow = subscriber(&rt, alloc, &mut writer);
+    let mut reflected = reflector_of(&rt, alloc, writer, APPLIES);
+    check_both(&rt, alloc, &mut fast, &mut slow, &mut reflected, SLOW);
+    drop_both(fast, slow, reflected);
 }
 
 /// One of two offers is taken before a clone, and the other one by each.
@@ -653,50 +701,69 @@ const TAKEN: &[(Who, Turn)] = &[
     (Who::First, Turn::Takes("b")),
 ];
 
+/// What is stored before them.
+const BOTH: &[Told<'static>] = &[Apply(Named("a")), Apply(Named("b"))];
+
 /// The turns before a clone.
 const ONE_TAKEN: &[Turn] = &[Turn::Offer("a"), Turn::Offer("b"), Turn::Takes("a")];
 
 #[test]
-fn a_clone_begins_at_the_place_of_its_handle(rt: HostRuntime) -> Result<(), Fail> {
+fn a_clone_begins_at_the_place_of_its_handle(rt: HostRuntime) {
     let alloc = rt.alloc();
-    let mut reflected = reflector_after(alloc, 3, &[], &[Apply(Named("a")), Apply(Named("b"))])?;
-    let mut handle = subscriber(&rt, alloc, &mut reflected)?;
-    check_turns(&rt, alloc, &mut handle, &mut reflected, ONE_TAKEN)?;
-    let mut other = handle.clone(alloc, reflected.writer())?;
-    check_both(&rt, alloc, &mut handle, &mut other, &mut reflected, TAKEN)
+    let mut writer = writer_after(&rt, alloc, 3, BOTH);
+    let mut handle = subscriber(&rt, alloc, &mut writer);
+    let mut reflected = reflector_of(&rt, alloc, writer, &[]);
+    check_turns(&rt, alloc, &mut handle, &mut reflected, ONE_TAKEN);
+    let mut writer = writer_in(reflected);
+    let mut other = handle.clone(alloc, &mut writer).expect(&rt, "memory");
+    let mut reflected = reflector_of(&rt, alloc, writer, &[]);
+    check_both(&rt, alloc, &mut handle, &mut other, &mut reflected, TAKEN);
+    drop_both(handle, other, reflected);
+}
+
+/// Whether a subscriber takes a reader place of its writer.
+fn takes_place(handle: &Handle, writer: &mut Maps) -> bool
+    requires { is_live writer.old handle.now.number ≡ true }
+{
+    match handle.reader(writer) {
+        Some(reads) => {
+            drop_handle(reads);
+            true
+        }
+        None => false,
+    }
 }
 
 /// The only reader place of a writer is handed out by its subscriber; a handle that is dropped still lags.
-fn check_dropped(
-    rt: &impl Abort,
-    alloc: Global,
-    handle: Handle,
-    writer: &mut Maps,
-) -> Result<(), Fail>
+fn check_dropped(rt: &impl Abort, alloc: Global, handle: Handle, writer: &mut Maps)
     requires { is_live writer.old handle.number ≡ true }
 {
-    assert!(rt; handle.reader(writer).is_some());
-    assert!(rt; writer.as_reader().is_none());
+    assert!(rt; takes_place(&handle, writer));
+    assert!(rt; !has_place(writer));
     drop(handle);
-    assert_eq!(rt; offer(alloc, writer, "a"), Ok(()));
-    assert_eq!(rt; offer(alloc, writer, "a"), Err(OfferError::Full));
-    Ok(())
+    assert_eq!(rt; offer(rt, alloc, writer, "a"), Ok(()));
+    assert_eq!(rt; offer(rt, alloc, writer, "a"), Err(OfferError::Full));
 }
 
 #[test]
-fn a_handle_that_is_dropped_still_lags(rt: HostRuntime) -> Result<(), Fail> {
+fn a_handle_that_is_dropped_still_lags(rt: HostRuntime) {
     let alloc = rt.alloc();
-    let mut reflected = reflector_of(alloc, 1, &[])?;
-    let handle = subscriber(&rt, alloc, &mut reflected)?;
-    check_dropped(&rt, alloc, handle, reflected.writer())
+    let mut writer = writer_of(&rt, alloc, 1);
+    let handle = subscriber(&rt, alloc, &mut writer);
+    check_dropped(&rt, alloc, handle, &mut writer);
+    drop_writer(writer);
+}
+
+fn takes_subscriber(rt: &impl Abort, alloc: Global, writer: &mut Maps) -> bool {
+    writer.subscribe(alloc).expect(rt, "memory").is_some()
 }
 
 #[test]
-fn a_writer_that_is_not_shared_takes_no_subscriber(rt: HostRuntime) -> Result<(), Fail> {
+fn a_writer_that_is_not_shared_takes_no_subscriber(rt: HostRuntime) {
     let alloc = rt.alloc();
-    let mut writer = writer_of(alloc, 0)?;
-    assert!(rt; writer.subscribe(alloc)?.is_none());
-    apply(alloc, &mut writer, &Apply(Named("a")))?;
+    let mut writer = writer_of(&rt, alloc, 0);
+    assert!(rt; !takes_subscriber(&rt, alloc, &mut writer));
+    apply(&rt, alloc, &mut writer, &Apply(Named("a")));
     writer.close_subscribers();
-    Ok(())
+    drop_writer(writer);
 }

@@ -5,11 +5,12 @@ use super::objects::Shape::{Generated, Labelled, Named, Within};
 use super::objects::Told::{Apply, Delete, Init, InitApply, InitDone};
 use super::steps::Look::{All, Find, Get, Keys, Selected, Without};
 use super::steps::Step::{Event, Events, IsReady, Publish, Read, Stored, Tells};
-use super::steps::{APPLIED, REFUSED, Step, check_steps, with_handle};
+use super::steps::{
+    APPLIED, REFUSED, Step, check_steps, drop_handle, drop_writer, place, with_places,
+};
 use std::alloc::Global;
 use std::process::Abort;
 use std::sync::Wait;
-use std::test::Fail;
 
 /// A case: what it shows, the kind of the writer's objects, and the steps.
 type Row = (&'static str, Kind, &'static [Step]);
@@ -282,24 +283,25 @@ const READ: &[Row] = &[
 ];
 
 /// The steps of a case come out as they are to.
-fn check_row<R: Abort + Wait>(rt: &R, alloc: Global, row: &Row) -> Result<(), Fail> {
+fn check_row<R: Abort + Wait>(rt: &R, alloc: Global, row: &Row) {
     let (case, kind, steps) = row;
-    let (mut handle, mut writer) = with_handle(rt, alloc, kind)?;
-    check_steps(rt, alloc, &mut handle, &mut writer, case, steps)
+    let mut writer = with_places(rt, alloc, kind, 1);
+    let mut handle = place(rt, &mut writer);
+    check_steps(rt, alloc, &mut handle, &mut writer, case, steps);
+    drop_handle(handle);
+    drop_writer(writer);
 }
 
 #[test]
-fn a_writer_stores_what_its_events_say(rt: HostRuntime) -> Result<(), Fail> {
+fn a_writer_stores_what_its_events_say(rt: HostRuntime) {
     for row in STORED {
-        check_row(&rt, rt.alloc(), row)?;
+        check_row(&rt, rt.alloc(), row);
     }
-    Ok(())
 }
 
 #[test]
-fn a_handle_reads_what_was_published(rt: HostRuntime) -> Result<(), Fail> {
+fn a_handle_reads_what_was_published(rt: HostRuntime) {
     for row in READ {
-        check_row(&rt, rt.alloc(), row)?;
+        check_row(&rt, rt.alloc(), row);
     }
-    Ok(())
 }

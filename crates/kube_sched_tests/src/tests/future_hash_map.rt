@@ -6,6 +6,7 @@ use futures::test::MockTask;
 use kube_meta::Polled;
 use kube_sched::{FutureHashMap, Untold};
 use std::alloc::Global;
+use std::panic::Expect;
 use std::process::Abort;
 use std::test::Fail;
 
@@ -34,6 +35,11 @@ fn received(answer: Polled<Option<Result<u32, oneshot::Canceled>>>) -> u32 {
 
 type Received = FutureHashMap<u8, Untold<oneshot::Receiver<u32>>>;
 
+/// What a poll of a map of channels gives.
+fn poll_received(task: &MockTask, map: &mut Received) -> u32 {
+    received(task.enter(|cx| map.poll_next(cx)))
+}
+
 /// Polls a map before and after each of two values comes.
 fn receive_each(
     rt: &impl Abort,
@@ -42,24 +48,36 @@ fn receive_each(
     send0: oneshot::Sender<u32>,
     send1: oneshot::Sender<u32>,
 ) {
-    assert_eq!(rt; received(task.enter(|cx| map.poll_next(cx))), NOT_READY);
+    assert_eq!(rt; poll_received(task, map), NOT_READY);
     assert!(rt; send0.send(10u32).is_ok());
-    assert_eq!(rt; received(task.enter(|cx| map.poll_next(cx))), 10);
-    assert_eq!(rt; received(task.enter(|cx| map.poll_next(cx))), NOT_READY);
+    assert_eq!(rt; poll_received(task, map), 10);
+    assert_eq!(rt; poll_received(task, map), NOT_READY);
     assert!(rt; send1.send(11u32).is_ok());
-    assert_eq!(rt; received(task.enter(|cx| map.poll_next(cx))), 11);
-    assert_eq!(rt; received(task.enter(|cx| map.poll_next(cx))), EMPTY);
+    assert_eq!(rt; poll_received(task, map), 11);
+    assert_eq!(rt; poll_received(task, map), EMPTY);
+}
+
+/// Puts what comes through a channel at a key.
+fn insert_received(
+    rt: &impl Abort,
+    alloc: Global,
+    map: &mut Received,
+    key: u8,
+    future: oneshot::Receiver<u32>,
+) {
+    map.insert(alloc, key, Untold { future })
+        .expect(rt, "memory");
 }
 
 #[test]
 fn futures_end_one_after_another(rt: HostRuntime) -> Result<(), Fail> {
     let alloc = rt.alloc();
-    let task = MockTask::new(&rt)?;
+    let task = MockTask::new(&rt).expect(&rt, "memory");
     let mut map = FutureHashMap::new(alloc);
-    let (send0, receive0) = oneshot::channel(alloc)?;
-    let (send1, receive1) = oneshot::channel(alloc)?;
-    map.insert(alloc, 0u8, Untold { future: receive0 })?;
-    map.insert(alloc, 1u8, Untold { future: receive1 })?;
+    let (send0, receive0) = oneshot::channel(alloc).expect(&rt, "memory");
+    let (send1, receive1) = oneshot::channel(alloc).expect(&rt, "memory");
+    insert_received(&rt, alloc, &mut map, 0, receive0);
+    insert_received(&rt, alloc, &mut map, 1, receive1);
     receive_each(&rt, &task, &mut map, send0, send1);
     Ok(())
 }
@@ -76,38 +94,48 @@ fn poll_each(
     }
 }
 
+/// Whether a future is put at a key that has none.
+fn is_inserted(
+    rt: &impl Abort,
+    alloc: Global,
+    map: &mut FutureHashMap<u8, Waiting>,
+    key: u8,
+    value: u32,
+    polls: u32,
+) -> bool {
+    let old = map
+        .insert(alloc, key, Waiting::new(value, polls))
+        .expect(rt, "memory");
+    old.is_none()
+}
+
 #[test]
 fn the_first_ready_one_in_order_of_insertion(rt: HostRuntime) -> Result<(), Fail> {
     let alloc = rt.alloc();
-    let task = MockTask::new(&rt)?;
+    let task = MockTask::new(&rt).expect(&rt, "memory");
     let mut map = FutureHashMap::new(alloc);
-    map.insert(alloc, 7u8, Waiting::new(1, 2))?;
-    map.insert(alloc, 3u8, Waiting::new(2, 1))?;
-    map.insert(alloc, 5u8, Waiting::new(3, 1))?;
+    for (key, value, polls) in [(7, 1, 2), (3, 2, 1), (5, 3, 1)] {
+        assert!(rt; is_inserted(&rt, alloc, &mut map, key, value, polls));
+    }
     poll_each(&rt, &task, &mut map, &[NOT_READY, 2, 1, 3, EMPTY]);
     Ok(())
 }
 
 /// Puts a new future at a key that has one.
-fn insert_anew(
-    rt: &impl Abort,
-    alloc: Global,
-    map: &mut FutureHashMap<u8, Waiting>,
-) -> Result<(), Fail> {
-    assert!(rt; map.insert(alloc, 1u8, Waiting::new(1, 0))?.is_none());
-    assert!(rt; map.insert(alloc, 2u8, Waiting::new(2, 0))?.is_none());
-    assert!(rt; map.insert(alloc, 1u8, Waiting::new(3, 0))?.is_some());
+fn insert_anew(rt: &impl Abort, alloc: Global, map: &mut FutureHashMap<u8, Waiting>) {
+    assert!(rt; is_inserted(rt, alloc, map, 1, 1, 0));
+    assert!(rt; is_inserted(rt, alloc, map, 2, 2, 0));
+    assert!(rt; !is_inserted(rt, alloc, map, 1, 3, 0));
     assert_eq!(rt; map.len(), 2);
     assert!(rt; map.contains_key(&1));
     assert!(rt; !map.contains_key(&3));
-    Ok(())
 }
 
 #[test]
 fn a_new_future_takes_the_place_of_the_old(rt: HostRuntime) -> Result<(), Fail> {
-    let task = MockTask::new(&rt)?;
+    let task = MockTask::new(&rt).expect(&rt, "memory");
     let mut map = FutureHashMap::new(rt.alloc());
-    insert_anew(&rt, rt.alloc(), &mut map)?;
+    insert_anew(&rt, rt.alloc(), &mut map);
     poll_each(&rt, &task, &mut map, &[3, 2, EMPTY]);
     Ok(())
 }

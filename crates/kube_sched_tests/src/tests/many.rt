@@ -2,12 +2,14 @@
 
 ghost use Rattle.std.specs.Prelude.{◌≡◌, ◌<◌};
 
-use kube_meta::{Moment, NoMemory};
+use kube_meta::Moment;
 use kube_sched::counting::Steps;
 use kube_sched::{ScheduleRequest, Scheduler};
 use std::alloc::Global;
 use std::hash::Hash;
 use std::marker::Brand;
+use std::panic::Expect;
+use std::process::Abort;
 use std::sync::ledger::{Blank, Ledger};
 use std::test::Fail;
 
@@ -16,21 +18,22 @@ const NINE_SECONDS: Moment = Moment(9_000_000_000);
 const TEN_SECONDS: Moment = Moment(10_000_000_000);
 
 /// Requests so many messages for the tenth second.
-fn request_all(alloc: Global, scheduler: &mut Scheduler<u32>, count: u32) -> Result<(), NoMemory> {
+fn request_all(rt: &impl Abort, alloc: Global, scheduler: &mut Scheduler<u32>, count: u32) {
     for message in 0..count {
         let request = ScheduleRequest {
             message,
             run_at: TEN_SECONDS,
         };
-        scheduler.schedule(alloc, request, Moment(0))?;
+        scheduler
+            .schedule(alloc, request, Moment(0))
+            .expect(rt, "memory");
     }
-    Ok(())
 }
 
 #[test]
 fn two_hundred_thousand_messages_are_settled_a_million_times(rt: HostRuntime) -> Result<(), Fail> {
     let mut scheduler = Scheduler::new(rt.alloc(), 0);
-    request_all(rt.alloc(), &mut scheduler, 200_000)?;
+    request_all(&rt, rt.alloc(), &mut scheduler, 200_000);
     for _settle in 0..1_000_000u32 {
         scheduler.settle(NINE_SECONDS);
     }
@@ -53,7 +56,7 @@ fn take_all(scheduler: &mut Scheduler<u32>, count: u32) -> u32 {
 #[test]
 fn two_hundred_thousand_messages_are_taken(rt: HostRuntime) -> Result<(), Fail> {
     let mut scheduler = Scheduler::new(rt.alloc(), 0);
-    request_all(rt.alloc(), &mut scheduler, 200_000)?;
+    request_all(&rt, rt.alloc(), &mut scheduler, 200_000);
     scheduler.settle(TEN_SECONDS);
     assert_eq!(rt; take_all(&mut scheduler, 200_000), 200_000);
     assert_eq!(rt; scheduler.len(), 0);
@@ -83,7 +86,7 @@ fn settle_in_steps<T: Eq + Hash + Drop>(scheduler: &mut Scheduler<T>, now: Momen
 fn messages_that_are_set_anew_ten_times_wait_once(rt: HostRuntime) -> Result<(), Fail> {
     let mut scheduler = Scheduler::new(rt.alloc(), 0);
     for _time in 0..11 {
-        request_all(rt.alloc(), &mut scheduler, 1000)?;
+        request_all(&rt, rt.alloc(), &mut scheduler, 1000);
     }
     settle_in_steps(&mut scheduler, NINE_SECONDS);
     assert_eq!(rt; scheduler.waiting_len(), 0);

@@ -3,7 +3,7 @@
 ghost use Rattle.std.specs.Prelude.{◌≡◌, IfOk};
 ghost use Rattle.kube_sched.specs.Runs.{MakesFutures};
 
-use super::{SECOND, Script, asks, request};
+use super::{SECOND, Timed, asks, request};
 use crate::plain::Message;
 use futures::channel::oneshot;
 use futures::task::{Context, Poll};
@@ -13,8 +13,8 @@ use kube_meta::{Moment, Next, NoMemory};
 use kube_sched::runner::{AtOnce, Error};
 use kube_sched::{Requests, Runner, ScheduleRequest, ToldFuture, Untold, scheduler};
 use std::alloc::Global;
-use std::collections::VecDeque;
 use std::convert::Infallible;
+use std::panic::Expect;
 use std::process::Abort;
 use std::test::Fail;
 
@@ -121,21 +121,45 @@ fn poll_all<
     runner: &mut Runner<Message, R, F, MkF, Ready>,
     fuel: u32,
     polls: &[(u64, u64)],
-) -> Result<(), Fail>
+)
     requires call { (makes : MkF) → MkF.IsAlwaysCallable makes }
     requires futures { MakesFutures MkF.FnMut F.can_poll }
 {
     for (at, wanted) in polls {
-        let answer = task.enter(|cx| runner.poll_next(alloc, cx, Moment(*at), fuel))?;
+        let answer = task
+            .enter(|cx| runner.poll_next(alloc, cx, Moment(*at), fuel))
+            .expect(rt, "memory");
         assert_eq!(rt; number_of(&answer), *wanted, "at {at}");
     }
-    Ok(())
+}
+
+/// What requests answer.
+#[derive(Clone, Copy)]
+enum Answer {
+    /// A request for moment 0 for a message whose key and tag are this.
+    Ask(u8),
+    NotReady,
+    End,
+    NoMemory,
 }
 
 /// Requests that answer these, and then are never ready.
 #[derive(Drop)]
 struct Answers {
-    answers: VecDeque<Result<Next<ScheduleRequest<Message>>, NoMemory>>,
+    answers: &'static [Answer],
+    next: usize,
+}
+
+impl Answers {
+    fn answer(&mut self) -> Answer {
+        match self.answers.get(self.next) {
+            Some(answer) => {
+                self.next = self.next.saturating_add(1);
+                *answer
+            }
+            None => Answer::NotReady,
+        }
+    }
 }
 
 impl Requests<Message> for Answers {
@@ -148,20 +172,17 @@ impl Requests<Message> for Answers {
         _alloc: Global,
         _now: Moment,
     ) -> Result<Next<ScheduleRequest<Message>>, NoMemory> {
-        match self.answers.pop_front() {
-            Some(answer) => answer,
-            None => Ok(Next::NotReady),
+        match self.answer() {
+            Answer::Ask(key) => Ok(Next::Item(request(key, u64::from(key), 0))),
+            Answer::NotReady => Ok(Next::NotReady),
+            Answer::End => Ok(Next::End),
+            Answer::NoMemory => Err(NoMemory),
         }
     }
 }
 
-/// A request for a message of key and tag 1, none ready, and then this.
-fn one_and_then(alloc: Global, last: Next<ScheduleRequest<Message>>) -> Result<Answers, Fail> {
-    let mut answers = VecDeque::new(alloc);
-    answers.push_back(Ok(Next::Item(request(1, 1, 0))))?;
-    answers.push_back(Ok(Next::NotReady))?;
-    answers.push_back(Ok(last))?;
-    Ok(Answers { answers })
+fn answering(answers: &'static [Answer]) -> Answers {
+    Answers { answers, next: 0 }
 }
 
 /// Polls a runner without readiness, whose runs are over after so many polls.
@@ -174,13 +195,13 @@ fn poll_runs<R: Requests<Message>>(
     left: u32,
     fuel: u32,
     polls: &[(u64, u64)],
-) -> Result<(), Fail> {
+) {
     let mut runner = runner_of(alloc, requests, max, |m: &Message| run(m, left));
-    poll_all(rt, task, alloc, &mut runner, fuel, polls)
+    poll_all(rt, task, alloc, &mut runner, fuel, polls);
 }
 
 /// The requests, how many may run, how many polls each run takes, and the polls.
-const RUNS: [(&[(u8, u64, u64)], u16, u32, &[(u64, u64)]); 2] = [
+const RUNS: [(&[Timed], u16, u32, &[(u64, u64)]); 2] = [
     // the second starts after the first has finished
     (
         &[(1, 0, 0), (2, 0, 0)],
@@ -207,44 +228,47 @@ const RUNS: [(&[(u8, u64, u64)], u16, u32, &[(u64, u64)]); 2] = [
 
 #[test]
 fn as_many_run_as_may(rt: HostRuntime) -> Result<(), Fail> {
-    let task = MockTask::new(&rt)?;
+    let task = MockTask::new(&rt).expect(&rt, "memory");
     for (requests, max, left, polls) in RUNS {
-        let requests = asks(rt.alloc(), requests, None)?;
-        poll_runs(&rt, &task, rt.alloc(), requests, max, left, 9, polls)?;
+        let requests = asks(requests, None);
+        poll_runs(&rt, &task, rt.alloc(), requests, max, left, 9, polls);
     }
     Ok(())
 }
 
 #[test]
 fn the_end_comes_after_the_result_of_what_was_started(rt: HostRuntime) -> Result<(), Fail> {
-    let task = MockTask::new(&rt)?;
+    let task = MockTask::new(&rt).expect(&rt, "memory");
     let polls = [(0, NOT_READY), (0, 1), (0, END), (0, END)];
     for max in [0, 1, 2] {
-        let requests = one_and_then(rt.alloc(), Next::End)?;
-        poll_runs(&rt, &task, rt.alloc(), requests, max, 0, 9, &polls)?;
+        let requests = answering(&[Answer::Ask(1), Answer::NotReady, Answer::End]);
+        poll_runs(&rt, &task, rt.alloc(), requests, max, 0, 9, &polls);
     }
     Ok(())
 }
 
 #[test]
 fn a_poll_takes_as_many_requests_as_it_may(rt: HostRuntime) -> Result<(), Fail> {
-    let task = MockTask::new(&rt)?;
-    let requests = one_and_then(rt.alloc(), Next::Item(request(2, 2, 0)))?;
+    let task = MockTask::new(&rt).expect(&rt, "memory");
+    let requests = answering(&[Answer::Ask(1), Answer::NotReady, Answer::Ask(2)]);
     let polls = [(0, SPENT), (0, 1), (0, NOT_READY), (0, 2), (0, NOT_READY)];
-    poll_runs(&rt, &task, rt.alloc(), requests, 0, 0, 2, &polls)
+    poll_runs(&rt, &task, rt.alloc(), requests, 0, 0, 2, &polls);
+    Ok(())
 }
 
 #[test]
 fn nothing_starts_before_readiness_and_no_equal_one_at_once(rt: HostRuntime) -> Result<(), Fail> {
     let alloc = rt.alloc();
-    let task = MockTask::new(&rt)?;
-    let (send, receive) = oneshot::channel(alloc)?;
-    let all = [(1, 0, 0), (2, 0, 0), (1, 0, 0), (1, SECOND, SECOND)];
-    let requests = asks(alloc, &all, None)?;
+    let task = MockTask::new(&rt).expect(&rt, "memory");
+    let (send, receive) = oneshot::channel(alloc).expect(&rt, "memory");
+    let requests = asks(
+        &[(1, 0, 0), (2, 0, 0), (1, 0, 0), (1, SECOND, SECOND)],
+        None,
+    );
     let mut runner = runner_of(alloc, requests, 0, |m: &Message| run(m, 1)).delay_tasks_until(
         Untold { future: receive },
     );
-    poll_all(&rt, &task, alloc, &mut runner, 9, &[(0, NOT_READY)])?;
+    poll_all(&rt, &task, alloc, &mut runner, 9, &[(0, NOT_READY)]);
     assert!(rt; !runner.finish(&Message { key: 1, tag: 0 }));
     assert!(rt; send.send(()).is_ok());
     let polls = [
@@ -257,53 +281,56 @@ fn nothing_starts_before_readiness_and_no_equal_one_at_once(rt: HostRuntime) -> 
         (SECOND, 1),
         (SECOND, NOT_READY),
     ];
-    poll_all(&rt, &task, alloc, &mut runner, 9, &polls)
+    poll_all(&rt, &task, alloc, &mut runner, 9, &polls);
+    Ok(())
 }
 
 #[test]
 fn a_failed_readiness_is_told_and_then_the_end(rt: HostRuntime) -> Result<(), Fail> {
     let alloc = rt.alloc();
-    let task = MockTask::new(&rt)?;
-    let (send, receive) = oneshot::channel::<()>(alloc)?;
+    let task = MockTask::new(&rt).expect(&rt, "memory");
+    let (send, receive) = oneshot::channel::<()>(alloc).expect(&rt, "memory");
     drop(send);
-    let requests = asks(alloc, &[(1, 0, 0)], None)?;
+    let requests = asks(&[(1, 0, 0)], None);
     let mut runner = runner_of(alloc, requests, 0, |m: &Message| run(m, 0)).delay_tasks_until(
         Untold { future: receive },
     );
     let polls = [(0, CANCELED), (0, END), (0, END)];
-    poll_all(&rt, &task, alloc, &mut runner, 9, &polls)
+    poll_all(&rt, &task, alloc, &mut runner, 9, &polls);
+    Ok(())
 }
 
 #[test]
 fn a_new_readiness_goes_on_after_a_failed_one(rt: HostRuntime) -> Result<(), Fail> {
     let alloc = rt.alloc();
-    let task = MockTask::new(&rt)?;
-    let requests = asks(alloc, &[(1, 0, 0)], None)?;
+    let task = MockTask::new(&rt).expect(&rt, "memory");
+    let requests = asks(&[(1, 0, 0)], None);
     let mut failing = runner_of(alloc, requests, 0, |m: &Message| run(m, 0)).delay_tasks_until(
         Untold {
             future: future::err::<(), u32>(7),
         },
     );
     let polls = [(0, CANCELED + 8), (0, END)];
-    poll_all(&rt, &task, alloc, &mut failing, 9, &polls)?;
+    poll_all(&rt, &task, alloc, &mut failing, 9, &polls);
     let mut runner = failing.delay_tasks_until(Untold {
         future: future::ok::<(), u32>(()),
     });
     let polls = [(0, NOT_READY), (0, 1), (0, NOT_READY)];
-    poll_all(&rt, &task, alloc, &mut runner, 9, &polls)
+    poll_all(&rt, &task, alloc, &mut runner, 9, &polls);
+    Ok(())
 }
 
 #[test]
 fn the_runner_ends_before_readiness_where_the_requests_do(rt: HostRuntime) -> Result<(), Fail> {
     let alloc = rt.alloc();
-    let task = MockTask::new(&rt)?;
-    let (send, receive) = oneshot::channel::<()>(alloc)?;
-    let requests = asks(alloc, &[(1, 0, 0)], Some(SECOND))?;
+    let task = MockTask::new(&rt).expect(&rt, "memory");
+    let (send, receive) = oneshot::channel::<()>(alloc).expect(&rt, "memory");
+    let requests = asks(&[(1, 0, 0)], Some(SECOND));
     let mut runner = runner_of(alloc, requests, 0, |m: &Message| run(m, 0)).delay_tasks_until(
         Untold { future: receive },
     );
     let polls = [(0, NOT_READY), (SECOND, END), (SECOND, END)];
-    poll_all(&rt, &task, alloc, &mut runner, 9, &polls)?;
+    poll_all(&rt, &task, alloc, &mut runner, 9, &polls);
     drop(send);
     Ok(())
 }
@@ -311,14 +338,14 @@ fn the_runner_ends_before_readiness_where_the_requests_do(rt: HostRuntime) -> Re
 #[test]
 fn a_finished_message_may_start_again(rt: HostRuntime) -> Result<(), Fail> {
     let alloc = rt.alloc();
-    let task = MockTask::new(&rt)?;
-    let requests = asks(alloc, &[(1, 0, 0), (1, SECOND, SECOND)], None)?;
+    let task = MockTask::new(&rt).expect(&rt, "memory");
+    let requests = asks(&[(1, 0, 0), (1, SECOND, SECOND)], None);
     let mut runner = runner_of(alloc, requests, 0, |m: &Message| run(m, 9));
     let polls = [(0, NOT_READY), (SECOND, NOT_READY)];
-    poll_all(&rt, &task, alloc, &mut runner, 9, &polls)?;
+    poll_all(&rt, &task, alloc, &mut runner, 9, &polls);
     assert!(rt; runner.finish(&Message { key: 1, tag: 0 }));
     assert!(rt; !runner.finish(&Message { key: 1, tag: 0 }));
-    poll_all(&rt, &task, alloc, &mut runner, 9, &[(SECOND, NOT_READY)])?;
+    poll_all(&rt, &task, alloc, &mut runner, 9, &[(SECOND, NOT_READY)]);
     assert!(rt; runner.finish(&Message { key: 1, tag: 0 }));
     Ok(())
 }
@@ -326,10 +353,8 @@ fn a_finished_message_may_start_again(rt: HostRuntime) -> Result<(), Fail> {
 #[test]
 fn after_want_of_memory_each_poll_tells_that(rt: HostRuntime) -> Result<(), Fail> {
     let alloc = rt.alloc();
-    let task = MockTask::new(&rt)?;
-    let mut answers = VecDeque::new(alloc);
-    answers.push_back(Err(NoMemory))?;
-    let requests = Answers { answers };
+    let task = MockTask::new(&rt).expect(&rt, "memory");
+    let requests = answering(&[Answer::NoMemory]);
     let mut runner = Runner::new(
         alloc,
         scheduler(alloc, requests),
@@ -345,7 +370,7 @@ fn after_want_of_memory_each_poll_tells_that(rt: HostRuntime) -> Result<(), Fail
 
 #[test]
 fn a_failed_readiness_is_shown(rt: HostRuntime) -> Result<(), Fail> {
-    let text = format!(in rt.alloc(); "{}", Error::Readiness(7u32))?;
+    let text = format!(in rt.alloc(); "{}", Error::Readiness(7u32)).expect(&rt, "memory");
     assert_eq!(rt; text.as_str(), "readiness gate failed to become ready: 7");
     Ok(())
 }

@@ -81,8 +81,8 @@ const APPLIED: &[Row] = &[
 fn applied_objects_are_given(rt: HostRuntime) -> Result<(), Fail> {
     let alloc = rt.alloc();
     for (answers, polls) in APPLIED {
-        let mut objects = numbers(alloc, answers)?.applied_objects(alloc);
-        check(&rt, alloc, &mut objects, polls)?;
+        let mut objects = numbers(&rt, alloc, answers).applied_objects(alloc);
+        check(&rt, alloc, &mut objects, polls);
     }
     Ok(())
 }
@@ -128,8 +128,8 @@ const TOUCHED: &[Row] = &[
 fn touched_objects_are_given(rt: HostRuntime) -> Result<(), Fail> {
     let alloc = rt.alloc();
     for (answers, polls) in TOUCHED {
-        let mut objects = numbers(alloc, answers)?.touched_objects(alloc);
-        check(&rt, alloc, &mut objects, polls)?;
+        let mut objects = numbers(&rt, alloc, answers).touched_objects(alloc);
+        check(&rt, alloc, &mut objects, polls);
     }
     Ok(())
 }
@@ -205,8 +205,8 @@ const SETTLED: &[Row] = &[
 fn settled_objects_are_given(rt: HostRuntime) -> Result<(), Fail> {
     let alloc = rt.alloc();
     for (answers, polls) in SETTLED {
-        let mut objects = numbers(alloc, answers)?.settled_objects(alloc);
-        check(&rt, alloc, &mut objects, polls)?;
+        let mut objects = numbers(&rt, alloc, answers).settled_objects(alloc);
+        check(&rt, alloc, &mut objects, polls);
     }
     Ok(())
 }
@@ -244,10 +244,10 @@ const CHANGED: &[Row] = &[
 fn changed_events_are_given(rt: HostRuntime) -> Result<(), Fail> {
     let alloc = rt.alloc();
     for (answers, polls) in CHANGED {
-        let mut events = numbers(alloc, answers)?.modify(|object| {
+        let mut events = numbers(&rt, alloc, answers).modify(|object| {
             *object = object.saturating_add(1)
         });
-        check(&rt, alloc, &mut events, polls)?;
+        check(&rt, alloc, &mut events, polls);
     }
     Ok(())
 }

@@ -132,12 +132,12 @@ fn config_of(ttl: Option<u64>) -> PredicateConfig {
 fn objects_pass_whose_property_changed(rt: HostRuntime) -> Result<(), Fail> {
     let alloc = rt.alloc();
     for (ttl, answers, polls) in ROWS {
-        let mut passed = showing(alloc, answers)?.predicate_filter(
+        let mut passed = showing(&rt, alloc, answers).predicate_filter(
             alloc,
             FnPredicate(generation::<DynamicObject>),
             config_of(*ttl),
         );
-        check(&rt, alloc, &mut passed, polls)?;
+        check(&rt, alloc, &mut passed, polls);
     }
     Ok(())
 }

@@ -1,40 +1,52 @@
 //! The values of an object's properties. The numbers were computed by another program.
 
-use kube_meta::{DynamicObject, List, NoMemory, ObjectMeta, Text, TextMap};
+use kube_meta::{DynamicObject, List, ObjectMeta, Text, TextMap};
 use kube_streams::predicates::{annotations, finalizers, generation, labels, resource_version};
 use kube_streams::{FnPredicate, Predicate};
 use std::alloc::Global;
+use std::panic::Expect;
 use std::process::Abort;
 use std::test::Fail;
 
-/// A map with one pair, and an empty text under the second key where there is one.
-fn map(alloc: Global, key: &str, text: &str, other: &str) -> Result<TextMap, NoMemory> {
-    let mut map = TextMap::new(alloc);
-    if !other.is_empty() {
-        map.insert(alloc, other, Text::new(alloc, "")?)?;
-    }
-    map.insert(alloc, key, Text::new(alloc, text)?)?;
-    Ok(map)
+/// Adds a text under a key.
+fn add(rt: &impl Abort, alloc: Global, map: &mut TextMap, key: &str, text: &str) {
+    let text = Text::new(alloc, text).expect(rt, "memory");
+    map.insert(alloc, key, text).expect(rt, "memory");
 }
 
-fn texts(alloc: Global, first: &str, second: &str) -> Result<List<Text>, NoMemory> {
+/// A map with one pair, and an empty text under the second key where there is one.
+fn map(rt: &impl Abort, alloc: Global, key: &str, text: &str, other: &str) -> TextMap {
+    let mut map = TextMap::new(alloc);
+    if !other.is_empty() {
+        add(rt, alloc, &mut map, other, "");
+    }
+    add(rt, alloc, &mut map, key, text);
+    map
+}
+
+fn texts(rt: &impl Abort, alloc: Global, all: &[&str]) -> List<Text> {
     let mut texts = List::new(alloc);
-    texts.push(Text::new(alloc, first)?)?;
-    texts.push(Text::new(alloc, second)?)?;
-    Ok(texts)
+    for one in all {
+        let text = Text::new(alloc, one).expect(rt, "memory");
+        texts.push(text).expect(rt, "memory");
+    }
+    texts
 }
 
 /// An object that has all properties.
-fn full(alloc: Global) -> Result<DynamicObject, NoMemory> {
-    let metadata = ObjectMeta {
-        resource_version: Some(Text::new(alloc, "12")?),
-        labels: Some(map(alloc, "app", "web", "tier")?),
-        annotations: Some(map(alloc, "note", "x", "")?),
-        finalizers: Some(texts(alloc, "a/b", "c")?),
+fn full(rt: &impl Abort, alloc: Global) -> DynamicObject {
+    DynamicObject::bare(ObjectMeta {
+        name: None,
+        namespace: None,
+        uid: None,
+        resource_version: Some(Text::new(alloc, "12").expect(rt, "memory")),
+        deletion_timestamp: None,
         generation: Some(7),
-        ..ObjectMeta::empty()
-    };
-    Ok(DynamicObject::bare(metadata))
+        labels: Some(map(rt, alloc, "app", "web", "tier")),
+        annotations: Some(map(rt, alloc, "note", "x", "")),
+        finalizers: Some(texts(rt, alloc, &["a/b", "c"])),
+        owner_references: None,
+    })
 }
 
 /// An object with a generation or without, that has no other property.
@@ -90,7 +102,7 @@ fn check(rt: &impl Abort, object: &DynamicObject, values: &[(Ask, Option<u64>)])
 
 #[test]
 fn each_property_has_its_value(rt: HostRuntime) -> Result<(), Fail> {
-    let object = full(rt.alloc())?;
+    let object = full(&rt, rt.alloc());
     check(
         &rt,
         &object,

@@ -1,13 +1,13 @@
 //! Streams of answers that are written down, and what other streams make of them.
 
-use kube_meta::{DynamicObject, Moment, Next, NoMemory, ObjectMeta, Text};
+use kube_meta::{DynamicObject, Moment, Next, ObjectMeta, Text};
 use kube_streams::{EventStream, StreamFault};
 use kube_watch::{Error, Event};
-use std::alloc::{AllocError, Global};
+use std::alloc::Global;
 use std::collections::VecDeque;
+use std::panic::Expect;
 use std::process::Abort;
 use std::sync::Arc;
-use std::test::Fail;
 
 pub type Object = Arc<DynamicObject>;
 
@@ -52,12 +52,66 @@ impl<T: Drop> EventStream for Scripted<T> {
     }
 }
 
-fn answer_of(said: &Said) -> Next<Result<Event<u32>, Error>> {
+/// What is made of a number.
+trait Numbered: Drop {
+    fn numbered<R: Abort>(rt: &R, alloc: Global, number: u32) -> Self;
+}
+
+impl Numbered for u32 {
+    fn numbered<R: Abort>(_rt: &R, _alloc: Global, number: u32) -> u32 {
+        number
+    }
+}
+
+/// An object of no name for 0, else with the number as its name.
+impl Numbered for Object {
+    fn numbered<R: Abort>(rt: &R, alloc: Global, number: u32) -> Object {
+        object_of(rt, alloc, name_of(rt, alloc, number), None, None)
+    }
+}
+
+fn name_of(rt: &impl Abort, alloc: Global, number: u32) -> Option<Text> {
+    if number == 0 {
+        return None;
+    }
+    let name = format!(in alloc; "{number}").expect(rt, "memory");
+    Some(Text::from(name))
+}
+
+fn object_of(
+    rt: &impl Abort,
+    alloc: Global,
+    name: Option<Text>,
+    uid: Option<Text>,
+    generation: Option<i64>,
+) -> Object {
+    let metadata = ObjectMeta {
+        name,
+        namespace: None,
+        uid,
+        resource_version: None,
+        deletion_timestamp: None,
+        generation,
+        labels: None,
+        annotations: None,
+        finalizers: None,
+        owner_references: None,
+    };
+    Arc::new(alloc, DynamicObject::bare(metadata)).expect(rt, "memory")
+}
+
+fn answer_of<T: Numbered>(
+    rt: &impl Abort,
+    alloc: Global,
+    said: &Said,
+) -> Next<Result<Event<T>, Error>> {
     match said {
-        Said::Apply(object) => Next::Item(Ok(Event::Apply(*object))),
-        Said::Delete(object) => Next::Item(Ok(Event::Delete(*object))),
+        Said::Apply(number) => Next::Item(Ok(Event::Apply(T::numbered(rt, alloc, *number)))),
+        Said::Delete(number) => Next::Item(Ok(Event::Delete(T::numbered(rt, alloc, *number)))),
         Said::Init => Next::Item(Ok(Event::Init)),
-        Said::InitApply(object) => Next::Item(Ok(Event::InitApply(*object))),
+        Said::InitApply(number) => {
+            Next::Item(Ok(Event::InitApply(T::numbered(rt, alloc, *number))))
+        }
         Said::InitDone => Next::Item(Ok(Event::InitDone)),
         Said::Error => Next::Item(Err(Error::NoResourceVersion)),
         Said::NotReady => Next::NotReady,
@@ -66,59 +120,25 @@ fn answer_of(said: &Said) -> Next<Result<Event<u32>, Error>> {
     }
 }
 
-/// A stream of events of numbers.
-pub fn numbers(alloc: Global, all: &[Said]) -> Result<Scripted<Event<u32>>, NoMemory> {
+/// A stream of events.
+fn events<T: Numbered>(rt: &impl Abort, alloc: Global, all: &[Said]) -> Scripted<Event<T>> {
     let mut answers = VecDeque::new(alloc);
     for said in all {
-        answers.push_back(answer_of(said))?;
+        answers
+            .push_back(answer_of(rt, alloc, said))
+            .expect(rt, "memory");
     }
-    Ok(Scripted { answers })
+    Scripted { answers }
 }
 
-/// An object of no name for 0, else with the number as its name.
-fn named(alloc: Global, number: u32) -> Result<Object, NoMemory> {
-    let name = if number == 0 {
-        None
-    } else {
-        Some(Text::from(format!(in alloc; "{number}")?))
-    };
-    let metadata = ObjectMeta {
-        name,
-        ..ObjectMeta::empty()
-    };
-    Ok(Arc::new(alloc, DynamicObject::bare(metadata))?)
-}
-
-fn event_of(alloc: Global, event: Event<u32>) -> Result<Event<Object>, NoMemory> {
-    Ok(match event {
-        Event::Apply(number) => Event::Apply(named(alloc, number)?),
-        Event::Delete(number) => Event::Delete(named(alloc, number)?),
-        Event::Init => Event::Init,
-        Event::InitApply(number) => Event::InitApply(named(alloc, number)?),
-        Event::InitDone => Event::InitDone,
-    })
-}
-
-fn named_answer_of(
-    alloc: Global,
-    said: &Said,
-) -> Result<Next<Result<Event<Object>, Error>>, NoMemory> {
-    Ok(match answer_of(said) {
-        Next::Item(Ok(event)) => Next::Item(Ok(event_of(alloc, event)?)),
-        Next::Item(Err(error)) => Next::Item(Err(error)),
-        Next::NotReady => Next::NotReady,
-        Next::Spent => Next::Spent,
-        Next::End => Next::End,
-    })
+/// A stream of events of numbers.
+pub fn numbers(rt: &impl Abort, alloc: Global, all: &[Said]) -> Scripted<Event<u32>> {
+    events(rt, alloc, all)
 }
 
 /// A stream of events of objects, whose names are the numbers; the object of 0 has none.
-pub fn objects(alloc: Global, all: &[Said]) -> Result<Scripted<Event<Object>>, NoMemory> {
-    let mut answers = VecDeque::new(alloc);
-    for said in all {
-        answers.push_back(named_answer_of(alloc, said)?)?;
-    }
-    Ok(Scripted { answers })
+pub fn objects(rt: &impl Abort, alloc: Global, all: &[Said]) -> Scripted<Event<Object>> {
+    events(rt, alloc, all)
 }
 
 /// An answer of a stream of objects.
@@ -130,96 +150,97 @@ pub enum Shown {
     Spent,
 }
 
-fn shown_object(alloc: Global, generation: i64, uid: &str) -> Result<Object, NoMemory> {
-    let metadata = ObjectMeta {
-        uid: Some(Text::new(alloc, uid)?),
-        generation: if generation == 0 {
-            None
-        } else {
-            Some(generation)
-        },
-        ..ObjectMeta::empty()
+fn shown_object(rt: &impl Abort, alloc: Global, generation: i64, uid: &str) -> Object {
+    let uid = Text::new(alloc, uid).expect(rt, "memory");
+    let generation = if generation == 0 {
+        None
+    } else {
+        Some(generation)
     };
-    Ok(Arc::new(alloc, DynamicObject::bare(metadata))?)
+    object_of(rt, alloc, None, Some(uid), generation)
 }
 
-fn shown_answer_of(alloc: Global, shown: &Shown) -> Result<Next<Result<Object, Error>>, NoMemory> {
-    Ok(match shown {
-        Shown::Object(generation, uid) => Next::Item(Ok(shown_object(alloc, *generation, uid)?)),
+fn shown_answer_of(rt: &impl Abort, alloc: Global, shown: &Shown) -> Next<Result<Object, Error>> {
+    match shown {
+        Shown::Object(generation, uid) => {
+            Next::Item(Ok(shown_object(rt, alloc, *generation, uid)))
+        }
         Shown::Error => Next::Item(Err(Error::NoResourceVersion)),
         Shown::NotReady => Next::NotReady,
         Shown::Spent => Next::Spent,
-    })
+    }
 }
 
 /// A stream of objects.
-pub fn showing(alloc: Global, all: &[Shown]) -> Result<Scripted<Object>, NoMemory> {
+pub fn showing(rt: &impl Abort, alloc: Global, all: &[Shown]) -> Scripted<Object> {
     let mut answers = VecDeque::new(alloc);
     for shown in all {
-        answers.push_back(shown_answer_of(alloc, shown)?)?;
+        answers
+            .push_back(shown_answer_of(rt, alloc, shown))
+            .expect(rt, "memory");
     }
-    Ok(Scripted { answers })
+    Scripted { answers }
 }
 
 /// What can be compared with a text.
 pub trait Readable: Drop {
-    fn reads(&self, alloc: Global, wanted: &str) -> Result<bool, AllocError>;
+    fn reads<R: Abort>(&self, rt: &R, alloc: Global, wanted: &str) -> bool;
 }
 
 impl Readable for u32 {
-    fn reads(&self, alloc: Global, wanted: &str) -> Result<bool, AllocError> {
-        let text = format!(in alloc; "{self}")?;
-        Ok(text.as_str() == wanted)
+    fn reads<R: Abort>(&self, rt: &R, alloc: Global, wanted: &str) -> bool {
+        let text = format!(in alloc; "{self}").expect(rt, "memory");
+        text.as_str() == wanted
     }
 }
 
 impl Readable for Event<u32> {
-    fn reads(&self, alloc: Global, wanted: &str) -> Result<bool, AllocError> {
+    fn reads<R: Abort>(&self, rt: &R, alloc: Global, wanted: &str) -> bool {
         let (word, object) = match self {
             Event::Apply(object) => ("Apply", *object),
             Event::Delete(object) => ("Delete", *object),
-            Event::Init => return Ok(wanted == "Init"),
+            Event::Init => return wanted == "Init",
             Event::InitApply(object) => ("InitApply", *object),
-            Event::InitDone => return Ok(wanted == "InitDone"),
+            Event::InitDone => return wanted == "InitDone",
         };
-        let text = format!(in alloc; "{word} {object}")?;
-        Ok(text.as_str() == wanted)
+        let text = format!(in alloc; "{word} {object}").expect(rt, "memory");
+        text.as_str() == wanted
     }
 }
 
 impl Readable for Event<Object> {
-    fn reads(&self, alloc: Global, wanted: &str) -> Result<bool, AllocError> {
-        let text = format!(in alloc; "{self}")?;
-        Ok(text.as_str() == wanted)
+    fn reads<R: Abort>(&self, rt: &R, alloc: Global, wanted: &str) -> bool {
+        let text = format!(in alloc; "{self}").expect(rt, "memory");
+        text.as_str() == wanted
     }
 }
 
 impl Readable for Object {
-    fn reads(&self, alloc: Global, wanted: &str) -> Result<bool, AllocError> {
+    fn reads<R: Abort>(&self, rt: &R, alloc: Global, wanted: &str) -> bool {
         let uid = match &self.metadata.uid {
             Some(uid) => uid.as_str(),
             None => "none",
         };
         let generation = self.metadata.generation.unwrap_or(0);
-        let text = format!(in alloc; "{uid} {generation}")?;
-        Ok(text.as_str() == wanted)
+        let text = format!(in alloc; "{uid} {generation}").expect(rt, "memory");
+        text.as_str() == wanted
     }
 }
 
 /// Whether an answer reads so.
 fn is_read<T: Readable>(
+    rt: &impl Abort,
     alloc: Global,
     answer: &Next<Result<T, Error>>,
     wanted: &str,
-) -> Result<bool, AllocError> {
-    let word = match answer {
-        Next::Item(Ok(item)) => return item.reads(alloc, wanted),
-        Next::Item(Err(_)) => "error",
-        Next::NotReady => "not ready",
-        Next::Spent => "spent",
-        Next::End => "end",
-    };
-    Ok(word == wanted)
+) -> bool {
+    match answer {
+        Next::Item(Ok(item)) => item.reads(rt, alloc, wanted),
+        Next::Item(Err(_)) => wanted == "error",
+        Next::NotReady => wanted == "not ready",
+        Next::Spent => wanted == "spent",
+        Next::End => wanted == "end",
+    }
 }
 
 /// A poll: the moment in milliseconds, the fuel, and the answer.
@@ -232,50 +253,37 @@ pub enum Polls {
     Fueled(u32, &'static [&'static str]),
 }
 
-/// A poll of a stream is answered so.
-fn check_poll<S: EventStream>(
+/// Whether a poll of a stream is answered so.
+fn is_answered<S: EventStream>(
     rt: &impl Abort,
     alloc: Global,
     stream: &mut S,
     at: u64,
     fuel: u32,
     wanted: &str,
-) -> Result<(), Fail>
+) -> bool
 where
     S::Item: Readable,
     requires may { S.can_poll stream.old }
     ensures may { S.can_poll stream.new }
 {
-    let answer = stream.poll_next(alloc, Moment(at), fuel.max(1))?;
-    assert!(rt;
-        is_read(alloc, &answer, wanted)?,
-        "at {at}, fuel {fuel}: {wanted}"
-    );
-    Ok(())
+    let answer = stream
+        .poll_next(alloc, Moment(at), fuel.max(1))
+        .expect(rt, "an answer");
+    is_read(rt, alloc, &answer, wanted)
 }
 
-fn check_each<S: EventStream>(
-    rt: &impl Abort,
-    alloc: Global,
-    stream: &mut S,
-    polls: &[Poll],
-) -> Result<(), Fail>
+fn check_each<S: EventStream>(rt: &impl Abort, alloc: Global, stream: &mut S, polls: &[Poll])
 where
     S::Item: Readable,
     requires may { S.can_poll stream.old }
 {
     for poll in polls {
-        let Poll(at, fuel, wanted) = poll;
-        check_poll(
-            rt,
-            alloc,
-            stream,
-            at.saturating_mul(1_000_000),
-            *fuel,
-            wanted,
-        )?;
+        let Poll(milliseconds, fuel, wanted) = poll;
+        let at = milliseconds.saturating_mul(1_000_000);
+        let is_so = is_answered(rt, alloc, stream, at, *fuel, wanted);
+        assert!(rt; is_so, "at {at}, fuel {fuel}: {wanted}");
     }
-    Ok(())
 }
 
 fn check_fueled<S: EventStream>(
@@ -284,26 +292,21 @@ fn check_fueled<S: EventStream>(
     stream: &mut S,
     fuel: u32,
     answers: &[&str],
-) -> Result<(), Fail>
+)
 where
     S::Item: Readable,
     requires may { S.can_poll stream.old }
 {
     let mut at: u64 = 0;
     for wanted in answers {
-        check_poll(rt, alloc, stream, at, fuel, wanted)?;
+        let is_so = is_answered(rt, alloc, stream, at, fuel, wanted);
+        assert!(rt; is_so, "at {at}, fuel {fuel}: {wanted}");
         at = at.saturating_add(1);
     }
-    Ok(())
 }
 
 /// Polls of a stream are answered so.
-pub fn check<S: EventStream>(
-    rt: &impl Abort,
-    alloc: Global,
-    stream: &mut S,
-    polls: &Polls,
-) -> Result<(), Fail>
+pub fn check<S: EventStream>(rt: &impl Abort, alloc: Global, stream: &mut S, polls: &Polls)
 where
     S::Item: Readable,
     requires may { S.can_poll stream.old }

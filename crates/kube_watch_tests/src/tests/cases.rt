@@ -339,9 +339,10 @@ const CASES: [Case; 16] = [
 
 #[test]
 fn each_script_makes_the_units_of_its_row(rt: HostRuntime) -> Result<(), Fail> {
+    let alloc = rt.alloc();
     for case in &CASES {
-        let made = made(rt.alloc(), case)?;
-        let wanted = lines(rt.alloc(), case.wanted)?;
+        let made = made(&rt, alloc, case);
+        let wanted = lines(&rt, alloc, case.wanted);
         assert_eq!(rt; made.as_str(), wanted.as_str(), "{}", case.name);
     }
     Ok(())

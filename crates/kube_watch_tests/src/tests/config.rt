@@ -1,76 +1,88 @@
 //! Configurations.
 
-use kube_meta::{Expression, NoMemory, Selector, Text};
+use kube_meta::{Expression, Selector, Text};
 use kube_watch::{Config, InitialListStrategy, ListSemantic};
-use std::alloc::{AllocError, Global};
+use std::alloc::Global;
+use std::panic::Expect;
+use std::process::Abort;
 use std::test::Fail;
 
-fn shown_settings(alloc: Global, config: &Config) -> Result<String, AllocError> {
-    format!(in alloc; "{config:?}")
+fn shown(rt: &impl Abort, alloc: Global, config: &Config) -> String {
+    format!(in alloc; "{config:?}").expect(rt, "memory")
 }
 
-fn shown_once(alloc: Global, config: Config) -> Result<String, AllocError> {
-    shown_settings(alloc, &config)
+fn shown_once(rt: &impl Abort, alloc: Global, config: Config) -> String {
+    shown(rt, alloc, &config)
 }
 
-fn shown(alloc: Global, config: Result<Config, NoMemory>) -> Result<String, NoMemory> {
-    match config {
-        Ok(config) => Ok(shown_once(alloc, config)?),
-        Err(error) => Err(error),
-    }
-}
-
-fn set_one_by_one(alloc: Global) -> Result<Config, NoMemory> {
-    Ok(
-        Config::default()
-            .timeout(30)
-            .fields(alloc, "metadata.name=a")?
-            .labels(alloc, "app=b")?
-            .page_size(7)
-            .disable_bookmarks()
-            .any_semantic()
-            .streaming_lists(),
-    )
+fn set_one_by_one(rt: &impl Abort, alloc: Global) -> Config {
+    Config::default()
+        .timeout(30)
+        .fields(alloc, "metadata.name=a")
+        .expect(rt, "memory")
+        .labels(alloc, "app=b")
+        .expect(rt, "memory")
+        .page_size(7)
+        .disable_bookmarks()
+        .any_semantic()
+        .streaming_lists()
 }
 
 #[test]
 fn settings_are_made_one_by_one(rt: HostRuntime) -> Result<(), Fail> {
-    let shown = shown(rt.alloc(), set_one_by_one(rt.alloc()))?;
+    let alloc = rt.alloc();
+    let shown = shown_once(&rt, alloc, set_one_by_one(&rt, alloc));
     let wanted =
         "Config { label_selector: Some(\"app=b\"), field_selector: Some(\"metadata.name=a\"), timeout: Some(30), list_semantic: Any, initial_list_strategy: StreamingList, page_size: Some(7), bookmarks: false }";
     assert_eq!(rt; shown.as_str(), wanted);
     Ok(())
 }
 
+/// Whether a copy is equal, and whether one with another semantic is.
+fn are_equal(rt: &impl Abort, alloc: Global, config: &Config) -> (bool, bool) {
+    let copy = config.copy(alloc).expect(rt, "memory");
+    let is_equal = copy == *config;
+    let other = copy.list_semantic(ListSemantic::Any);
+    (is_equal, other == *config)
+}
+
 #[test]
 fn copies_are_equal(rt: HostRuntime) -> Result<(), Fail> {
     let alloc = rt.alloc();
-    let config = Config::default().labels(alloc, "app=b")?;
-    let copy = config.copy(alloc)?;
-    assert!(rt; copy == config);
-    let other = copy.list_semantic(ListSemantic::Any);
-    assert!(rt; !(other == config));
+    let config = Config::default()
+        .labels(alloc, "app=b")
+        .expect(&rt, "memory");
+    let (is_copy, is_other) = are_equal(&rt, alloc, &config);
+    assert!(rt; is_copy);
+    assert!(rt; !is_other);
     assert!(rt; ListSemantic::default() == ListSemantic::MostRecent);
     assert!(rt; InitialListStrategy::default() == InitialListStrategy::ListWatch);
     Ok(())
 }
 
 /// What has a label `app` and none `canary`.
-fn stable(alloc: Global) -> Result<Selector, NoMemory> {
+fn stable(rt: &impl Abort, alloc: Global) -> Selector {
+    let app = Text::new(alloc, "app").expect(rt, "memory");
+    let canary = Text::new(alloc, "canary").expect(rt, "memory");
     let mut selector = Selector::new(alloc);
-    selector.push(Expression::Exists(Text::new(alloc, "app")?))?;
-    selector.push(Expression::DoesNotExist(Text::new(alloc, "canary")?))?;
-    Ok(selector)
+    selector.push(Expression::Exists(app)).expect(rt, "memory");
+    selector
+        .push(Expression::DoesNotExist(canary))
+        .expect(rt, "memory");
+    selector
 }
 
-fn with_labels(alloc: Global) -> Result<Config, NoMemory> {
-    let stable = stable(alloc)?;
-    Config::default().labels_from(alloc, &stable)
+fn with_labels(rt: &impl Abort, alloc: Global) -> Config {
+    let stable = stable(rt, alloc);
+    Config::default()
+        .labels_from(alloc, &stable)
+        .expect(rt, "memory")
 }
 
 #[test]
 fn a_selector_gives_its_text(rt: HostRuntime) -> Result<(), Fail> {
-    let shown = shown(rt.alloc(), with_labels(rt.alloc()))?;
+    let alloc = rt.alloc();
+    let shown = shown_once(&rt, alloc, with_labels(&rt, alloc));
     let wanted =
         "Config { label_selector: Some(\"app,!canary\"), field_selector: None, timeout: None, list_semantic: MostRecent, initial_list_strategy: ListWatch, page_size: Some(500), bookmarks: true }";
     assert_eq!(rt; shown.as_str(), wanted);

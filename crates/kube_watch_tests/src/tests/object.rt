@@ -1,47 +1,43 @@
 //! Watches of one object.
 
-use super::script::{Api, Given, Listing, add_line, api, lines, shown_error};
-use kube_meta::{DynamicObject, Moment, Next, NoMemory};
+use super::script::{Api, Given, Listing, add_line, api, lines, owned, shown_error};
+use kube_meta::{DynamicObject, Moment, Next};
 use kube_watch::{Error, WatchObject, watch_object};
-use std::alloc::{AllocError, Global};
+use std::alloc::Global;
+use std::panic::Expect;
+use std::process::Abort;
 use std::sync::Arc;
 use std::test::Fail;
 
-fn shown_found(alloc: Global, found: &Option<Arc<DynamicObject>>) -> Result<String, AllocError> {
+fn shown_found(rt: &impl Abort, alloc: Global, found: &Option<Arc<DynamicObject>>) -> String {
     match found {
         Some(object) => match &object.metadata.resource_version {
-            Some(version) => format!(in alloc; "there <{version}>"),
-            None => String::from_str(alloc, "there"),
+            Some(version) => format!(in alloc; "there <{version}>").expect(rt, "memory"),
+            None => owned(rt, alloc, "there"),
         },
-        None => String::from_str(alloc, "gone"),
+        None => owned(rt, alloc, "gone"),
     }
 }
 
 fn shown(
+    rt: &impl Abort,
     alloc: Global,
     answer: &Next<Result<Option<Arc<DynamicObject>>, Error>>,
-) -> Result<String, AllocError> {
+) -> String {
     match answer {
-        Next::Item(Ok(found)) => shown_found(alloc, found),
-        Next::Item(Err(error)) => String::from_str(alloc, shown_error(error)),
-        Next::NotReady => String::from_str(alloc, "not ready"),
-        Next::Spent => String::from_str(alloc, "spent"),
-        Next::End => String::from_str(alloc, "end"),
+        Next::Item(Ok(found)) => shown_found(rt, alloc, found),
+        Next::Item(Err(error)) => owned(rt, alloc, shown_error(error)),
+        Next::NotReady => owned(rt, alloc, "not ready"),
+        Next::Spent => owned(rt, alloc, "spent"),
+        Next::End => owned(rt, alloc, "end"),
     }
 }
 
-fn shown_once(
-    alloc: Global,
-    answer: Next<Result<Option<Arc<DynamicObject>>, Error>>,
-) -> Result<String, AllocError> {
-    shown(alloc, &answer)
-}
-
-fn look(alloc: Global, object: &mut WatchObject<Api>, fuel: u32) -> Result<String, NoMemory> {
-    match object.poll_next(alloc, Moment(0), fuel) {
-        Ok(answer) => Ok(shown_once(alloc, answer)?),
-        Err(error) => Err(error),
-    }
+fn look(rt: &impl Abort, alloc: Global, object: &mut WatchObject<Api>, fuel: u32) -> String {
+    let answer = object
+        .poll_next(alloc, Moment(0), fuel)
+        .expect(rt, "memory");
+    shown(rt, alloc, &answer)
 }
 
 /// A script, the fuel of polls for the object "a" over it, and how they are answered.
@@ -54,27 +50,20 @@ struct Case {
     wanted: &'static [&'static str],
 }
 
-fn looks(alloc: Global, object: &mut WatchObject<Api>, fuels: &[u32]) -> Result<String, NoMemory> {
+fn looks(rt: &impl Abort, alloc: Global, object: &mut WatchObject<Api>, fuels: &[u32]) -> String {
     let mut lines = String::new(alloc);
     for fuel in fuels {
-        add_line(&mut lines, look(alloc, object, *fuel)?.as_str())?;
+        let line = look(rt, alloc, object, *fuel);
+        add_line(rt, &mut lines, line.as_str());
     }
-    Ok(lines)
-}
-
-/// The same of a watch that is let go then.
-fn all_looks(alloc: Global, object: WatchObject<Api>, fuels: &[u32]) -> Result<String, NoMemory> {
-    let mut object = object;
-    looks(alloc, &mut object, fuels)
+    lines
 }
 
 /// How polls for the object are answered.
-fn made(alloc: Global, case: &Case) -> Result<String, NoMemory> {
-    let api = api(alloc, case.lists, case.watches)?;
-    match watch_object(alloc, api, "a") {
-        Ok(object) => all_looks(alloc, object, case.fuels),
-        Err(error) => Err(error),
-    }
+fn made(rt: &impl Abort, alloc: Global, case: &Case) -> String {
+    let api = api(rt, alloc, case.lists, case.watches);
+    let mut object = watch_object(alloc, api, "a").expect(rt, "memory");
+    looks(rt, alloc, &mut object, case.fuels)
 }
 
 const CASES: [Case; 3] = [
@@ -116,9 +105,10 @@ const CASES: [Case; 3] = [
 
 #[test]
 fn one_object_is_watched(rt: HostRuntime) -> Result<(), Fail> {
+    let alloc = rt.alloc();
     for case in &CASES {
-        let made = made(rt.alloc(), case)?;
-        let wanted = lines(rt.alloc(), case.wanted)?;
+        let made = made(&rt, alloc, case);
+        let wanted = lines(&rt, alloc, case.wanted);
         assert_eq!(rt; made.as_str(), wanted.as_str(), "{}", case.name);
     }
     Ok(())

@@ -1,11 +1,13 @@
 //! Polls of a watcher, of each kind, and the parameters of its calls.
 
 use super::params::add_calls;
-use super::script::{Api, Given, Listing, add_line, api, lines, shown_error, unit};
-use kube_meta::{DynamicObject, Moment, Next, NoMemory};
+use super::script::{Api, Given, Listing, add_line, api, lines, owned, shown_error, unit};
+use kube_meta::{DynamicObject, Moment, Next};
 use kube_watch::watcher::watcher;
 use kube_watch::{Config, Error, Event, EventStream, StreamFault, Watcher};
-use std::alloc::{AllocError, Global};
+use std::alloc::Global;
+use std::panic::Expect;
+use std::process::Abort;
 use std::sync::Arc;
 use std::test::Fail;
 
@@ -44,73 +46,64 @@ struct Case {
     wanted: &'static [&'static str],
 }
 
-fn selecting(alloc: Global) -> Result<Config, NoMemory> {
-    Ok(
-        Config::default()
-            .timeout(30)
-            .fields(alloc, "metadata.name=a")?
-            .labels(alloc, "app=b")?
-            .page_size(7),
-    )
+fn selecting(rt: &impl Abort, alloc: Global) -> Config {
+    Config::default()
+        .timeout(30)
+        .fields(alloc, "metadata.name=a")
+        .expect(rt, "memory")
+        .labels(alloc, "app=b")
+        .expect(rt, "memory")
+        .page_size(7)
 }
 
-fn config(alloc: Global, settings: Settings) -> Result<Config, NoMemory> {
+fn config(rt: &impl Abort, alloc: Global, settings: Settings) -> Config {
     match settings {
-        Settings::Default => Ok(Config::default()),
-        Settings::Newest => selecting(alloc),
-        Settings::Any => Ok(selecting(alloc)?.any_semantic()),
-        Settings::Watch => Ok(selecting(alloc)?.streaming_lists()),
+        Settings::Default => Config::default(),
+        Settings::Newest => selecting(rt, alloc),
+        Settings::Any => selecting(rt, alloc).any_semantic(),
+        Settings::Watch => selecting(rt, alloc).streaming_lists(),
     }
 }
 
 fn shown_told(
+    rt: &impl Abort,
     alloc: Global,
     told: &Result<Event<Arc<DynamicObject>>, Error>,
-) -> Result<String, AllocError> {
+) -> String {
     match told {
-        Ok(event) => format!(in alloc; "{event}"),
-        Err(error) => String::from_str(alloc, shown_error(error)),
+        Ok(event) => format!(in alloc; "{event}").expect(rt, "memory"),
+        Err(error) => owned(rt, alloc, shown_error(error)),
     }
 }
 
 fn shown(
+    rt: &impl Abort,
     alloc: Global,
     answer: &Next<Result<Event<Arc<DynamicObject>>, Error>>,
-) -> Result<String, AllocError> {
+) -> String {
     match answer {
-        Next::Item(told) => shown_told(alloc, told),
-        Next::NotReady => String::from_str(alloc, "not ready"),
-        Next::Spent => String::from_str(alloc, "spent"),
-        Next::End => String::from_str(alloc, "end"),
+        Next::Item(told) => shown_told(rt, alloc, told),
+        Next::NotReady => owned(rt, alloc, "not ready"),
+        Next::Spent => owned(rt, alloc, "spent"),
+        Next::End => owned(rt, alloc, "end"),
     }
 }
 
-fn shown_once(
-    alloc: Global,
-    answer: Next<Result<Event<Arc<DynamicObject>>, Error>>,
-) -> Result<String, AllocError> {
-    shown(alloc, &answer)
-}
-
-fn next(alloc: Global, watcher: &mut Watcher<Api>, fuel: u32) -> Result<String, NoMemory> {
-    match watcher.poll_next(alloc, Moment(0), fuel) {
-        Ok(answer) => Ok(shown_once(alloc, answer)?),
-        Err(error) => Err(error),
-    }
+fn next(rt: &impl Abort, alloc: Global, watcher: &mut Watcher<Api>, fuel: u32) -> String {
+    let answer = watcher
+        .poll_next(alloc, Moment(0), fuel)
+        .expect(rt, "memory");
+    shown(rt, alloc, &answer)
 }
 
 fn count_of_calls(watcher: &mut Watcher<Api>) -> usize {
     watcher.api_mut().get_recordings().len()
 }
 
-fn next_and_calls(
-    alloc: Global,
-    watcher: &mut Watcher<Api>,
-    fuel: u32,
-) -> Result<String, NoMemory> {
-    let answer = next(alloc, watcher, fuel)?;
+fn next_and_calls(rt: &impl Abort, alloc: Global, watcher: &mut Watcher<Api>, fuel: u32) -> String {
+    let answer = next(rt, alloc, watcher, fuel);
     let calls = count_of_calls(watcher);
-    Ok(format!(in alloc; "{answer}, {calls}")?)
+    format!(in alloc; "{answer}, {calls}").expect(rt, "memory")
 }
 
 fn poll_stream<S: EventStream>(
@@ -122,70 +115,65 @@ fn poll_stream<S: EventStream>(
     stream.poll_next(alloc, Moment(0), 1)
 }
 
-fn streamed(alloc: Global, watcher: &mut Watcher<Api>) -> Result<String, NoMemory> {
-    match poll_stream(alloc, watcher) {
-        Ok(answer) => Ok(shown_once(alloc, answer)?),
-        Err(_) => Err(NoMemory),
-    }
+fn streamed(rt: &impl Abort, alloc: Global, watcher: &mut Watcher<Api>) -> String {
+    let answer = poll_stream(alloc, watcher).expect(rt, "an answer");
+    shown(rt, alloc, &answer)
 }
 
-fn lend(alloc: Global, watcher: &mut Watcher<Api>, lists: &[Listing]) -> Result<(), NoMemory> {
-    *watcher.api_mut() = api(alloc, lists, &[])?;
-    Ok(())
+fn lend(rt: &impl Abort, alloc: Global, watcher: &mut Watcher<Api>, lists: &[Listing]) {
+    *watcher.api_mut() = api(rt, alloc, lists, &[]);
 }
 
 /// Polls, and adds the parameters of all calls that were made.
 fn add_polled_calls(
+    rt: &impl Abort,
     alloc: Global,
     watcher: &mut Watcher<Api>,
     polls: usize,
     lines: &mut String,
-) -> Result<(), NoMemory> {
+) {
     for _poll in 0..polls {
-        let _told = unit(alloc, watcher, 0)?;
+        let _told = unit(rt, alloc, watcher, 0);
     }
-    add_calls(alloc, watcher.api_mut().get_recordings(), lines)?;
-    Ok(())
+    add_calls(rt, alloc, watcher.api_mut().get_recordings(), lines);
+}
+
+/// Adds a text as a line.
+fn add_text(rt: &impl Abort, lines: &mut String, text: String) {
+    add_line(rt, lines, text.as_str());
 }
 
 /// Polls, and adds what that tells.
 fn add_poll(
+    rt: &impl Abort,
     alloc: Global,
     watcher: &mut Watcher<Api>,
     poll: Poll,
     lines: &mut String,
-) -> Result<(), NoMemory> {
+) {
     match poll {
-        Poll::Unit => add_line(lines, unit(alloc, watcher, 0)?.as_str())?,
-        Poll::Next(fuel) => add_line(lines, next_and_calls(alloc, watcher, fuel)?.as_str())?,
-        Poll::Streamed => add_line(lines, streamed(alloc, watcher)?.as_str())?,
-        Poll::Lend(lists) => lend(alloc, watcher, lists)?,
-        Poll::Calls(polls) => add_polled_calls(alloc, watcher, polls, lines)?,
+        Poll::Unit => add_text(rt, lines, unit(rt, alloc, watcher, 0)),
+        Poll::Next(fuel) => add_text(rt, lines, next_and_calls(rt, alloc, watcher, fuel)),
+        Poll::Streamed => add_text(rt, lines, streamed(rt, alloc, watcher)),
+        Poll::Lend(lists) => lend(rt, alloc, watcher, lists),
+        Poll::Calls(polls) => add_polled_calls(rt, alloc, watcher, polls, lines),
     }
-    Ok(())
 }
 
-fn polled(alloc: Global, watcher: &mut Watcher<Api>, polls: &[Poll]) -> Result<String, NoMemory> {
+fn polled(rt: &impl Abort, alloc: Global, watcher: &mut Watcher<Api>, polls: &[Poll]) -> String {
     let mut lines = String::new(alloc);
     for poll in polls {
-        add_poll(alloc, watcher, *poll, &mut lines)?;
+        add_poll(rt, alloc, watcher, *poll, &mut lines);
     }
-    Ok(lines)
-}
-
-/// The same of a watcher that is let go then.
-fn all_polled(alloc: Global, watcher: Watcher<Api>, polls: &[Poll]) -> Result<String, NoMemory> {
-    let mut watcher = watcher;
-    polled(alloc, &mut watcher, polls)
+    lines
 }
 
 /// What polls of the watcher tell.
-fn made(alloc: Global, case: &Case) -> Result<String, NoMemory> {
-    let config = config(alloc, case.settings)?;
-    match api(alloc, case.lists, case.watches) {
-        Ok(api) => all_polled(alloc, watcher(alloc, api, config), case.polls),
-        Err(error) => Err(error),
-    }
+fn made(rt: &impl Abort, alloc: Global, case: &Case) -> String {
+    let config = config(rt, alloc, case.settings);
+    let api = api(rt, alloc, case.lists, case.watches);
+    let mut watcher = watcher(alloc, api, config);
+    polled(rt, alloc, &mut watcher, case.polls)
 }
 
 const PAGES: [Listing; 2] = [
@@ -315,9 +303,10 @@ const CASES: [Case; 8] = [
 fn polls_give_one_event_or_error_each_and_calls_have_what_is_configured(
     rt: HostRuntime,
 ) -> Result<(), Fail> {
+    let alloc = rt.alloc();
     for case in &CASES {
-        let made = made(rt.alloc(), case)?;
-        let wanted = lines(rt.alloc(), case.wanted)?;
+        let made = made(&rt, alloc, case);
+        let wanted = lines(&rt, alloc, case.wanted);
         assert_eq!(rt; made.as_str(), wanted.as_str(), "{}", case.name);
     }
     Ok(())

@@ -1,15 +1,17 @@
 //! Scripts of an API, short to write, and units, short to read.
 
 use kube_api::{ApiMode, Bookmark, Page, ResultPage, Sequence, SequenceStep, TestMode, WatchEvent};
-use kube_meta::{DynamicObject, Moment, NoMemory, ObjectMeta, Resource, Text, TextMap};
+use kube_meta::{DynamicObject, Moment, ObjectMeta, Resource, Text, TextMap};
 use kube_watch::watcher::watcher;
 use kube_watch::watching::Watcher;
 use kube_watch::{
     Answer, ApiError, Call, Config, Error, Event, InitialListStrategy, Status, Unit,
     error_indicates_graceful_watch_seq_exhaustion,
 };
-use std::alloc::{AllocError, Global};
+use std::alloc::Global;
 use std::collections::VecDeque;
+use std::panic::Expect;
+use std::process::Abort;
 use std::sync::Arc;
 
 pub type Api = TestMode<DynamicObject>;
@@ -49,163 +51,205 @@ pub struct Case {
     pub wanted: &'static [&'static str],
 }
 
-fn text_of(alloc: Global, text: &str) -> Result<Option<Text>, NoMemory> {
+fn text_of(rt: &impl Abort, alloc: Global, text: &str) -> Option<Text> {
     if text.is_empty() {
-        return Ok(None);
+        return None;
     }
-    Ok(Some(Text::new(alloc, text)?))
+    Some(Text::new(alloc, text).expect(rt, "memory"))
 }
 
-pub fn metadata(alloc: Global, name: &str, version: &str) -> Result<ObjectMeta, NoMemory> {
-    let name = text_of(alloc, name)?;
-    let resource_version = text_of(alloc, version)?;
-    Ok(ObjectMeta {
-        name,
-        resource_version,
-        ..ObjectMeta::empty()
-    })
+pub fn metadata(rt: &impl Abort, alloc: Global, name: &str, version: &str) -> ObjectMeta {
+    ObjectMeta {
+        name: text_of(rt, alloc, name),
+        namespace: None,
+        uid: None,
+        resource_version: text_of(rt, alloc, version),
+        deletion_timestamp: None,
+        generation: None,
+        labels: None,
+        annotations: None,
+        finalizers: None,
+        owner_references: None,
+    }
 }
 
-pub fn object(alloc: Global, name: &str, version: &str) -> Result<Arc<DynamicObject>, NoMemory> {
-    let metadata = metadata(alloc, name, version)?;
-    Ok(Arc::new(alloc, DynamicObject::bare(metadata))?)
+pub fn object(rt: &impl Abort, alloc: Global, name: &str, version: &str) -> Arc<DynamicObject> {
+    let metadata = metadata(rt, alloc, name, version);
+    Arc::new(alloc, DynamicObject::bare(metadata)).expect(rt, "memory")
 }
 
-fn fault(alloc: Global) -> Result<ApiError, NoMemory> {
-    Ok(ApiError::Transport(Text::new(alloc, "torn")?))
+fn fault(rt: &impl Abort, alloc: Global) -> ApiError {
+    ApiError::Transport(Text::new(alloc, "torn").expect(rt, "memory"))
 }
 
-fn objects(alloc: Global, names: &[&str]) -> Result<Vec<Arc<DynamicObject>>, NoMemory> {
+fn objects(rt: &impl Abort, alloc: Global, names: &[&str]) -> Vec<Arc<DynamicObject>> {
     let mut objects = Vec::new(alloc);
     for name in names {
-        objects.push(object(alloc, name, "")?)?;
+        objects
+            .push(object(rt, alloc, name, ""))
+            .expect(rt, "memory");
     }
-    Ok(objects)
+    objects
 }
 
 /// A page of no objects.
 pub fn empty_page<K: Drop>(
+    rt: &impl Abort,
     alloc: Global,
     token: &str,
     version: &str,
-) -> Result<ResultPage<K>, NoMemory> {
+) -> ResultPage<K> {
     ResultPage::empty(alloc)
-        .continue_token(alloc, Some(token))?
+        .continue_token(alloc, Some(token))
+        .expect(rt, "memory")
         .resource_version(alloc, Some(version))
+        .expect(rt, "memory")
 }
 
 fn page(
+    rt: &impl Abort,
     alloc: Global,
     names: &[&str],
     token: &str,
     version: &str,
-) -> Result<Page<DynamicObject>, NoMemory> {
-    let objects = objects(alloc, names)?;
-    let page = empty_page(alloc, token, version)?;
-    Ok(page.items(objects).into_page())
+) -> Page<DynamicObject> {
+    let objects = objects(rt, alloc, names);
+    empty_page(rt, alloc, token, version)
+        .items(objects)
+        .into_page()
 }
 
 fn listed(
+    rt: &impl Abort,
     alloc: Global,
     listing: &Listing,
-) -> Result<Result<Page<DynamicObject>, ApiError>, NoMemory> {
-    Ok(match listing {
-        Listing::Page(names, token, version) => Ok(page(alloc, names, token, version)?),
-        Listing::Fault => Err(fault(alloc)?),
-    })
+) -> Result<Page<DynamicObject>, ApiError> {
+    match listing {
+        Listing::Page(names, token, version) => Ok(page(rt, alloc, names, token, version)),
+        Listing::Fault => Err(fault(rt, alloc)),
+    }
+}
+
+/// The annotations of the bookmark that ends the initial events.
+fn ending(rt: &impl Abort, alloc: Global) -> TextMap {
+    let text = Text::new(alloc, "true").expect(rt, "memory");
+    let mut annotations = TextMap::new(alloc);
+    annotations
+        .insert(alloc, "k8s.io/initial-events-end", text)
+        .expect(rt, "memory");
+    annotations
 }
 
 fn bookmark(
+    rt: &impl Abort,
     alloc: Global,
     version: &str,
-    ending: bool,
-) -> Result<WatchEvent<DynamicObject>, NoMemory> {
-    let mut annotations = TextMap::new(alloc);
-    if ending {
-        let text = Text::new(alloc, "true")?;
-        annotations.insert(alloc, "k8s.io/initial-events-end", text)?;
-    }
-    let version = Text::new(alloc, version)?;
-    Ok(WatchEvent::Bookmark(Bookmark {
-        version,
+    annotations: TextMap,
+) -> WatchEvent<DynamicObject> {
+    WatchEvent::Bookmark(Bookmark {
+        version: Text::new(alloc, version).expect(rt, "memory"),
         annotations,
-    }))
-}
-
-pub fn status(alloc: Global, code: u16) -> Result<Status, NoMemory> {
-    let reason = Text::new(alloc, "Expired")?;
-    let message = Text::new(alloc, "too old")?;
-    Ok(Status {
-        code,
-        reason,
-        message,
-        uid: None,
     })
 }
 
-/// A step with one event.
+pub fn status(rt: &impl Abort, alloc: Global, code: u16) -> Status {
+    Status {
+        code,
+        reason: Text::new(alloc, "Expired").expect(rt, "memory"),
+        message: Text::new(alloc, "too old").expect(rt, "memory"),
+        uid: None,
+    }
+}
+
+/// A step with one event or fault.
 fn one(
+    rt: &impl Abort,
     alloc: Global,
     event: Result<WatchEvent<DynamicObject>, ApiError>,
-) -> Result<SequenceStep<DynamicObject>, NoMemory> {
+) -> SequenceStep<DynamicObject> {
     let mut events = VecDeque::new(alloc);
-    events.push_back(event)?;
-    Ok(SequenceStep::List(events))
+    events.push_back(event).expect(rt, "memory");
+    SequenceStep::List(events)
 }
 
-fn step(alloc: Global, given: &Given) -> Result<SequenceStep<DynamicObject>, NoMemory> {
-    let event = match given {
-        Given::Added(name, version) => WatchEvent::Added(object(alloc, name, version)?),
-        Given::Modified(name, version) => WatchEvent::Modified(object(alloc, name, version)?),
-        Given::Deleted(name, version) => WatchEvent::Deleted(object(alloc, name, version)?),
-        Given::Bookmark(version) => bookmark(alloc, version, false)?,
-        Given::Ending(version) => bookmark(alloc, version, true)?,
-        Given::Error(code) => WatchEvent::Error(status(alloc, *code)?),
-        Given::Torn => {
-            return one(alloc, Err(fault(alloc)?));
-        }
-        Given::Wait(nanos) => {
-            return Ok(SequenceStep::Wait(*nanos));
-        }
-    };
-    one(alloc, Ok(event))
+fn told(
+    rt: &impl Abort,
+    alloc: Global,
+    event: WatchEvent<DynamicObject>,
+) -> SequenceStep<DynamicObject> {
+    one(rt, alloc, Ok(event))
 }
 
-fn sequence(alloc: Global, given: &[Given]) -> Result<Sequence<DynamicObject>, NoMemory> {
+fn step(rt: &impl Abort, alloc: Global, given: &Given) -> SequenceStep<DynamicObject> {
+    match given {
+        Given::Added(name, version) => {
+            told(
+                rt,
+                alloc,
+                WatchEvent::Added(object(rt, alloc, name, version)),
+            )
+        }
+        Given::Modified(name, version) => {
+            told(
+                rt,
+                alloc,
+                WatchEvent::Modified(object(rt, alloc, name, version)),
+            )
+        }
+        Given::Deleted(name, version) => {
+            told(
+                rt,
+                alloc,
+                WatchEvent::Deleted(object(rt, alloc, name, version)),
+            )
+        }
+        Given::Bookmark(version) => {
+            told(rt, alloc, bookmark(rt, alloc, version, TextMap::new(alloc)))
+        }
+        Given::Ending(version) => {
+            told(rt, alloc, bookmark(rt, alloc, version, ending(rt, alloc)))
+        }
+        Given::Error(code) => told(rt, alloc, WatchEvent::Error(status(rt, alloc, *code))),
+        Given::Torn => one(rt, alloc, Err(fault(rt, alloc))),
+        Given::Wait(nanos) => SequenceStep::Wait(*nanos),
+    }
+}
+
+fn sequence(rt: &impl Abort, alloc: Global, given: &[Given]) -> Sequence<DynamicObject> {
     let mut steps = Vec::new(alloc);
     for one in given {
-        steps.push(step(alloc, one)?)?;
+        steps.push(step(rt, alloc, one)).expect(rt, "memory");
     }
-    Ok(Sequence::new(steps))
+    Sequence::new(steps)
 }
 
-fn sequences(
-    alloc: Global,
-    watches: &[&[Given]],
-) -> Result<Vec<Sequence<DynamicObject>>, NoMemory> {
+fn sequences(rt: &impl Abort, alloc: Global, watches: &[&[Given]]) -> Vec<Sequence<DynamicObject>> {
     let mut sequences = Vec::new(alloc);
     for given in watches {
-        sequences.push(sequence(alloc, given)?)?;
+        sequences
+            .push(sequence(rt, alloc, given))
+            .expect(rt, "memory");
     }
-    Ok(sequences)
+    sequences
 }
 
 fn pages(
+    rt: &impl Abort,
     alloc: Global,
     lists: &[Listing],
-) -> Result<Vec<Result<Page<DynamicObject>, ApiError>>, NoMemory> {
+) -> Vec<Result<Page<DynamicObject>, ApiError>> {
     let mut pages = Vec::new(alloc);
     for listing in lists {
-        pages.push(listed(alloc, listing)?)?;
+        pages.push(listed(rt, alloc, listing)).expect(rt, "memory");
     }
-    Ok(pages)
+    pages
 }
 
 /// An API that answers by this script.
-pub fn api(alloc: Global, lists: &[Listing], watches: &[&[Given]]) -> Result<Api, NoMemory> {
-    let pages = pages(alloc, lists)?;
-    let sequences = sequences(alloc, watches)?;
-    Ok(TestMode::new(alloc, pages, sequences))
+pub fn api(rt: &impl Abort, alloc: Global, lists: &[Listing], watches: &[&[Given]]) -> Api {
+    let pages = pages(rt, alloc, lists);
+    let sequences = sequences(rt, alloc, watches);
+    TestMode::new(alloc, pages, sequences)
 }
 
 pub fn str_of(text: &Option<Text>) -> &str {
@@ -215,43 +259,49 @@ pub fn str_of(text: &Option<Text>) -> &str {
     }
 }
 
+/// A text of its own.
+pub fn owned(rt: &impl Abort, alloc: Global, text: &str) -> String {
+    String::from_str(alloc, text).expect(rt, "memory")
+}
+
 /// A text that may be absent, in angle brackets.
-fn shown_text(alloc: Global, text: &Option<Text>) -> Result<String, AllocError> {
+fn shown_text(rt: &impl Abort, alloc: Global, text: &Option<Text>) -> String {
     match text {
-        Some(text) => format!(in alloc; " <{text}>"),
-        None => Ok(String::new(alloc)),
+        Some(text) => format!(in alloc; " <{text}>").expect(rt, "memory"),
+        None => String::new(alloc),
     }
 }
 
-fn shown_call(alloc: Global, call: &Call) -> Result<String, AllocError> {
+fn shown_call(rt: &impl Abort, alloc: Global, call: &Call) -> String {
     match call {
-        Call::List { token } => {
-            let token = shown_text(alloc, token)?;
-            format!(in alloc; "list{token}")
-        }
+        Call::List { token } => shown_item(rt, alloc, "list", token),
         Call::Watch {
             version,
             initial: true,
-        } => format!(in alloc; "start <{version}>"),
-        Call::Watch { version, .. } => format!(in alloc; "watch <{version}>"),
-        Call::Next => String::from_str(alloc, "next"),
-        Call::Stream => String::from_str(alloc, "stream"),
+        } => format!(in alloc; "start <{version}>").expect(rt, "memory"),
+        Call::Watch { version, .. } => {
+            format!(in alloc; "watch <{version}>").expect(rt, "memory")
+        }
+        Call::Next => owned(rt, alloc, "next"),
+        Call::Stream => owned(rt, alloc, "stream"),
     }
 }
 
 fn shown_page(
+    rt: &impl Abort,
     alloc: Global,
     token: &Option<Text>,
     version: &Option<Text>,
-) -> Result<String, AllocError> {
-    let token = shown_text(alloc, token)?;
-    let version = shown_text(alloc, version)?;
-    format!(in alloc; "page{token},{version}")
+) -> String {
+    let token = shown_text(rt, alloc, token);
+    let version = shown_text(rt, alloc, version);
+    format!(in alloc; "page{token},{version}").expect(rt, "memory")
 }
 
-fn shown_item(alloc: Global, word: &str, version: &Option<Text>) -> Result<String, AllocError> {
-    let version = shown_text(alloc, version)?;
-    format!(in alloc; "{word}{version}")
+/// A word, and a text that may be absent.
+fn shown_item(rt: &impl Abort, alloc: Global, word: &str, text: &Option<Text>) -> String {
+    let text = shown_text(rt, alloc, text);
+    format!(in alloc; "{word}{text}").expect(rt, "memory")
 }
 
 fn shown_word(answer: &Answer) -> &str {
@@ -265,35 +315,34 @@ fn shown_word(answer: &Answer) -> &str {
     }
 }
 
-fn shown_answer(alloc: Global, answer: &Answer) -> Result<String, AllocError> {
+fn shown_answer(rt: &impl Abort, alloc: Global, answer: &Answer) -> String {
     match answer {
-        Answer::Page { token, version } => shown_page(alloc, token, version),
-        Answer::Added { version } => shown_item(alloc, "added", version),
-        Answer::Modified { version } => shown_item(alloc, "modified", version),
-        Answer::Deleted { version } => shown_item(alloc, "deleted", version),
+        Answer::Page { token, version } => shown_page(rt, alloc, token, version),
+        Answer::Added { version } => shown_item(rt, alloc, "added", version),
+        Answer::Modified { version } => shown_item(rt, alloc, "modified", version),
+        Answer::Deleted { version } => shown_item(rt, alloc, "deleted", version),
         Answer::Bookmark {
             version,
             ending: true,
-        } => format!(in alloc; "ending <{version}>"),
-        Answer::Bookmark { version, .. } => format!(in alloc; "bookmark <{version}>"),
+        } => format!(in alloc; "ending <{version}>").expect(rt, "memory"),
+        Answer::Bookmark { version, .. } => {
+            format!(in alloc; "bookmark <{version}>").expect(rt, "memory")
+        }
         Answer::ErrorItem(status) => {
             let code = status.code;
-            format!(in alloc; "error {code}")
+            format!(in alloc; "error {code}").expect(rt, "memory")
         }
-        answer => String::from_str(alloc, shown_word(answer)),
+        answer => owned(rt, alloc, shown_word(answer)),
     }
 }
 
-fn shown_events<K: Resource>(
-    alloc: Global,
-    events: &[Event<Arc<K>>],
-) -> Result<String, AllocError> {
+fn shown_events<K: Resource>(rt: &impl Abort, alloc: Global, events: &[Event<Arc<K>>]) -> String {
     let mut shown = String::new(alloc);
     for event in events {
-        let one = format!(in alloc; " {event}")?;
-        shown.push_str(one.as_str())?;
+        let one = format!(in alloc; " {event}").expect(rt, "memory");
+        shown.push_str(one.as_str()).expect(rt, "memory");
     }
-    Ok(shown)
+    shown
 }
 
 pub fn shown_error(error: &Error) -> &str {
@@ -307,9 +356,9 @@ pub fn shown_error(error: &Error) -> &str {
 }
 
 /// The error, and whether it says that a script is used up.
-fn shown_failure(alloc: Global, error: &Option<Error>) -> Result<String, AllocError> {
+fn shown_failure(rt: &impl Abort, alloc: Global, error: &Option<Error>) -> String {
     match error {
-        None => Ok(String::new(alloc)),
+        None => String::new(alloc),
         Some(error) => {
             let word = shown_error(error);
             let used_up = if error_indicates_graceful_watch_seq_exhaustion(error) {
@@ -317,71 +366,58 @@ fn shown_failure(alloc: Global, error: &Option<Error>) -> Result<String, AllocEr
             } else {
                 ""
             };
-            format!(in alloc; " {word}{used_up}")
+            format!(in alloc; " {word}{used_up}").expect(rt, "memory")
         }
     }
 }
 
 /// The call, the answer, the events and the error of a unit.
-fn shown<K: Resource>(alloc: Global, unit: &Unit<K>) -> Result<String, AllocError> {
-    let call = shown_call(alloc, &unit.call)?;
-    let answer = shown_answer(alloc, &unit.answer)?;
-    let events = shown_events(alloc, unit.events.as_slice())?;
-    let error = shown_failure(alloc, &unit.error)?;
-    format!(in alloc; "{call}, {answer}:{events}{error}")
-}
-
-fn shown_once<K: Resource>(alloc: Global, unit: Unit<K>) -> Result<String, AllocError> {
-    shown(alloc, &unit)
+fn shown<K: Resource>(rt: &impl Abort, alloc: Global, unit: &Unit<K>) -> String {
+    let call = shown_call(rt, alloc, &unit.call);
+    let answer = shown_answer(rt, alloc, &unit.answer);
+    let events = shown_events(rt, alloc, unit.events.as_slice());
+    let error = shown_failure(rt, alloc, &unit.error);
+    format!(in alloc; "{call}, {answer}:{events}{error}").expect(rt, "memory")
 }
 
 /// What a call of a watcher makes.
 pub fn unit<A: ApiMode>(
+    rt: &impl Abort,
     alloc: Global,
     watcher: &mut Watcher<A>,
     at: u64,
-) -> Result<String, NoMemory> {
-    match watcher.poll_unit(alloc, Moment(at)) {
-        Ok(unit) => Ok(shown_once(alloc, unit)?),
-        Err(error) => Err(error),
-    }
+) -> String {
+    let unit = watcher.poll_unit(alloc, Moment(at)).expect(rt, "memory");
+    shown(rt, alloc, &unit)
 }
 
 /// What calls of a watcher at these moments make, a line each.
-fn units<A: ApiMode>(
+pub fn units<A: ApiMode>(
+    rt: &impl Abort,
     alloc: Global,
     watcher: &mut Watcher<A>,
     moments: &[u64],
-) -> Result<String, NoMemory> {
+) -> String {
     let mut lines = String::new(alloc);
     for at in moments {
-        add_line(&mut lines, unit(alloc, watcher, *at)?.as_str())?;
+        let line = unit(rt, alloc, watcher, *at);
+        add_line(rt, &mut lines, line.as_str());
     }
-    Ok(lines)
+    lines
 }
 
-/// The same of a watcher that is let go then.
-pub fn all_units<A: ApiMode>(
-    alloc: Global,
-    watcher: Watcher<A>,
-    moments: &[u64],
-) -> Result<String, NoMemory> {
-    let mut watcher = watcher;
-    units(alloc, &mut watcher, moments)
-}
-
-pub fn add_line(lines: &mut String, line: &str) -> Result<(), AllocError> {
-    lines.push_str(line)?;
-    lines.push_str("\n")
+pub fn add_line(rt: &impl Abort, lines: &mut String, line: &str) {
+    lines.push_str(line).expect(rt, "memory");
+    lines.push_str("\n").expect(rt, "memory");
 }
 
 /// Texts, a line each.
-pub fn lines(alloc: Global, texts: &[&str]) -> Result<String, AllocError> {
+pub fn lines(rt: &impl Abort, alloc: Global, texts: &[&str]) -> String {
     let mut lines = String::new(alloc);
     for text in texts {
-        add_line(&mut lines, text)?;
+        add_line(rt, &mut lines, text);
     }
-    Ok(lines)
+    lines
 }
 
 fn config_of(case: &Case) -> Config {
@@ -397,9 +433,8 @@ fn config_of(case: &Case) -> Config {
 }
 
 /// What the watcher makes of the script.
-pub fn made(alloc: Global, case: &Case) -> Result<String, NoMemory> {
-    match api(alloc, case.lists, case.watches) {
-        Ok(api) => all_units(alloc, watcher(alloc, api, config_of(case)), case.polls),
-        Err(error) => Err(error),
-    }
+pub fn made(rt: &impl Abort, alloc: Global, case: &Case) -> String {
+    let api = api(rt, alloc, case.lists, case.watches);
+    let mut watcher = watcher(alloc, api, config_of(case));
+    units(rt, alloc, &mut watcher, case.polls)
 }

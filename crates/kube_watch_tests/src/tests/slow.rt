@@ -1,12 +1,14 @@
 //! Calls that are not ready, starts of a watch that fail with code 410, and a watcher of metadata alone.
 
-use super::script::{all_units, empty_page, lines, metadata, status};
+use super::script::{empty_page, lines, metadata, status, units};
 use kube_api::{ApiMode, ListParams, Page, WatchEvent, WatchParams};
 use kube_meta::{DynamicObject, Moment, NoMemory, PartialObjectMeta, Polled};
 use kube_watch::watcher::metadata_watcher;
 use kube_watch::{ApiError, Config, InitialListStrategy};
 use std::alloc::Global;
 use std::marker::PhantomData;
+use std::panic::Expect;
+use std::process::Abort;
 use std::sync::Arc;
 use std::test::Fail;
 
@@ -23,14 +25,15 @@ enum Reply {
     End,
 }
 
-/// Gives its replies, one a call, and then is never ready.
+/// Gives its replies, one a call, and then is never ready. It has what it stops by for want of memory.
 #[derive(Drop)]
-struct Slow {
+struct Slow<R> {
+    rt: R,
     replies: &'static [Reply],
     next: usize,
 }
 
-impl Slow {
+impl<R> Slow<R> {
     fn reply(&mut self) -> Reply {
         match self.replies.get(self.next) {
             Some(reply) => {
@@ -42,26 +45,28 @@ impl Slow {
     }
 }
 
-fn object(alloc: Global, name: &str) -> Result<Arc<Metadata>, NoMemory> {
+fn object(rt: &impl Abort, alloc: Global, name: &str) -> Arc<Metadata> {
     let object = PartialObjectMeta {
         types: None,
-        metadata: metadata(alloc, name, "")?,
+        metadata: metadata(rt, alloc, name, ""),
         of: PhantomData,
     };
-    Ok(Arc::new(alloc, object)?)
+    Arc::new(alloc, object).expect(rt, "memory")
 }
 
-fn page(alloc: Global, name: &str, version: &str) -> Result<Page<Metadata>, NoMemory> {
-    let objects = vec![in alloc; object(alloc, name)?]?;
-    let page = empty_page(alloc, "", version)?;
-    Ok(page.items(objects).into_page())
+fn page(rt: &impl Abort, alloc: Global, name: &str, version: &str) -> Page<Metadata> {
+    let object = object(rt, alloc, name);
+    let objects = vec![in alloc; object].expect(rt, "memory");
+    empty_page(rt, alloc, "", version)
+        .items(objects)
+        .into_page()
 }
 
-fn too_old(alloc: Global) -> Result<ApiError, NoMemory> {
-    Ok(ApiError::Api(status(alloc, 410)?))
+fn too_old(rt: &impl Abort, alloc: Global) -> ApiError {
+    ApiError::Api(status(rt, alloc, 410))
 }
 
-impl ApiMode for Slow {
+impl<R: Abort + Copy> ApiMode for Slow<R> {
     type Value = Metadata;
 
     fn list(
@@ -71,8 +76,8 @@ impl ApiMode for Slow {
         _now: Moment,
     ) -> Result<Polled<Result<Page<Metadata>, ApiError>>, NoMemory> {
         Ok(match self.reply() {
-            Reply::Page(name, version) => Polled::Ready(Ok(page(alloc, name, version)?)),
-            Reply::TooOld => Polled::Ready(Err(too_old(alloc)?)),
+            Reply::Page(name, version) => Polled::Ready(Ok(page(&self.rt, alloc, name, version))),
+            Reply::TooOld => Polled::Ready(Err(too_old(&self.rt, alloc))),
             _ => Polled::NotReady,
         })
     }
@@ -86,7 +91,7 @@ impl ApiMode for Slow {
     ) -> Result<Polled<Result<(), ApiError>>, NoMemory> {
         Ok(match self.reply() {
             Reply::Opened => Polled::Ready(Ok(())),
-            Reply::TooOld => Polled::Ready(Err(too_old(alloc)?)),
+            Reply::TooOld => Polled::Ready(Err(too_old(&self.rt, alloc))),
             _ => Polled::NotReady,
         })
     }
@@ -98,7 +103,7 @@ impl ApiMode for Slow {
     ) -> Result<Polled<Option<Result<WatchEvent<Metadata>, ApiError>>>, NoMemory> {
         Ok(match self.reply() {
             Reply::End => Polled::Ready(None),
-            Reply::TooOld => Polled::Ready(Some(Err(too_old(alloc)?))),
+            Reply::TooOld => Polled::Ready(Some(Err(too_old(&self.rt, alloc)))),
             _ => Polled::NotReady,
         })
     }
@@ -120,13 +125,14 @@ fn starts_by(initial_list_strategy: InitialListStrategy) -> Config {
     }
 }
 
-fn made(alloc: Global, case: &Replies) -> Result<String, NoMemory> {
+fn made<R: Abort + Copy>(rt: &R, alloc: Global, case: &Replies) -> String {
     let api = Slow {
+        rt: *rt,
         replies: case.replies,
         next: 0,
     };
-    let config = starts_by(case.strategy);
-    all_units(alloc, metadata_watcher(alloc, api, config), case.polls)
+    let mut watcher = metadata_watcher(alloc, api, starts_by(case.strategy));
+    units(rt, alloc, &mut watcher, case.polls)
 }
 
 const REPLIES: [Replies; 2] = [
@@ -169,9 +175,10 @@ const REPLIES: [Replies; 2] = [
 
 #[test]
 fn a_call_that_is_not_ready_or_fails_is_made_again(rt: HostRuntime) -> Result<(), Fail> {
+    let alloc = rt.alloc();
     for case in &REPLIES {
-        let made = made(rt.alloc(), case)?;
-        let wanted = lines(rt.alloc(), case.wanted)?;
+        let made = made(&rt, alloc, case);
+        let wanted = lines(&rt, alloc, case.wanted);
         assert_eq!(rt; made.as_str(), wanted.as_str());
     }
     Ok(())

@@ -1,23 +1,18 @@
-use Rattle.std.proofs.Common.{◌≤◌, ◌<◌, ◌+◌, [], ◌∷◌, false, length, ap, ◌∙◌, arith}
-use Rattle.std.proofs.lemmas.List.{length-append}
-use Rattle.kube_asks.specs.Kept.{with_mark}
-use Rattle.kube_asks.proofs.Marks.{mark-pad, mark-set}
+use Rattle.std.proofs.Common.{◌≤◌, ◌<◌, length, slice_set, true, Vec, Global, Bool, ap, ◌∙◌, arith}
+use Rattle.kube_asks.proofs.Marks.{mark-set, mark-grown}
 use Rattle.kube_asks.proofs.asks.mark.Goals as goal
+use Rattle.kube_asks.proofs.asks.mark.Goals.{then-len-place+in_ok-resize, else-len-place}
 
-pub loop-missing-preserved : goal.loop-missing-preserved
-loop-missing-preserved c =
-    let marks = c.loop-missing.marks.items in
-    let long = c.loop-missing.invariant.long in
-    let within : length marks ≤ c.args.source = omega (arith, long) in
-    let e = c.in_ok-push.ensures.items in
-    record {
-      same = ap (λ ms. with_mark ms c.args.source) e ∙ (mark-pad marks c.args.source within ∙ c.loop-missing.invariant.same);
-      long = ap length e ∙ (length-append marks (false ∷ []) ∙ ap (λ n. n + 1) long);
-    }
-
-pub returns : goal.returns
-returns c =
-    let marks = c.loop-missing.marks.items in
-    let long = c.loop-missing.invariant.long in
-    let there : c.args.source < length marks = omega (arith, long) in
-    mark-set marks c.args.source there ∙ c.loop-missing.invariant.same
+pub returns-clause-ok : goal.returns-clause-ok
+returns-clause-ok c =
+    let marks = c.args.marks.now in
+    let source = c.args.source in
+    elim c.if-len-place.branch [
+      | then-len-place+in_ok-resize w ↦
+          let above : marks.len ≤ source = omega (arith, c.len.ensures, w.if-len-place.true) in
+          ap (λ (v : Vec Bool Global). slice_set v.items source true) w.marks-is
+          ∙ (ap (λ ms. slice_set ms source true) w.in_ok-resize.ensures.items ∙ mark-grown marks.items marks.len source marks.ok.0 above)
+      | else-len-place w ↦
+          let below : source < length marks.items = omega (arith, c.len.ensures, w.if-len-place.false, marks.ok.0) in
+          ap (λ (v : Vec Bool Global). slice_set v.items source true) w.marks-is ∙ mark-set marks.items source below
+    ]

@@ -17,11 +17,11 @@ use Rattle.kube_feed.proofs.takes.take_all.Given as goal
 abbrev pub invariant-loop-take : goal.invariant-loop-take
 invariant-loop-take g l =
     let type_of = g.K.Resource.type_of in
-    let ts = filter_map (taken_of type_of) l.taken in
+    let ts = filter_map (taken_of type_of) l.taken.items in
     record {
       same : IsLater l.fn.reader l.reader;
       count : length ts ≡ l._take;
       handed : g.Rc.Reconciler.handed l.reconciler ≡ grown_by (g.Rc.Reconciler.handed l.fn.reconciler) (handed_by ts);
-      something : AllByRecursion (IsSomething type_of) l.taken;
+      something : AllByRecursion (IsSomething type_of) l.taken.items;
       gone : (core : CoreWorld _) (qs : List (QueueEvent Message)) (rs : List (Running _)) → Stands type_of core l.fn.pending qs rs → HaveGone g.K.Resource core qs rs l.fn.reader ts l.pending l.reader;
     }

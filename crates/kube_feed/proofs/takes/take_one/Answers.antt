@@ -1,4 +1,5 @@
-use Rattle.std.proofs.Common.{Result, Ok, Err, IfOk, Some, None, option_map, subst}
+use Rattle.std.proofs.Common.{Result, Ok, Err, IfOk, OnErr, Some, None, is_some, option_map, ap, subst}
+use Rattle.std.proofs.lemmas.Result.{err_from_is_err_and}
 use Rattle.std.specs.Arc.{arc_value}
 use Rattle.kube_turn.specs.Views.{taken_of}
 use Rattle.kube_feed.specs.Takes.{IsLookedUp}
@@ -28,3 +29,19 @@ returns-clause-took g c =
     let l = subst (λ o. IsLookedUp g.K.Resource core qs rs (Some (option_map arc_value o)) c.args.reader.now c.next_object.new.reader) c.in-Some-found.is k in
     took-found g.K.Resource core qs rs c.args.reader.now (Some (arc_value c.in-Some-found.object)) (taken_of g.K.Resource.type_of t) c.take_found.new.pending c.next_object.new.reader l (first core qs rs s) (stands core qs rs s))
     c.take_found.ensures.first c.take_found.ensures.stands
+
+pub returns-in_err-found-clause-wanted : goal.returns-in_err-found-clause-wanted
+returns-in_err-found-clause-wanted g c =
+    let p = err_from_is_err_and c.from_residual.result c.from_residual.ensures.1 in
+    rw p.1 (λ core qs rs s. c.in_err-found.ensures.wanted core qs rs s)
+
+on-err : {T E : Type 0} (r : Result T E) (P : Type 0) → P → OnErr r P
+on-err (Ok t) P p = tt
+on-err (Err e) P p = p
+
+pub returns-clause-wanted : goal.returns-clause-wanted
+returns-clause-wanted g c =
+    on-err c.take_found.result _
+    (λ core qs rs s.
+    let k = subst (λ o. IsLookedUp g.K.Resource core qs rs (option_map (option_map arc_value) o) c.args.reader.now c.next_object.new.reader) c.in-Some.is (c.in_ok-found.ensures.looked_up core qs rs s) in
+    ap is_some k.1)

@@ -1,9 +1,8 @@
-use Rattle.std.proofs.Common.{Some, None, arith}
-use Rattle.kube_meta.specs.declared.poll.Next.TheVariants.{Item}
+use Rattle.std.proofs.Common.{Some, None}
 use Rattle.kube_watch.specs.Objects.{found_of}
 use Rattle.kube_final.specs.Waits.{probed}
-use Rattle.kube_final.proofs.WaitLaws.{asked_item, asked_not_ready, asked_over, asked_spent, asked_then, not_spent, stands_on, standing}
-use Rattle.kube_final.proofs.WaitLosses.{lost_polled, whatever_came}
+use Rattle.kube_final.proofs.WaitLaws.{asked_item, asked_not_ready, asked_over, asked_spent, asked_then, never, not_spent, stands_on, standing}
+use Rattle.kube_final.proofs.WaitLosses.{left_standing}
 use Rattle.kube_final.proofs.wait.ask_end.Goals as goal
 
 pub returns-then-ends-clause-asked : goal.returns-then-ends-clause-asked
@@ -65,5 +64,4 @@ returns-in-None-clause-asked g c =
 pub returns-in_err-answer-2-clause-lost : goal.returns-in_err-answer-2-clause-lost
 returns-in_err-answer-2-clause-lost g c =
     let unspent = not_spent c.args.watch.now.watcher.is_spent (λ s. (c.in_ok-answer.ensures.spent s).0) in
-    whatever_came c.from_residual-in_err-answer-2.result _ (lost_polled _ c.args.now.0 1 0 1 c.args.watch.now (Item (found_of c.in-Item.answer)) c.poll_next.new.self c.take_end.new.watch.watcher
-    (standing c.args.watch.now unspent c.requires.live) (rw c.in-Item.is at c.in_ok-answer.ensures.polled) (omega arith) c.in_err-answer-2.ensures.lost)
+    never (left_standing c.args.watch.now c.poll_next.new.self _ c.in_ok-answer.ensures.polled.exchanged.stands (standing c.args.watch.now unspent c.requires.live) c.in_err-answer-2.ensures.lost)

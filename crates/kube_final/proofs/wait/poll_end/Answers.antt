@@ -1,8 +1,8 @@
-use Rattle.std.proofs.Common.{◌+◌, Some, None, sym, ◌∙◌, arith}
+use Rattle.std.proofs.Common.{◌+◌, inl, Some, None, sym, ◌∙◌, arith}
 use Rattle.kube_meta.specs.declared.poll.Next.TheVariants.{Item, Spent}
 use Rattle.kube_final.specs.Waits.{next_probed, probed}
 use Rattle.kube_final.proofs.WaitLaws.{asks_on, enough, from_taken, never, standing, unspent_next}
-use Rattle.kube_final.proofs.WaitLosses.{lost_awaited, lost_more, whatever_came}
+use Rattle.kube_final.proofs.WaitLosses.{lost_awaited, whatever_came}
 use Rattle.kube_final.proofs.wait.poll_end.Goals as goal
 
 pub returns-in-Some-clause-awaited : goal.returns-in-Some-clause-awaited
@@ -41,11 +41,9 @@ returns-in_default-2 g c =
     }
 
 pub returns-in_err-answer-clause-lost : goal.returns-in_err-answer-clause-lost
-returns-in_err-answer-clause-lost g c =
-    whatever_came c.from_residual.result _ (lost_more _ c.args.now.0 0 c.args.fuel c.args.watch.now.watcher c.take_end.new.watch.watcher (omega arith) c.in_err-answer.ensures.lost)
+returns-in_err-answer-clause-lost g c = whatever_came c.from_residual.result _ (inl (c.in_err-answer.ensures.spent c.in_err-answer.ensures.lost))
 
 pub returns-in_err-answer-2-clause-lost : goal.returns-in_err-answer-2-clause-lost
 returns-in_err-answer-2-clause-lost g c =
-    let below = c.loop-asked-test.true in
-    whatever_came c.from_residual-in_err-answer-2.result _ (lost_awaited _ (g.C.Condition.says c.args.condition.now) c.args.now.0 c.loop-asked._asked 1 c.args.fuel c.args.watch.now Spent c.loop-asked.watch c.ask_end.new.watch.watcher
-    (standing c.args.watch.now c.loop-asked.invariant.unspent c.requires.live) c.loop-asked.invariant.awaited (omega arith) c.in_err-answer-2.ensures.lost)
+    whatever_came c.from_residual-in_err-answer-2.result _ (lost_awaited _ (g.C.Condition.says c.args.condition.now) c.args.now.0 c.loop-asked._asked c.args.fuel c.args.watch.now c.loop-asked.watch c.ask_end.new.watch
+    (standing c.args.watch.now c.loop-asked.invariant.unspent c.requires.live) c.loop-asked.invariant.awaited c.loop-asked-test.true c.in_err-answer-2.ensures.err c.in_err-answer-2.ensures.lost)

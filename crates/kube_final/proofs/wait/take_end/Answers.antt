@@ -13,4 +13,4 @@ loop-answer-smaller-else-ends-2 g c =
 
 pub returns-in_err-answer-clause-lost : goal.returns-in_err-answer-clause-lost
 returns-in_err-answer-clause-lost g c =
-    whatever_came c.from_residual.result _ (lost_taking _ (g.C.Condition.says c.args.condition.now) c.args.now.0 0 c.args.watch.now c.loop-answer.watch c.take_next.new.watch.watcher c.loop-answer.invariant c.in_err-answer.ensures.lost)
+    whatever_came c.from_residual.result _ (lost_taking (g.C.Condition.says c.args.condition.now) c.args.watch.now c.loop-answer.watch c.requires.live c.loop-answer.invariant c.in_err-answer.ensures.lost)

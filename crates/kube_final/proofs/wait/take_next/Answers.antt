@@ -1,5 +1,6 @@
 use Rattle.kube_watch.specs.Objects.{found_of, next_found}
 use Rattle.kube_final.proofs.WaitLaws.{never, not_spent, quiet_next, stands_on, standing, taken_item, taken_none}
+use Rattle.kube_final.proofs.WaitLosses.{lost_spent, whatever_came}
 use Rattle.kube_final.proofs.wait.take_next.Goals as goal
 
 pub returns-in-Item-clause-taken : goal.returns-in-Item-clause-taken
@@ -27,3 +28,6 @@ returns-in-NotReady g c =
       unspent = unspent;
       spent = λ s. never ((c.in_ok-answer.ensures.spent s).0);
     }
+
+pub returns-in_err-answer-clause-lost : goal.returns-in_err-answer-clause-lost
+returns-in_err-answer-clause-lost g c = whatever_came c.from_residual.result _ (lost_spent _ c.args.now.0 c.args.watch.now c.poll_next.new.self c.in_err-answer.ensures.err c.in_err-answer.ensures.lost)

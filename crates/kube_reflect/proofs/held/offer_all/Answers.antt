@@ -2,7 +2,7 @@ use Rattle.std.proofs.Common.{◌<◌, ◌∙◌, ap, sym, map, length, drop, ar
 use Rattle.std.proofs.lemmas.List.{length-map, drop-drop}
 use Rattle.kube_meta.specs.Keys.{reference_of}
 use Rattle.kube_reflect.specs.Reflects.{offered_in}
-use Rattle.kube_reflect.proofs.Offering.{stopped, offered-one, offered-more, read-left}
+use Rattle.kube_reflect.proofs.Offering.{err-so, stopped, offered-one, offered-more, read-left}
 use Rattle.kube_reflect.proofs.held.offer_all.Goals as goal
 
 pub returns-then-is_lagged-clause-writer : goal.returns-then-is_lagged-clause-writer
@@ -28,9 +28,12 @@ loop-offered-preserved g c =
       left = c.pop_front.ensures.rest ∙ (ap (drop 1) c.loop-offered.invariant.left ∙ drop-drop 1 i all);
       offered = offered-more w c.offer_now.new.self c.args.writer.now (map ref all) i r h
           (read-left ref all c.loop-offered.references.items i c.in-Some.reference c.loop-offered.invariant.left c.in-Some.ensures.lookup)
-          c.in_ok-offer_now.ensures.offered c.loop-offered.invariant.offered;
+          low c.in_ok-offer_now.ensures.offered c.loop-offered.invariant.offered;
       decides =
           ap (λ q. offered_in q (map ref c.pop_front.new.self.items)) c.in_ok-offer_now.ensures.offered
           ∙ (sym (offered-one w r (map ref c.pop_front.new.self.items) low)
           ∙ (ap (λ xs. offered_in w (map ref xs)) (sym c.in-Some.ensures.items) ∙ c.loop-offered.invariant.decides));
     }
+
+pub returns-in_err-offer_now-clause-some : goal.returns-in_err-offer_now-clause-some
+returns-in_err-offer_now-clause-some g c = err-so c.from_residual.result (c.loop-offered._offered, c.in_err-offer_now.ensures.err ∙ sym (ap (λ p. p.0) c.loop-offered.invariant.offered))

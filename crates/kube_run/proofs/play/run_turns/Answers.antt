@@ -7,10 +7,11 @@ use Rattle.kube_object.specs.Named.{named_type}
 use Rattle.kube_step.specs.Calls.{dated_in}
 use Rattle.kube_step.specs.Policies.{answered_by}
 use Rattle.kube_text.specs.TraceText.{lines_of}
-use Rattle.kube_turn.specs.Records.{record_of, records_of, turns_of}
+use Rattle.kube_turn.specs.Records.{record_of, records_of, turn_of, turns_of}
 use Rattle.kube_run.specs.Played.{AreAnswered, script_world}
 use Rattle.kube_run.proofs.Plays.{all-ok, both, err-cases}
 use Rattle.kube_run.proofs.Policies.{few-records, same-lines, trace-by}
+use Rattle.kube_run.proofs.Broken.{got-map, unnamed-broken}
 use Rattle.kube_run.proofs.Ended.{front, front-lines, refused-next, unnamed-next}
 use Rattle.kube_run.proofs.First.{first-apis, first-of}
 use Rattle.kube_run.proofs.Polled.{polled-answered}
@@ -60,13 +61,14 @@ returns c = record {
       (λ turn source trace finished k.
       let rs = trace.records in
       let b = k.1 w [] stands in
-      let cut = b.broken.ended.0 in (
+      let broken = unnamed-broken _ _ _ _ w _ source b.turn b.reached_root b.reached_related _ _ _ _ _ b.broken in
+      let cut = broken.1.0 in (
         (_, front _ s (λ o e a k. k.says.met.2 ∙ after) ts turns faults rs finished b.traced b.all_named root b.reached_root set b.reached_related apis of_script b.polled),
         front-lines _ s (λ o e a k. k.says.met.2 ∙ after) ts turns faults rs finished b.traced,
         tt,
         (
           k.0 ∙ sym (length-map rs (record_of named_type)),
-          unnamed-next _ s (λ o e a k. k.says.met.2 ∙ after) ts turns faults rs finished b.traced b.all_named root b.reached_root set b.reached_related apis of_script b.polled b.turn b.next b.going source cut.made cut.reached_root c.run.new.self.asks.root cut.reached_related c.run.new.self.asks.related b.broken.valid cut.asked
+          unnamed-next _ s (λ o e a k. k.says.met.2 ∙ after) ts turns faults rs finished b.traced b.all_named root b.reached_root set b.reached_related apis of_script b.polled (turn_of named_type b.turn) (got-map (turn_of named_type) ts (length (records_of named_type rs)) b.turn b.next) b.going source cut.made cut.reached_root c.run.new.self.asks.root cut.reached_related c.run.new.self.asks.related broken.0 cut.asked
               cut.each_named cut.polled cut.stand cut.rest.next_is cut.rest.broken,
         ),
         tt,

@@ -1,6 +1,8 @@
 use Rattle.std.proofs.Common.{codes, ◌∙◌}
 use Rattle.serde_json.specs.Data.{Members}
 use Rattle.kube_run.specs.Summary.{count_member}
+use Rattle.kube_text.proofs.Fronts.{later_shown}
+use Rattle.kube_text.proofs.Sinks.{on_err}
 use Rattle.kube_run.proofs.totals.show_members.Goals as goal
 
 pub returns-clause-members : goal.returns-clause-members
@@ -17,3 +19,47 @@ returns-clause-members c rest =
     ∙ (c.in_ok-member-4.ensures.members requests
     ∙ (c.in_ok-member-5.ensures.members started
     ∙ c.in_ok-member-6.ensures.members rest))))
+
+pub returns-in_err-member-clause-front : goal.returns-in_err-member-clause-front
+returns-in_err-member-clause-front c rest =
+    on_err _ _ (c.in_err-member.ensures.front _)
+
+pub returns-in_err-member-2-clause-front : goal.returns-in_err-member-2-clause-front
+returns-in_err-member-2-clause-front c rest =
+    on_err _ _
+    (later_shown _ _ _ _ _ c.in_ok-member.ensures.members
+    (c.in_err-member-2.ensures.front _))
+
+pub returns-in_err-member-3-clause-front : goal.returns-in_err-member-3-clause-front
+returns-in_err-member-3-clause-front c rest =
+    on_err _ _
+    (later_shown _ _ _ _ _ c.in_ok-member.ensures.members
+    (later_shown _ _ _ _ _ c.in_ok-member-2.ensures.members
+    (c.in_err-member-3.ensures.front _)))
+
+pub returns-in_err-member-4-clause-front : goal.returns-in_err-member-4-clause-front
+returns-in_err-member-4-clause-front c rest =
+    on_err _ _
+    (later_shown _ _ _ _ _ c.in_ok-member.ensures.members
+    (later_shown _ _ _ _ _ c.in_ok-member-2.ensures.members
+    (later_shown _ _ _ _ _ c.in_ok-member-3.ensures.members
+    (c.in_err-member-4.ensures.front _))))
+
+pub returns-in_err-member-5-clause-front : goal.returns-in_err-member-5-clause-front
+returns-in_err-member-5-clause-front c rest =
+    on_err _ _
+    (later_shown _ _ _ _ _ c.in_ok-member.ensures.members
+    (later_shown _ _ _ _ _ c.in_ok-member-2.ensures.members
+    (later_shown _ _ _ _ _ c.in_ok-member-3.ensures.members
+    (later_shown _ _ _ _ _ c.in_ok-member-4.ensures.members
+    (c.in_err-member-5.ensures.front _)))))
+
+pub returns-in_err-member-6-clause-front : goal.returns-in_err-member-6-clause-front
+returns-in_err-member-6-clause-front c rest =
+    on_err _ _
+    (later_shown _ _ _ _ _ c.in_ok-member.ensures.members
+    (later_shown _ _ _ _ _ c.in_ok-member-2.ensures.members
+    (later_shown _ _ _ _ _ c.in_ok-member-3.ensures.members
+    (later_shown _ _ _ _ _ c.in_ok-member-4.ensures.members
+    (later_shown _ _ _ _ _ c.in_ok-member-5.ensures.members
+    (c.in_err-member-6.ensures.front _))))))

@@ -2,4 +2,4 @@ use Rattle.kube_server.specs.History.{IsLater}
 use Rattle.kube_server_tests.proofs.tests.first_other.Given as goal
 
 abbrev pub invariant-loop-number : goal.invariant-loop-number
-invariant-loop-number l = IsLater l.world.conn.changes l.world.server.changes l.world.conn.compacted l.world.server.compacted
+invariant-loop-number g l = IsLater l.world.conn.changes l.world.server.changes l.world.conn.compacted l.world.server.compacted

@@ -1,22 +1,12 @@
-use Rattle.std.proofs.Common.{◌++◌, ◌∷◌, ◌+◌, ◌<◌, ◌^◌, [], ℕ, List, map, length, refl, sym, ap, subst, ◌∙◌}
+use Rattle.std.proofs.Common.{◌++◌, ◌∷◌, ◌+◌, ◌<◌, ◌^◌, [], List, map, length, refl, sym, ap, subst, ◌∙◌}
 use Rattle.std.proofs.lemmas.List.{map-append}
 use Rattle.std.proofs.lemmas.Result.{err_from_is_err_and}
 use Rattle.std.specs.Option.{option_map}
-use Rattle.kube_history.specs.CoreWorld.{core_world}
 use Rattle.kube_history.specs.CoreEvents.{Answered}
-use Rattle.kube_core.specs.Cores.{Parts, StandsFor}
 use Rattle.kube_turn.specs.Views.{exchange_of}
-use Rattle.kube_asks.specs.declared.asks.AskFault.{AskFault}
-use Rattle.kube_asks.specs.declared.asks.AskFault.TheVariants as faults
 use Rattle.kube_step.specs.Asked.{AreAsked, IsAsked}
-use Rattle.kube_step.specs.Errors.{IfUnnamedAsk}
-use Rattle.kube_step.proofs.Asking.{asked-push, asked-end, ended-lost, ended-more}
+use Rattle.kube_step.proofs.Asking.{asked-push, asked-end, ended-lost, ended-until, given-lost, given-more}
 use Rattle.kube_step.proofs.sources.ask_all.Goals as goal
-
-unnamed-weaker : (f : AskFault) (P Q : ℕ → Type 0) → ((s : ℕ) → P s → Q s) → IfUnnamedAsk f P → IfUnnamedAsk f Q
-unnamed-weaker (faults.Unnamed s) P Q h p = h s p
-unnamed-weaker faults.NoMemory P Q h p = tt
-unnamed-weaker faults.Spent P Q h p = tt
 
 pub loop-all-preserved : goal.loop-all-preserved
 loop-all-preserved g c =
@@ -51,24 +41,22 @@ returns-in-None-clause-asked g c w h t es at may =
 
 pub returns-in_err-exchange-clause-ended : goal.returns-in_err-exchange-clause-ended
 returns-in_err-exchange-clause-ended g c =
-    let f = exchange_of g.R.Object.Resource.type_of in
     let p = err_from_is_err_and c.from_residual.result c.from_residual.ensures.1 in
     rw (p.1, p.2) (λ w h t es at may.
     let k = c.loop-all.invariant.asked w h t es at may in
-    let xs = map f c.loop-all.all in
-    ended-more g.R.RootSource g.S.RelatedSet g.B.Backoff g.R.Object.Resource w h t c.in_err-exchange.field-0.0 es c.args.asks.now xs c.loop-all.asks c.loop-all.core c.ask_one.new.asks.root c.ask_one.new.asks.related k c.ask_one.new.core.writer.kept
-    (c.in_err-exchange.ensures.ended w h t xs (es ++ map (Answered t.at) xs) at k.may))
+    let xs = map (exchange_of g.R.Object.Resource.type_of) c.loop-all.all in
+    ended-until g.R.RootSource g.S.RelatedSet g.B.Backoff g.R.Object.Resource w h t c.in_err-exchange.field-0.0 es [] c.args.asks.now.root c.args.asks.now.related c.ask_one.new.asks.root c.ask_one.new.asks.related c.ask_one.new.core may.answers
+    (given-more g.R.RootSource g.S.RelatedSet g.B.Backoff g.R.Object.Resource w h t c.in_err-exchange.field-0.0 es c.args.asks.now xs c.loop-all.asks c.loop-all.core c.ask_one.new.asks.root c.ask_one.new.asks.related k c.ask_one.new.core
+    (c.in_err-exchange.ensures.left w h t xs (es ++ map (Answered t.at) xs) at k.may)))
 
-pub returns-in_err-exchange-clause-unnamed : goal.returns-in_err-exchange-clause-unnamed
-returns-in_err-exchange-clause-unnamed g c =
-    let f = exchange_of g.R.Object.Resource.type_of in
+pub returns-in_err-exchange-clause-left : goal.returns-in_err-exchange-clause-left
+returns-in_err-exchange-clause-left g c =
     let p = err_from_is_err_and c.from_residual.result c.from_residual.ensures.1 in
-    rw (p.1, p.2) (unnamed-weaker c.in_err-exchange.field-0.0 _ _
-    (λ source same w h t es at may.
+    rw (p.1, p.2) (λ w h t es at may.
     let k = c.loop-all.invariant.asked w h t es at may in
-    let xs = map f c.loop-all.all in
-    (xs, k.asked, subst (λ (q : Parts g.row.R-Object.Denot g.row.R-Object-DynamicType.Denot). StandsFor g.R.Object.Resource.type_of g.R.Object.Resource.meta_of (core_world w) (es ++ map (Answered t.at) xs) q) (sym same) k.may.core_stands))
-    c.in_err-exchange.ensures.unnamed)
+    let xs = map (exchange_of g.R.Object.Resource.type_of) c.loop-all.all in
+    given-more g.R.RootSource g.S.RelatedSet g.B.Backoff g.R.Object.Resource w h t c.in_err-exchange.field-0.0 es c.args.asks.now xs c.loop-all.asks c.loop-all.core c.ask_one.new.asks.root c.ask_one.new.asks.related k c.ask_one.new.core
+    (c.in_err-exchange.ensures.left w h t xs (es ++ map (Answered t.at) xs) at k.may))
 
 pub returns-in_err-push-in-Some-clause-ended : goal.returns-in_err-push-in-Some-clause-ended
 returns-in_err-push-in-Some-clause-ended g c =
@@ -81,3 +69,15 @@ returns-in_err-push-in-Some-clause-ended g c =
     (c.in_ok-exchange.ensures.asked w h t xs (es ++ map (Answered t.at) xs) at k.may) in
     let q = asked-push g.R.RootSource g.S.RelatedSet g.B.Backoff g.R.Object.Resource w h t es c.args.asks.now xs c.loop-all.asks c.loop-all.core (f c.in-Some.exchange) c.ask_one.new.asks c.ask_one.new.core k one in
     ended-lost g.R.RootSource g.S.RelatedSet g.B.Backoff g.R.Object.Resource w h t es c.args.asks.now (xs ++ f c.in-Some.exchange ∷ []) c.ask_one.new.asks c.ask_one.new.core q c.ask_one.new.core.writer.kept refl)
+
+pub returns-in_err-push-in-Some-clause-left : goal.returns-in_err-push-in-Some-clause-left
+returns-in_err-push-in-Some-clause-left g c =
+    let f = exchange_of g.R.Object.Resource.type_of in
+    let p = err_from_is_err_and c.from_residual-in_err-push-in-Some.result c.from_residual-in_err-push-in-Some.ensures.1 in
+    rw (p.1, p.2) (λ w h t es at may.
+    let k = c.loop-all.invariant.asked w h t es at may in
+    let xs = map f c.loop-all.all in
+    let one = subst (λ o. IsAsked g.R.RootSource g.S.RelatedSet g.B.Backoff g.R.Object.Resource w h t xs (es ++ map (Answered t.at) xs) c.loop-all.asks (option_map f o) c.ask_one.new.asks c.ask_one.new.core) c.in-Some.is
+    (c.in_ok-exchange.ensures.asked w h t xs (es ++ map (Answered t.at) xs) at k.may) in
+    given-lost g.R.RootSource g.S.RelatedSet g.B.Backoff g.R.Object.Resource w h t es c.args.asks.now (xs ++ f c.in-Some.exchange ∷ []) c.ask_one.new.asks c.ask_one.new.core
+    (asked-push g.R.RootSource g.S.RelatedSet g.B.Backoff g.R.Object.Resource w h t es c.args.asks.now xs c.loop-all.asks c.loop-all.core (f c.in-Some.exchange) c.ask_one.new.asks c.ask_one.new.core k one))

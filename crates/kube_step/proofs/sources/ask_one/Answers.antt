@@ -3,11 +3,11 @@ use Rattle.std.proofs.lemmas.Result.{err_from_is_err_and}
 use Rattle.std.specs.Option.{option_map}
 use Rattle.kube_model.specs.History.{Dated, dated, exchanges}
 use Rattle.kube_history.specs.CoreWorld.{core_world}
-use Rattle.kube_core.specs.Cores.{Parts}
+use Rattle.kube_core.specs.Cores.{Parts, StandsFor}
 use Rattle.kube_turn.specs.Views.{exchange_of}
 use Rattle.kube_asks.specs.Asking.{Asking, AskStands, IsNextAsked, IsPolledAt, SourcesStand, with_asked}
 use Rattle.kube_step.specs.Asked.{MayAsk, IsOneAsk}
-use Rattle.kube_step.proofs.Asking.{none-is, asked-once, ended-next, lost-given}
+use Rattle.kube_step.proofs.Asking.{none-is, asked-once, given-next, lost-given, stands-with-room}
 use Rattle.kube_step.proofs.sources.ask_one.Goals as goal
 
 pub returns-in_default-clause-asked : goal.returns-in_default-clause-asked
@@ -31,14 +31,14 @@ returns-clause-asked g c w h t xs es at may =
     (asked-once g.R.RootSource g.S.RelatedSet g.B.Backoff g.R.Object.Resource w h t xs es c.args.asks.now c.args.core.now may c.next.new.self c.args.now.0 at (f c.in-Some.exchange)
     next polled e.kind e.feed e.feeds c.give.new.core e.unspent (λ s m. c.in_ok-exchange-2.ensures.stands (core_world w) es s m))
 
-pub returns-in_err-exchange-clause-ended : goal.returns-in_err-exchange-clause-ended
-returns-in_err-exchange-clause-ended g c =
+pub returns-in_err-exchange-clause-left : goal.returns-in_err-exchange-clause-left
+returns-in_err-exchange-clause-left g c =
     let e = c.in_err-exchange.ensures in
     let p = err_from_is_err_and c.from_residual.result c.from_residual.ensures.1 in
-    rw (p.1, p.2) (λ w h t xs es at may. ended-next g.R.RootSource g.S.RelatedSet g.B.Backoff g.R.Object.Resource w h t xs es c.args.asks.now c.args.core.now may c.next.new.self c.args.now.0 at c.in_err-exchange.field-0.0 e.lost e.unnamed e.only)
+    rw (p.1, p.2) (λ w h t xs es at may. given-next g.R.RootSource g.S.RelatedSet g.B.Backoff g.R.Object.Resource w h t xs es c.args.asks.now c.args.core.now may c.next.new.self c.args.now.0 at c.in_err-exchange.field-0.0 e.lost e.unnamed e.only c.args.core.now may.core_stands)
 
-pub returns-in_err-exchange-2-clause-ended : goal.returns-in_err-exchange-2-clause-ended
-returns-in_err-exchange-2-clause-ended g c =
+pub returns-in_err-exchange-2-clause-left : goal.returns-in_err-exchange-2-clause-left
+returns-in_err-exchange-2-clause-left g c =
     let e = c.in_ok-exchange.ensures in
     let f = exchange_of g.R.Object.Resource.type_of in
     let p = err_from_is_err_and c.from_residual-in_err-exchange-2.result c.from_residual-in_err-exchange-2.ensures.1 in
@@ -46,4 +46,6 @@ returns-in_err-exchange-2-clause-ended g c =
     let next = subst (λ o. IsNextAsked w t.budget (exchanges h) (dated t.at xs) c.args.now.0 (option_map f o) × AskStands w (g.R.RootSource.stands c.next.new.self.root) (g.S.RelatedSet.stands c.next.new.self.related) (length (g.S.RelatedSet.feeds c.args.asks.now.related)) t.budget (exchanges h) (with_asked (dated t.at xs) c.args.now.0 (option_map f o)) c.next.new.self.kept) c.in-Some.is (e.next w t.budget (exchanges h) (dated t.at xs) may.world may.asks_stand) in
     let polled = subst (λ o. IfSome o (λ x. (ds : List (Dated _)) → SourcesStand (g.R.RootSource.stands c.args.asks.now.root) (g.S.RelatedSet.stands c.args.asks.now.related) (length (g.S.RelatedSet.feeds c.args.asks.now.related)) ds → IsPolledAt g.R.RootSource.polls g.S.RelatedSet.polls ds c.args.now.0 (f x) c.args.asks.now.root c.args.asks.now.related c.next.new.self.root c.next.new.self.related x.source)) c.in-Some.is e.polled in
     lost-given g.R.RootSource g.S.RelatedSet g.B.Backoff g.R.Object.Resource w h t xs es c.args.asks.now c.args.core.now may c.next.new.self c.args.now.0 at (f c.in-Some.exchange)
-    next polled e.kind e.feed e.feeds c.give.new.core.writer.kept (ap (λ (q : Parts g.row.R-Object.Denot g.row.R-Object-DynamicType.Denot). q.writer.kept) c.in_err-exchange-2.ensures.err))
+    next polled e.kind e.feed e.feeds c.give.new.core
+    (subst (λ (q : Parts g.row.R-Object.Denot g.row.R-Object-DynamicType.Denot). StandsFor g.R.Object.Resource.type_of g.R.Object.Resource.meta_of (core_world w) es q) (sym c.in_err-exchange-2.ensures.err)
+    (stands-with-room g.R.Object.Resource.type_of g.R.Object.Resource.meta_of (core_world w) es c.args.core.now c.give.new.core.pending.schedule.spare may.core_stands)))

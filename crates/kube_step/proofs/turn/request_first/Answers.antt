@@ -1,13 +1,16 @@
-use Rattle.std.proofs.Common.{◌≡◌, ◌≤◌, ◌++◌, ◌∷◌, [], map, sym, ap, subst, ◌∙◌, append_assoc, append-nil, arith}
+use Rattle.std.proofs.Common.{◌≡◌, ◌≤◌, ◌++◌, ◌∷◌, [], map, length, drop, refl, sym, ap, subst, ◌∙◌, append_assoc, append-nil, arith}
 use Rattle.std.proofs.lemmas.List.{map-append, map-id}
+use Rattle.std.proofs.lemmas.Result.{err_from_is_err_and}
 use Rattle.std.proofs.lemmas.Iterator.Adapters.{YieldsList-from_vec}
-use Rattle.std.proofs.lemmas.Iterator.Consumers.{YieldsList-end}
+use Rattle.std.proofs.lemmas.Iterator.Consumers.{YieldsList-end, YieldsList-so_far}
 use Rattle.kube_meta.specs.declared.moment.Moment.{Moment}
 use Rattle.kube_meta.specs.Keys.{reference_of}
 use Rattle.kube_history.specs.CoreEvents.{Requested}
 use Rattle.kube_history.specs.TurnEvents.{reload_events}
-use Rattle.kube_core.specs.Cores.{StandsFor}
+use Rattle.kube_core.specs.Cores.{Parts, StandsFor, with_room}
 use Rattle.kube_step.specs.Turns.{requests_first}
+use Rattle.kube_step.proofs.Asking.{requests-front, stands-with-room}
+use Rattle.kube_step.proofs.Finishing.{all-left}
 use Rattle.kube_step.proofs.turn.request_first.Goals as goal
 
 pub loop-reference-init : goal.loop-reference-init
@@ -51,3 +54,38 @@ returns-clause-stands g c world es s =
     subst (λ us. StandsFor type_of meta world us c.loop-reference.core)
     (append_assoc es (reload_events at c.args.reload) (map (Requested at) (map (reference_of type_of) c.loop-reference.yielded)) ∙ ap (λ rs. es ++ requests_first at c.args.reload (map (reference_of type_of) rs)) is)
     (c.loop-reference.invariant.stands world es s)
+
+pub returns-in_err-reload_where-clause-left : goal.returns-in_err-reload_where-clause-left
+returns-in_err-reload_where-clause-left g c =
+    let type_of = g.K.Resource.type_of in
+    let meta = g.K.Resource.meta_of in
+    let p = err_from_is_err_and c.from_residual.result c.from_residual.ensures.1 in
+    rw p.1 (
+      [],
+      (requests_first c.args.at.0 c.args.reload (map (reference_of type_of) c.args.on), refl),
+      λ world es s.
+          subst (λ (q : Parts _ _). StandsFor type_of meta world (es ++ []) q) (sym c.in_err-reload_where.ensures.left)
+          (subst (λ us. StandsFor type_of meta world us (with_room c.args.core.now c.reload_where.new.core.pending.schedule.spare)) (sym (append-nil es))
+          (stands-with-room type_of meta world es c.args.core.now c.reload_where.new.core.pending.schedule.spare s)),
+    )
+
+pub returns-in_err-request-clause-left : goal.returns-in_err-request-clause-left
+returns-in_err-request-clause-left g c =
+    let type_of = g.K.Resource.type_of in
+    let meta = g.K.Resource.meta_of in
+    let at = c.args.at.0 in
+    let gives = c.into_iter-reference-iterator.ensures.into_iter_gives in
+    let road = YieldsList-from_vec {s = c.into_iter-reference-iterator.result} c.from-reference-items.result.items gives.0 (gives.1 ∙ c.from-reference-items.result.ok.0) in
+    let rs = c.loop-reference.yielded in
+    let all = c.args.on in
+    let rest = drop (length rs) all in
+    let split = all-left all c.from-reference-items.result.items rs c.from-reference-items.ensures (YieldsList-so_far road rs c.loop-reference.reference-iterator c.loop-reference.yielded_by) in
+    let qs = map (reference_of type_of) rs in
+    let p = err_from_is_err_and c.from_residual-in_err-request.result c.from_residual-in_err-request.ensures.1 in
+    rw p.1 (
+      requests_first at c.args.reload qs,
+      requests-front at c.args.reload qs (map (reference_of type_of) rest) (map (reference_of type_of) all) (ap (map (reference_of type_of)) split ∙ map-append (reference_of type_of) rs rest),
+      λ world es s.
+          subst (λ (q : Parts _ _). StandsFor type_of meta world (es ++ requests_first at c.args.reload qs) q) (sym c.in_err-request.ensures.err)
+          (subst (λ us. StandsFor type_of meta world us c.loop-reference.core) (append_assoc es (reload_events at c.args.reload) (map (Requested at) qs)) (c.loop-reference.invariant.stands world es s)),
+    )

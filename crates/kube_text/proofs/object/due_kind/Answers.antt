@@ -5,6 +5,8 @@ use Rattle.kube_text.specs.Fields.{left}
 use Rattle.kube_text.specs.Shown.{member_tokens, member_if}
 use Rattle.kube_text.specs.declared.object.Next.TheVariants as nexts
 use Rattle.kube_text.proofs.Fields.{front}
+use Rattle.kube_text.proofs.Fronts.{later_shown, members_more, more_yet}
+use Rattle.kube_text.proofs.Sinks.{on_err}
 use Rattle.kube_text.proofs.object.due_kind.Goals as goal
 
 pub returns-clause-members : goal.returns-clause-members
@@ -16,3 +18,25 @@ returns-clause-members c rest b =
     (front (codes "kind") (option_map (λ t. string_data t.kind) o.types) (left nexts.Metadata o) name rest b (sym c.if-not-is_due.ensures) refl)
     ∙ ap (λ x. c.args.out.now.tokens ++ member_tokens (member_if (codes "kind") (option_map (λ t. string_data t.kind) x) after)) (sym c.types.ensures)
     ∙ c.in_ok-show_kind.ensures.members after ∙ c.in_ok-next.ensures.members rest b
+
+pub returns-in_err-show_kind-clause-front : goal.returns-in_err-show_kind-clause-front
+returns-in_err-show_kind-clause-front c rest b =
+    let o = c.args.object.now in
+    let name = option_copied c.args.name in
+    let after = with_fields (left nexts.Metadata o) rest in
+    let shown = front (codes "kind") (option_map (λ t. string_data t.kind) o.types) (left nexts.Metadata o) name rest b (sym c.if-not-is_due.ensures) refl
+    ∙ ap (λ x. member_if (codes "kind") (option_map (λ t. string_data t.kind) x) after) (sym c.types.ensures) in
+    rw shown (on_err _ _ (c.in_err-show_kind.ensures.front after))
+
+pub returns-in_err-next-clause-front : goal.returns-in_err-next-clause-front
+returns-in_err-next-clause-front c rest b =
+    let o = c.args.object.now in
+    let name = option_copied c.args.name in
+    let after = with_fields (left nexts.Metadata o) rest in
+    let shown = front (codes "kind") (option_map (λ t. string_data t.kind) o.types) (left nexts.Metadata o) name rest b (sym c.if-not-is_due.ensures) refl
+    ∙ ap (λ x. member_if (codes "kind") (option_map (λ t. string_data t.kind) x) after) (sym c.types.ensures) in
+    rw shown (on_err _ _ (later_shown _ _ _ _ _ c.in_ok-show_kind.ensures.members (c.in_err-next.ensures.front rest b)))
+
+pub returns-clause-more : goal.returns-clause-more
+returns-clause-more c =
+    more_yet _ _ _ (members_more _ _ _ c.in_ok-show_kind.ensures.members) c.in_ok-next.ensures.more

@@ -1,5 +1,7 @@
 use Rattle.std.proofs.Common.{◌∙◌, codes}
 use Rattle.serde_json.specs.Data.{member, string, number, unsigned}
+use Rattle.kube_text.proofs.Fronts.{later_shown}
+use Rattle.kube_text.proofs.Sinks.{on_err}
 use Rattle.kube_text.proofs.refusal.show_turn.Goals as goal
 
 pub returns-clause-members : goal.returns-clause-members
@@ -9,3 +11,16 @@ returns-clause-members c rest =
     c.in_ok-text_member.ensures.members r1
     ∙ c.in_ok-member.ensures.members r2
     ∙ c.in_ok-text_member-2.ensures.members rest
+
+pub returns-in_err-member-clause-front : goal.returns-in_err-member-clause-front
+returns-in_err-member-clause-front c rest =
+    on_err _ _
+    (later_shown _ _ _ _ _ c.in_ok-text_member.ensures.members
+    (c.in_err-member.ensures.front _))
+
+pub returns-in_err-text_member-2-clause-front : goal.returns-in_err-text_member-2-clause-front
+returns-in_err-text_member-2-clause-front c rest =
+    on_err _ _
+    (later_shown _ _ _ _ _ c.in_ok-text_member.ensures.members
+    (later_shown _ _ _ _ _ c.in_ok-member.ensures.members
+    (c.in_err-text_member-2.ensures.front _)))

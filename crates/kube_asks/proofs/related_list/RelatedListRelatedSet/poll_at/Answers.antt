@@ -1,10 +1,10 @@
-use Rattle.std.proofs.Common.{◌<◌, ◌++◌, ◌∷◌, [], length, sym, subst, arith}
+use Rattle.std.proofs.Common.{◌<◌, ◌++◌, ◌∷◌, [], length, sym, subst, ◌∙◌, arith}
 use Rattle.std.proofs.lemmas.List.{length-map}
 use Rattle.std.proofs.lemmas.Result.{IfOk-weaker}
 use Rattle.kube_watch.specs.Polls.{dated_now}
 use Rattle.kube_asks.specs.Sources.{IsRelatedNext}
 use Rattle.kube_turn.specs.Views.{exchange_of}
-use Rattle.kube_asks.proofs.PlaceLemmas.{holds-get, holds-set, holds-other, map-set, changes-set, feed-get}
+use Rattle.kube_asks.proofs.PlaceLemmas.{holds-get, holds-set, holds-other, map-set, changes-set, feed-get, set-same, item-same, told-get, told-set, told-other}
 use Rattle.kube_asks.proofs.related_list.RelatedListRelatedSet.poll_at.Goals as goal
 
 pub returns-clause-feeds : goal.returns-clause-feeds
@@ -57,3 +57,21 @@ returns-clause-lost g c e =
     let ts = c.args.self.now.items.items in
     let here : c.args.place < length ts = omega (arith, length-map ts g.T.Related.settings) in
     changes-set (λ t u. g.T.Related.loses t c.args.now.0 u) ts c.args.place c.poll_unit.new.self c.index_mut-source.result.now here c.index_mut-source.ensures.value (c.poll_unit.ensures.lost e)
+
+pub returns-clause-fault : goal.returns-clause-fault
+returns-clause-fault g c =
+    let ts = c.args.self.now.items.items in
+    let here : c.args.place < length ts = omega (arith, length-map ts g.T.Related.settings) in
+    told-set g.T.Related.fault ts c.args.place c.poll_unit.new.self here ∙ c.poll_unit.ensures.fault
+
+pub returns-clause-after : goal.returns-clause-after
+returns-clause-after g c f e =
+    let ts = c.args.self.now.items.items in
+    let here : c.args.place < length ts = omega (arith, length-map ts g.T.Related.settings) in
+    let u = c.index_mut-source.result.now in
+    let after = c.poll_unit.ensures.after f (sym (told-get g.T.Related.fault ts c.args.place u here c.index_mut-source.ensures.value) ∙ e) in
+    let same = item-same c.args.self.now.items c.args.place c.poll_unit.new.self (set-same ts c.args.place c.poll_unit.new.self u c.index_mut-source.ensures.value after.1) in
+    (after.0, λ j. record { items = same j })
+
+pub returns-clause-other_faults : goal.returns-clause-other_faults
+returns-clause-other_faults g c p n = told-other g.T.Related.fault c.args.self.now.items.items c.args.place p c.poll_unit.new.self n

@@ -1,13 +1,14 @@
 use Rattle.std.proofs.Common.{◌++◌, ◌∷◌, [], ap, ◌∙◌}
+use Rattle.std.specs.Arc.{arc_value}
 use Rattle.std.proofs.lemmas.Result.{err_from_is_err_and}
-use Rattle.kube_turn.specs.Records.{turn_of}
+use Rattle.kube_step.specs.Policies.{Answers}
 use Rattle.kube_control.proofs.Runs.{nothing-lost}
 use Rattle.kube_control.proofs.controller.turns.add_turn.Goals as goal
 
 pub returns-in_err-reserve_one-clause-broken : goal.returns-in_err-reserve_one-clause-broken
 returns-in_err-reserve_one-clause-broken g c =
     let p = err_from_is_err_and c.from_residual.result c.from_residual.ensures.1 in
-    rw (p.1, p.2) (λ w h k. nothing-lost g.R.RootSource g.S.RelatedSet g.B.Backoff g.R.Object.Resource w h (turn_of g.R.Object.Resource.type_of c.args.turn) c.args.controller.now (g.Rc.Reconciler.handed c.args.reconciler.now) k)
+    rw (p.1, p.2) (λ w h k. nothing-lost g.R.RootSource g.S.RelatedSet g.B.Backoff g.R.Object.Resource w (Answers g.P.Fn c.args.error_policy.now (arc_value c.args.context.now)) h c.args.turn c.args.controller.now (g.Rc.Reconciler.handed c.args.reconciler.now) k)
 
 pub returns-clause-next : goal.returns-clause-next
 returns-clause-next g c going =

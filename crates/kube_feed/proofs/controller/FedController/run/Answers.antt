@@ -1,6 +1,7 @@
 use Rattle.std.proofs.Common.{refl, ap, ◌∙◌}
-use Rattle.kube_turn.specs.Records.{turns_of}
+use Rattle.std.specs.Arc.{arc_value}
 use Rattle.kube_asks.specs.declared.asks.AskFault.TheVariants as faults
+use Rattle.kube_step.specs.Policies.{Answers}
 use Rattle.kube_feed.specs.Fed.{Feeding}
 use Rattle.kube_feed.proofs.Runs.{broken-same, never-spent}
 use Rattle.kube_feed.proofs.Stops.{faulted-now, refused-now}
@@ -39,7 +40,7 @@ returns-in-Err-Faulted-Unnamed-clause-unnamed g c =
             made = q.made;
             recorded = q.recorded;
             broken =
-                broken-same g.R.RootSource g.S.RelatedSet g.B.Backoff g.R.Object.Resource w (faults.Unnamed arm.source) h (turns_of g.R.Object.Resource.type_of c.args.turns.items) c.args.self.now q.made c.take_turns.new.controller c.fail.new.self (g.Rc.Reconciler.handed c.args.reconciler.now) (g.Rc.Reconciler.handed c.take_turns.new.reconciler) (ap (λ (z : Feeding _ _ _ _ _). z.asks) c.fail.ensures.spent) (ap (λ (z : Feeding _ _ _ _ _). z.reader) c.fail.ensures.spent) q.broken;
+                broken-same g.R.RootSource g.S.RelatedSet g.R.Object.Resource (Answers g.P.Fn c.args.error_policy.now (arc_value c.args.context)) w h c.args.turns.items c.args.self.now q.made c.take_turns.new.controller (g.Rc.Reconciler.handed c.args.reconciler.now) (g.Rc.Reconciler.handed c.take_turns.new.reconciler) (faults.Unnamed arm.source) c.fail.new.self (ap (λ (z : Feeding _ _ _ _ _). z.asks) c.fail.ensures.spent) (ap (λ (z : Feeding _ _ _ _ _). z.reader) c.fail.ensures.spent) q.broken;
           },
     )
 
@@ -61,7 +62,7 @@ returns-in-Err-Faulted-NoMemory-clause-no_memory g c =
       made = q.made;
       recorded = q.recorded;
       broken =
-          broken-same g.R.RootSource g.S.RelatedSet g.B.Backoff g.R.Object.Resource w faults.NoMemory h (turns_of g.R.Object.Resource.type_of c.args.turns.items) c.args.self.now q.made c.take_turns.new.controller c.fail-in-Err-Faulted-NoMemory.new.self (g.Rc.Reconciler.handed c.args.reconciler.now) (g.Rc.Reconciler.handed c.take_turns.new.reconciler) (ap (λ (z : Feeding _ _ _ _ _). z.asks) c.fail-in-Err-Faulted-NoMemory.ensures.spent) (ap (λ (z : Feeding _ _ _ _ _). z.reader) c.fail-in-Err-Faulted-NoMemory.ensures.spent) q.broken;
+          broken-same g.R.RootSource g.S.RelatedSet g.R.Object.Resource (Answers g.P.Fn c.args.error_policy.now (arc_value c.args.context)) w h c.args.turns.items c.args.self.now q.made c.take_turns.new.controller (g.Rc.Reconciler.handed c.args.reconciler.now) (g.Rc.Reconciler.handed c.take_turns.new.reconciler) faults.NoMemory c.fail-in-Err-Faulted-NoMemory.new.self (ap (λ (z : Feeding _ _ _ _ _). z.asks) c.fail-in-Err-Faulted-NoMemory.ensures.spent) (ap (λ (z : Feeding _ _ _ _ _). z.reader) c.fail-in-Err-Faulted-NoMemory.ensures.spent) q.broken;
     })
 
 pub returns-clause-something_before : goal.returns-clause-something_before
@@ -73,4 +74,4 @@ returns-clause-no_memory g c =
     let b = faulted-now arm.field-0 arm.field-0-0 faults.Spent _ arm.field-0-is arm.field-0-0-is arm.ensures.broken in
     rw (c.fail-in-Err-Faulted-Spent.ensures.error, c.trace_of-trace-in-Err-Faulted-Spent.ensures) (λ w h s.
     let q = b w h s in
-    absurd (never-spent g.R.RootSource g.S.RelatedSet g.B.Backoff g.R.Object.Resource w h (turns_of g.R.Object.Resource.type_of c.args.turns.items) c.args.self.now q.made c.take_turns.new.controller (g.Rc.Reconciler.handed c.args.reconciler.now) (g.Rc.Reconciler.handed c.take_turns.new.reconciler) q.broken))
+    absurd (never-spent g.R.RootSource g.S.RelatedSet g.R.Object.Resource (Answers g.P.Fn c.args.error_policy.now (arc_value c.args.context)) w h c.args.turns.items c.args.self.now q.made c.take_turns.new.controller (g.Rc.Reconciler.handed c.args.reconciler.now) (g.Rc.Reconciler.handed c.take_turns.new.reconciler) q.broken))

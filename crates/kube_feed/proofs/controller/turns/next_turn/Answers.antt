@@ -1,19 +1,22 @@
 use Rattle.std.proofs.Common.{refl, sym, ap, subst, ◌∙◌, option_map}
+use Rattle.std.specs.Arc.{arc_value}
 use Rattle.std.proofs.lemmas.Result.{err_from_is_err_and}
 use Rattle.kube_model.specs.Requests.{events_of}
 use Rattle.kube_model.specs.Takes.{running}
 use Rattle.kube_history.specs.CoreWorld.{core_world}
 use Rattle.kube_turn.specs.Records.{record_of, turn_of}
 use Rattle.kube_step.specs.Errors.{refusal_of}
+use Rattle.kube_step.specs.Policies.{Answers}
 use Rattle.kube_feed.specs.Fed.{Feeding, StandsFor}
 use Rattle.kube_feed.specs.Reads.{IsReadIn}
+use Rattle.kube_feed.specs.Runs.{OfValid}
 use Rattle.kube_feed.proofs.Runs.{broken-of, next-of, nothing-lost}
 use Rattle.kube_feed.proofs.controller.turns.next_turn.Goals as goal
 
 pub returns-in_err-why-clause-broken : goal.returns-in_err-why-clause-broken
 returns-in_err-why-clause-broken g c =
     let p = err_from_is_err_and c.from_residual.result c.from_residual.ensures.1 in
-    rw (p.1, p.2) (λ w h k. nothing-lost g.R.RootSource g.S.RelatedSet g.B.Backoff g.R.Object.Resource w h (turn_of g.R.Object.Resource.type_of c.args.turn) c.args.controller.now (g.Rc.Reconciler.handed c.args.reconciler.now) k)
+    rw (p.1, p.2) (λ w h k. nothing-lost g.R.RootSource g.S.RelatedSet g.B.Backoff g.R.Object.Resource w (Answers g.P.Fn c.args.error_policy.now (arc_value c.args.context.now)) h c.args.turn c.args.controller.now (g.Rc.Reconciler.handed c.args.reconciler.now))
 
 pub returns-in-Some-clause-refused : goal.returns-in-Some-clause-refused
 returns-in-Some-clause-refused g c = (
@@ -27,12 +30,12 @@ returns-in-Some-clause-refused g c = (
 pub returns-in_err-record-clause-broken : goal.returns-in_err-record-clause-broken
 returns-in_err-record-clause-broken g c =
     let p = err_from_is_err_and c.from_residual-in_err-record.result c.from_residual-in_err-record.ensures.1 in
-    let before = c.in_err-record.ensures.handed_before in
+    let e = c.in_err-record.ensures.ended in
     rw (p.1, p.2) (λ w h now.
     let k = subst (StandsFor g.R.RootSource g.S.RelatedSet g.B.Backoff g.R.Object.Resource w h) (sym c.controller.view_is) now in
     let valid = sym (c.in_ok-why.ensures.why (core_world w) (events_of w h) (running h) h k.parts.waits refl k.last) ∙ ap (option_map refusal_of) c.in_default.is in
-    broken-of g.R.RootSource g.S.RelatedSet g.B.Backoff g.R.Object.Resource w _ h (turn_of g.R.Object.Resource.type_of c.args.turn) _ c.args.controller.now c.take_turn.new.asks.root c.take_turn.new.asks.related
-    c.take_turn.new.parts.reader (g.Rc.Reconciler.handed c.args.reconciler.now) (g.Rc.Reconciler.handed c.take_turn.new.reconciler) before.0 c.controller.view_is valid (c.in_err-record.ensures.ended w h k.parts valid) (before.2 w h k.parts valid) before.1)
+    broken-of g.R.RootSource g.S.RelatedSet g.B.Backoff g.R.Object.Resource w (Answers g.P.Fn c.args.error_policy.now (arc_value c.args.context.now)) _ h c.args.turn _ c.args.controller.now c.take_turn.new.asks.root c.take_turn.new.asks.related
+    c.take_turn.new.parts.reader (g.Rc.Reconciler.handed c.args.reconciler.now) (g.Rc.Reconciler.handed c.take_turn.new.reconciler) c.controller.view_is (OfValid valid e.0 e.1 (e.2 w h k.parts valid)))
 
 pub returns-clause-next : goal.returns-clause-next
 returns-clause-next g c w h now going =

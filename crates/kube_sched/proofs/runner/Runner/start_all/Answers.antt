@@ -2,7 +2,8 @@ use Rattle.std.proofs.Common.{ap, sym, subst, ◌∙◌, ◌≡◌, true}
 use Rattle.std.specs.Fn.{CalledAt, always_mut}
 use Rattle.kube_sched.specs.declared.asks.Ending.TheVariants.{Filled, Waits, Ends}
 use Rattle.kube_sched.specs.Runs.{Runs, has_room, ending_by}
-use Rattle.kube_sched.proofs.Runs.{starting-none, starting-ends, starting-more, starting-last, may-room, both-right}
+use Rattle.std.proofs.lemmas.Result.{err_from_is_err_and}
+use Rattle.kube_sched.proofs.Runs.{starting-none, starting-ends, starting-more, starting-last, starting-lost, starting-gone, may-room, both-right}
 use Rattle.kube_sched.proofs.runner.Runner.start_all.Goals as goal
 
 pub loop-answer-init : goal.loop-answer-init
@@ -67,3 +68,16 @@ loop-answer-preserved g c =
           (sym c.has_room.ensures ∙ c.if-not-has_room.false);
       call = c.in_ok-start-in-Item.ensures.call;
     }
+
+pub returns-in_err-answer-clause-lost : goal.returns-in_err-answer-clause-lost
+returns-in_err-answer-clause-lost g c =
+    let p = err_from_is_err_and c.from_residual.result c.from_residual.ensures.1 in
+    rw p.1 (starting-lost g.T.PartialEq.eq g.R.Requests.told (CalledAt g.MkF.FnMut) c.args.now c.args.fuel c.loop-answer.left c.args.self.now c.loop-answer.self
+    c.poll_scheduler.new.self c.loop-answer.invariant.starting c.in_err-answer.ensures.lost c.in_err-answer.ensures.rest)
+
+pub returns-in_err-start-in-Item-clause-lost : goal.returns-in_err-start-in-Item-clause-lost
+returns-in_err-start-in-Item-clause-lost g c =
+    let p = err_from_is_err_and c.from_residual-in_err-start-in-Item.result c.from_residual-in_err-start-in-Item.ensures.1 in
+    rw p.1 (starting-gone g.T.PartialEq.eq g.R.Requests.told (CalledAt g.MkF.FnMut) c.args.now c.args.fuel c.loop-answer.left c.in_ok-answer.more c.args.self.now c.loop-answer.self
+    c.poll_scheduler.new.self c.start.new.self c.in_ok-answer.answer c.in-Item.message c.loop-answer.invariant.starting
+    (record { counted = c.in_ok-answer.ensures.polled; passes = c.in_ok-answer.ensures.passes; rest = c.in_ok-answer.ensures.rest }) c.in-Item.is c.in_err-start-in-Item.ensures.lost)

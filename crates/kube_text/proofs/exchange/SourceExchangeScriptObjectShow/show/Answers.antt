@@ -3,6 +3,8 @@ use Rattle.kube_text.specs.TraceText.{exchange_data, exchange_members}
 use Rattle.kube_turn.specs.Views.{exchange_of}
 use Rattle.kube_object.specs.Named.{named_type}
 use Rattle.kube_text.proofs.Shown.{object_shown}
+use Rattle.kube_text.proofs.Fronts.{object_front, end_front}
+use Rattle.kube_text.proofs.Sinks.{on_err}
 use Rattle.kube_text.proofs.exchange.SourceExchangeScriptObjectShow.show.Goals as goal
 
 pub returns-clause-tokens : goal.returns-clause-tokens
@@ -11,3 +13,13 @@ returns-clause-tokens c =
     object_shown c.args.out.now.tokens c.begin_object.new.self.tokens c.show_members.new.out.tokens c.end_object.new.self.tokens
     (exchange_members (exchange_of named_type c.args.self.now) no_members)
     c.in_ok-begin_object.ensures.ok (c.in_ok-show_members.ensures.members no_members) c.in_ok-end_object.ensures.ok
+
+pub returns-in_err-show_members-clause-front : goal.returns-in_err-show_members-clause-front
+unfolding exchange_data
+returns-in_err-show_members-clause-front c =
+    on_err _ _ (object_front _ _ _ _ c.in_ok-begin_object.ensures.ok (c.in_err-show_members.ensures.front no_members))
+
+pub returns-in_err-end_object-clause-front : goal.returns-in_err-end_object-clause-front
+unfolding exchange_data
+returns-in_err-end_object-clause-front c =
+    on_err _ _ (end_front _ _ _ _ _ c.in_ok-begin_object.ensures.ok c.in_ok-show_members.ensures.members c.in_err-end_object.ensures.err)

@@ -4,6 +4,8 @@ use Rattle.kube_text.specs.Fields.{meta_members}
 use Rattle.kube_text.specs.Shown.{tokens_of}
 use Rattle.kube_text.proofs.Fields.{meta_in_order}
 use Rattle.kube_text.proofs.Shown.{object_shown}
+use Rattle.kube_text.proofs.Fronts.{object_front, end_front}
+use Rattle.kube_text.proofs.Sinks.{on_err}
 use Rattle.kube_text.proofs.metadata.ObjectMetaShow.show.Goals as goal
 
 pub returns-clause-tokens : goal.returns-clause-tokens
@@ -12,3 +14,13 @@ returns-clause-tokens c =
     (meta_members c.args.self.now no_members)
     c.in_ok-begin_object.ensures.ok (c.in_ok-show_members.ensures.members no_members) c.in_ok-end_object.ensures.ok
     ∙ ap (λ d. c.args.out.now.tokens ++ tokens_of d) (sym (meta_in_order c.args.self.now))
+
+pub returns-in_err-show_members-clause-front : goal.returns-in_err-show_members-clause-front
+returns-in_err-show_members-clause-front c =
+    rw (meta_in_order c.args.self.now)
+    (on_err _ _ (object_front _ _ _ _ c.in_ok-begin_object.ensures.ok (c.in_err-show_members.ensures.front no_members)))
+
+pub returns-in_err-end_object-clause-front : goal.returns-in_err-end_object-clause-front
+returns-in_err-end_object-clause-front c =
+    rw (meta_in_order c.args.self.now)
+    (on_err _ _ (end_front _ _ _ _ _ c.in_ok-begin_object.ensures.ok c.in_ok-show_members.ensures.members c.in_err-end_object.ensures.err))

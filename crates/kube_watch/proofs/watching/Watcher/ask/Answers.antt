@@ -44,7 +44,7 @@ on_any (Err error) p = p
 pub returns-in_err-ready-clause-lost : goal.returns-in_err-ready-clause-lost
 returns-in_err-ready-clause-lost g c none =
     on_any c.from_residual.result
-    (lost-quiet _ c.args.now.0 c.loop-asked._asked c.args.fuel c.args.self.now c.loop-asked.self c.fill.new.self (c.loop-asked.invariant.quiet none) c.loop-asked-test.true c.in_err-ready.ensures.lost)
+    (lost-quiet _ c.args.now.0 c.loop-asked._asked c.args.fuel c.args.self.now c.loop-asked.self c.fill.new.self (c.loop-asked.invariant.quiet none) c.loop-asked-test.true none c.in_err-ready.ensures.lost)
 
 pub returns-clause-asked : goal.returns-clause-asked
 returns-clause-asked g c none =

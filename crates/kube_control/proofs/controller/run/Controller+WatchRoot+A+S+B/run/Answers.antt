@@ -1,4 +1,5 @@
 use Rattle.std.proofs.Common.{◌++◌, map, length, take, refl, ap, ◌∙◌}
+use Rattle.std.specs.Arc.{arc_value}
 use Rattle.kube_model.specs.Traces.{steps, unread}
 use Rattle.kube_history.proofs.Endings.{each-shuts}
 use Rattle.kube_turn.specs.Records.{records_of, turns_of}
@@ -6,7 +7,7 @@ use Rattle.kube_watch.specs.Calls.{version_of}
 use Rattle.kube_watch.specs.Stands.{settings_in}
 use Rattle.kube_asks.proofs.Names.{recorded-named}
 use Rattle.kube_asks.specs.declared.asks.AskFault.TheVariants as faults
-use Rattle.kube_step.specs.Policies.{answered_by}
+use Rattle.kube_step.specs.Policies.{Answers, answered_by}
 use Rattle.kube_control.specs.Controllers.{Controlling}
 use Rattle.kube_control.proofs.Budgets.{each-keeps}
 use Rattle.kube_control.proofs.Histories.{each-may, each-settled}
@@ -151,7 +152,7 @@ returns-in-Err-Faulted-Unnamed-clause-unnamed g c =
           let k =
           watching-is _ g.S.RelatedSet g.B.Backoff g.A.Value.Resource w h c.args.self.now s (settings_in c.args.self.now.asks.root.watcher) refl
           (λ named own at x old new p. recorded-named (version_of g.A.Value.Resource.meta_of) g.A.Value.Resource.meta_of w named own x p.call.raw p.call.recorded.answer p.call.recorded.items p.named) in
-          broken-same _ g.S.RelatedSet g.B.Backoff g.A.Value.Resource w (faults.Unnamed c.in-Err-Faulted-Unnamed.source) h (turns_of g.A.Value.Resource.type_of c.args.turns.items) c.args.self.now (records_of g.A.Value.Resource.type_of c.take_turns.new.records.items) c.take_turns.new.controller c.fail.new.self (g.Rc.Reconciler.handed c.args.reconciler.now) (g.Rc.Reconciler.handed c.take_turns.new.reconciler) (ap (λ (z : Controlling _ _ _ _ _). z.asks) c.fail.ensures.spent) (ap (λ (z : Controlling _ _ _ _ _). z.core) c.fail.ensures.spent) (b w h k),
+          broken-same _ g.S.RelatedSet g.A.Value.Resource (Answers g.P.Fn c.args.error_policy.now (arc_value c.args.context)) w h c.args.turns.items c.args.self.now (records_of g.A.Value.Resource.type_of c.take_turns.new.records.items) c.take_turns.new.controller (g.Rc.Reconciler.handed c.args.reconciler.now) (g.Rc.Reconciler.handed c.take_turns.new.reconciler) (faults.Unnamed c.in-Err-Faulted-Unnamed.source) c.fail.new.self (ap (λ (z : Controlling _ _ _ _ _). z.asks) c.fail.ensures.spent) (ap (λ (z : Controlling _ _ _ _ _). z.core) c.fail.ensures.spent) (b w h k),
     )
 
 pub returns-in-Err-Faulted-Unnamed-clause-policy_before : goal.returns-in-Err-Faulted-Unnamed-clause-policy_before
@@ -173,7 +174,7 @@ returns-in-Err-Faulted-NoMemory-clause-no_memory g c =
     let k =
     watching-is _ g.S.RelatedSet g.B.Backoff g.A.Value.Resource w h c.args.self.now s (settings_in c.args.self.now.asks.root.watcher) refl
     (λ named own at x old new p. recorded-named (version_of g.A.Value.Resource.meta_of) g.A.Value.Resource.meta_of w named own x p.call.raw p.call.recorded.answer p.call.recorded.items p.named) in
-    broken-same _ g.S.RelatedSet g.B.Backoff g.A.Value.Resource w faults.NoMemory h (turns_of g.A.Value.Resource.type_of c.args.turns.items) c.args.self.now (records_of g.A.Value.Resource.type_of c.take_turns.new.records.items) c.take_turns.new.controller c.fail-in-Err-Faulted-NoMemory.new.self (g.Rc.Reconciler.handed c.args.reconciler.now) (g.Rc.Reconciler.handed c.take_turns.new.reconciler) (ap (λ (z : Controlling _ _ _ _ _). z.asks) c.fail-in-Err-Faulted-NoMemory.ensures.spent) (ap (λ (z : Controlling _ _ _ _ _). z.core) c.fail-in-Err-Faulted-NoMemory.ensures.spent) (b w h k))
+    broken-same _ g.S.RelatedSet g.A.Value.Resource (Answers g.P.Fn c.args.error_policy.now (arc_value c.args.context)) w h c.args.turns.items c.args.self.now (records_of g.A.Value.Resource.type_of c.take_turns.new.records.items) c.take_turns.new.controller (g.Rc.Reconciler.handed c.args.reconciler.now) (g.Rc.Reconciler.handed c.take_turns.new.reconciler) faults.NoMemory c.fail-in-Err-Faulted-NoMemory.new.self (ap (λ (z : Controlling _ _ _ _ _). z.asks) c.fail-in-Err-Faulted-NoMemory.ensures.spent) (ap (λ (z : Controlling _ _ _ _ _). z.core) c.fail-in-Err-Faulted-NoMemory.ensures.spent) (b w h k))
 
 pub returns-in-Err-Faulted-NoMemory-clause-policy_before : goal.returns-in-Err-Faulted-NoMemory-clause-policy_before
 returns-in-Err-Faulted-NoMemory-clause-policy_before g c =
@@ -194,7 +195,7 @@ returns-clause-no_memory g c =
     let k =
     watching-is _ g.S.RelatedSet g.B.Backoff g.A.Value.Resource w h c.args.self.now s (settings_in c.args.self.now.asks.root.watcher) refl
     (λ named own at x old new p. recorded-named (version_of g.A.Value.Resource.meta_of) g.A.Value.Resource.meta_of w named own x p.call.raw p.call.recorded.answer p.call.recorded.items p.named) in
-    absurd (never-spent _ g.S.RelatedSet g.B.Backoff g.A.Value.Resource w h (turns_of g.A.Value.Resource.type_of c.args.turns.items) c.args.self.now (records_of g.A.Value.Resource.type_of c.take_turns.new.records.items) c.take_turns.new.controller (g.Rc.Reconciler.handed c.args.reconciler.now) (g.Rc.Reconciler.handed c.take_turns.new.reconciler) (b w h k)))
+    absurd (never-spent _ g.S.RelatedSet g.A.Value.Resource (Answers g.P.Fn c.args.error_policy.now (arc_value c.args.context)) w h c.args.turns.items c.args.self.now (records_of g.A.Value.Resource.type_of c.take_turns.new.records.items) c.take_turns.new.controller (g.Rc.Reconciler.handed c.args.reconciler.now) (g.Rc.Reconciler.handed c.take_turns.new.reconciler) (b w h k)))
 
 pub returns-clause-policy_before : goal.returns-clause-policy_before
 returns-clause-policy_before g c =

@@ -1,0 +1,6 @@
+use Rattle.kube_text.proofs.Sinks.{on_err}
+use Rattle.kube_text.proofs.object.show_kind.Goals as goal
+
+pub returns-in_err-member-in-Some-clause-front : goal.returns-in_err-member-in-Some-clause-front
+returns-in_err-member-in-Some-clause-front c rest =
+    rw c.in-Some.is (on_err _ _ (c.in_err-member-in-Some.ensures.front rest))
