@@ -21,4 +21,4 @@ returns-in_err-end_array-clause-front g c =
     let l = c.loop-value in
     rw (sym c.as_slice-value-items.ensures)
     (on_err _ _ (list_front _ _ _ _ c.in_ok-begin_array.ensures.ok
-    (due_shown _ _ _ _ _ l.invariant.2 (sym l.invariant.1) (none_shown _ _ _ c.in_err-end_array.ensures.err))))
+    (due_shown _ _ _ _ _ l.invariant.2 (sym {b = c.begin_array.new.self.tokens ++ item_tokens (map g.T.Show.data_of (map g.T.Show.seen c.as_slice-value-items.result.now))} l.invariant.1) (none_shown _ _ _ c.in_err-end_array.ensures.err))))
