@@ -1,5 +1,5 @@
 -- Truth values.
-use Rattle.std.proofs.Common.{◌≡◌, ℕ, zero, suc, ◌+◌, ◌-◌, ◌<◌, ◌≤◌, nat_lt, Bool, true, false, ◌&&◌, ◌||◌, cond, Some, List, [], ◌∷◌, ◌++◌, map, Result, Ok, Err, IfOk, OnOk, refl, sym, ap, ◌∙◌, append_assoc, arith}
+use Rattle.std.proofs.Common.{◌≡◌, ℕ, zero, suc, ◌+◌, ◌-◌, ◌<◌, ◌≤◌, nat_lt, Bool, true, false, ◌&&◌, ◌||◌, cond, Some, List, [], ◌∷◌, ◌++◌, map, Result, Ok, Err, IfOk, OnOk, refl, sym, ap, ◌∙◌, append_assoc, append-nil, arith}
 use Rattle.std.proofs.lemmas.Bool.{ltb-true}
 use Rattle.std.specs.List.{find, range_with_len}
 
@@ -56,7 +56,15 @@ suc-pred n h = go n refl
     go (suc m) e = omega (arith, e)
 
 -- one more of a range is done
-pub map-step : {A : Type 0} (f : ℕ → A) (done : List A) (a b : ℕ) → a < b → (done ++ f a ∷ []) ++ map f (range_with_len (a + 1) (b - (a + 1))) ≡ done ++ map f (range_with_len a (b - a))
-map-step f done a b h =
+pub map-step : {A : Type 0} (f : ℕ → A) (done all : List A) (a b : ℕ) → a < b → done ++ map f (range_with_len a (b - a)) ≡ all → (done' : List A) (x : A) → x ≡ f a → done' ≡ done ++ x ∷ []
+    → done' ++ map f (range_with_len (a + 1) (b - (a + 1))) ≡ all
+map-step f done all a b h so done' x is more =
     let n : b - a ≡ suc (b - (a + 1)) = omega (arith, h) in
-    append_assoc done (f a ∷ []) (map f (range_with_len (a + 1) (b - (a + 1)))) ∙ sym (ap (λ m. done ++ map f (range_with_len a m)) n)
+    ap (λ ys. ys ++ map f (range_with_len (a + 1) (b - (a + 1)))) (more ∙ ap (λ y. done ++ y ∷ []) is)
+    ∙ (append_assoc done (f a ∷ []) (map f (range_with_len (a + 1) (b - (a + 1)))) ∙ (sym (ap (λ m. done ++ map f (range_with_len a m)) n) ∙ so))
+
+-- all of it is done
+pub map-done : {A : Type 0} (f : ℕ → A) (done all : List A) (a b : ℕ) → b ≤ a → done ++ map f (range_with_len a (b - a)) ≡ all → done ≡ all
+map-done f done all a b h so =
+    let n : b - a ≡ 0 = omega (arith, h) in
+    sym (append-nil done) ∙ (sym (ap (λ m. done ++ map f (range_with_len a m)) n) ∙ so)

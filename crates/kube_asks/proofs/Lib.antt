@@ -9,6 +9,7 @@ pub mod PlaceLemmas
 pub mod AskedTurn
 -- lemmas on what watched sources give
 pub mod Listings
+pub mod Brought
 pub mod Names
 pub mod Notes
 pub mod Parts

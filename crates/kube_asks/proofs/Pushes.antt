@@ -59,6 +59,13 @@ total-set (m ∷ ns) (suc s) n h = let r = total-set ns s n h in let z : m + tot
 pub total-spent : (ns : List ℕ) (s : ℕ) → nat_lt 0 (slice_index ns s) ≡ true → total (spent_at ns s) < total ns
 total-spent ns s h = total-set ns s (slice_index ns s - 1) (let k = ltb-true 0 (slice_index ns s) h in omega (arith, k))
 
+-- a source that has budget left is one of those with a budget
+pub left-within : (ns : List ℕ) (s : ℕ) → nat_lt 0 (slice_index ns s) ≡ true → s < length ns
+left-within [] zero h = absurd (cc)
+left-within [] (suc s) h = absurd (cc)
+left-within (n ∷ ns) zero h = omega arith
+left-within (n ∷ ns) (suc s) h = let r = left-within ns s h in omega (arith, r)
+
 pub left-of : (a b : Bool) → (a && b) ≡ true → a ≡ true
 left-of true b h = refl
 left-of false b h = absurd (cc)

@@ -86,13 +86,6 @@ abbrev pub IsBrokenAt : {R S : Type 0} → (R → ℕ → R → Type 0) → (S �
 IsBrokenAt root_breaks related_breaks at root related root' related' zero = root_breaks root at root' × (related' ≡ related)
 IsBrokenAt root_breaks related_breaks at root related root' related' (suc place) = related_breaks related place at related' × (root' ≡ root)
 
--- memory was wanting at the source of this number: in its poll, or after it had made an exchange, which isn't kept; all others are as before
-pub data IsLostAt {O R S : Type 0} (root_polls : R → List (Dated O) → ℕ → Exchange O → R → Type 0) (related_polls : S → ℕ → List (Dated O) → ℕ → Exchange O → S → Type 0)
-    (root_loses : R → ℕ → R → Type 0) (related_loses : S → ℕ → ℕ → S → Type 0) (stand : List (Dated O) → Type 0) (at : ℕ) (root : R) (related : S) (root' : R) (related' : S) (source : ℕ) : Type 0 where
-  InItsPoll : IsBrokenAt root_loses related_loses at root related root' related' source → IsLostAt root_polls related_polls root_loses related_loses stand at root related root' related' source
-  AfterItsPoll : (x : Exchange O) → ((ds : List (Dated O)) → stand ds → IsPolledAt root_polls related_polls ds at x root related root' related' source)
-      → IsLostAt root_polls related_polls root_loses related_loses stand at root related root' related' source
-
 -- P holds of the source, where the fault is an item without a name
 abbrev pub IfUnnamed : AskFault → (ℕ → Type 0) → Type 0
 IfUnnamed (Unnamed source) P = P source

@@ -1,6 +1,6 @@
 //! Who is asked next.
 
-ghost use Rattle.std.specs.Prelude.{◌≡◌, ◌≢◌, ◌≤◌, ◌<◌, ◌^◌, ◌+◌, ◌-◌, ◌++◌, ◌∷◌, ◌||◌, [], List, length, map, option_map, OnOk, OnErr, IfOk, IfErr, IsErrOf, IfSome, IsErr, Ok, Err, ℕ, min, true, false, not, slice_index, if◌then◌else◌, nat_lt, Some, None, is_some};
+ghost use Rattle.std.specs.Prelude.{◌≡◌, ◌≢◌, ◌≤◌, ◌<◌, ◌^◌, ◌+◌, ◌-◌, ◌++◌, ◌∷◌, ◌||◌, [], List, length, map, option_map, OnOk, OnErr, IfOk, IfErr, IsErrOf, IfSome, IsErr, Ok, Err, ℕ, min, true, false, not, slice_index, if◌then◌else◌, nat_lt, Some, None, is_some, vec_capacity};
 ghost use Rattle.std.specs.List.{find, range_with_len};
 ghost use Rattle.std.specs.Option.{option_or};
 ghost use Rattle.kube_model.specs.World.{World, is_queue, is_watched, feed_of};
@@ -13,7 +13,7 @@ ghost use Rattle.kube_watch.specs.Polls.{dated_now};
 ghost use Rattle.kube_turn.specs.Views.{exchange_of};
 ghost use Rattle.kube_asks.specs.Sources.{is_stream};
 ghost use Rattle.kube_asks.specs.Kept.{is_marked, with_mark, may_ask_by, is_quiet_by, has_budget_by, stop_by, noted, spent_at, pause_noted, marked_where, is_stream_end as ended, is_root_queue, total, asked_where, reset_where};
-ghost use Rattle.kube_asks.specs.Asking.{AskStands, IsNextAsked, IsWorldOf, Asking, asking_at_first, asking_begun, with_asked, SourcesStand, of_source, with_pause, with_marks, IsPolledAt, IsBrokenAt, IsLostAt, IfUnnamed};
+ghost use Rattle.kube_asks.specs.Asking.{AskStands, IsNextAsked, IsWorldOf, Asking, asking_at_first, asking_begun, with_asked, SourcesStand, of_source, with_pause, with_marks, IsPolledAt, IsBrokenAt, IfUnnamed};
 
 use crate::root::RootSource;
 use crate::set::RelatedSet;
@@ -67,14 +67,15 @@ pub struct Asks<R, S, B> {
     after: u32,
     /// What is left of each source's budget.
     left: Vec<u32>,
-    /// Whether each source told not ready in this turn.
+    /// Whether each source told not ready in this turn. It has room for each source with a budget.
     quiet: Vec<bool>,
-    /// Whether each source is a stream that has ended.
+    /// Whether each source is a stream that has ended. It has room for each source with a budget.
     dry: Vec<bool>,
     spent: bool,
 }
 
 impl<R, S, B> Model for Asks<R, S, B> {
+    ghost use Rattle.std.specs.Prelude.{◌≤◌, length, vec_capacity};
     ghost use Rattle.kube_asks.specs.Asking.{Asking};
 
     ghost Value = { Asking R S B };
@@ -91,6 +92,8 @@ impl<R, S, B> Model for Asks<R, S, B> {
       };
       is_spent = a.spent;
     } };
+
+    ghost invariant = { λ a. (length a.left.items ≤ vec_capacity a.quiet) × (length a.left.items ≤ vec_capacity a.dry) };
 }
 
 /// Whether a source is marked.
@@ -105,7 +108,8 @@ fn is_marked(marks: &[bool], source: u32) -> bool
 
 /// Uses up one of a source's budget.
 fn spend(left: &mut Vec<u32>, source: u32)
-    ensures { left.new.items ≡ spent_at left.old.items source }
+    ensures spent { left.new.items ≡ spent_at left.old.items source }
+    ensures count { length left.new.items ≡ length left.old.items }
 {
     let place = source as usize;
     if place < left.len() {
@@ -113,17 +117,28 @@ fn spend(left: &mut Vec<u32>, source: u32)
     }
 }
 
-/// Marks a source.
-fn mark(marks: &mut Vec<bool>, source: u32) -> Result<(), NoMemory>
-    ensures ok { OnOk result (marks.new.items ≡ with_mark marks.old.items source) }
-    ensures err { OnErr result (marks.new.items ≡ marks.old.items) }
+/// Takes memory for the marks of so many sources.
+fn reserve_marks(marks: &mut Vec<bool>, sources: usize) -> Result<(), NoMemory>
+    ensures items { marks.new.items ≡ marks.old.items }
+    ensures room { OnOk result (sources ≤ vec_capacity marks.new) }
+    ensures capacity { vec_capacity marks.old ≤ vec_capacity marks.new }
+{
+    marks.reserve(sources.saturating_sub(marks.len()))?;
+    Ok(())
+}
+
+/// Marks a source for which there is room. It takes no memory.
+fn mark(marks: &mut Vec<bool>, source: u32)
+    requires { source < vec_capacity marks.old }
+    ensures marked { marks.new.items ≡ with_mark marks.old.items source }
+    ensures capacity { vec_capacity marks.old ≤ vec_capacity marks.new }
 {
     let place = source as usize;
     if marks.len() <= place {
-        marks.resize(place + 1, false)?;
+        // there is room, so it doesn't fail
+        let _grown = marks.resize(place + 1, false);
     }
     marks[place] = true;
-    Ok(())
 }
 
 /// Whether a stream has ended.
@@ -209,23 +224,29 @@ impl<R: RootSource, S: RelatedSet<R::Object>, B: Backoff> Asks<R, S, B> {
         self.given_up
     }
 
-    /// Keeps a new budget in place of what was told of the turn before.
-    fn begin_turn(&mut self, budget: Vec<u32>)
-        ensures { self.new ≡ asking_begun self.old budget.items }
+    /// Keeps a new budget in place of what was told of the turn before. Memory for the marks is taken first.
+    fn begin_turn(&mut self, budget: Vec<u32>) -> Result<(), NoMemory>
+        ensures begun { OnOk result (self.new ≡ asking_begun self.old budget.items) }
+        ensures err { OnErr result (self.new ≡ self.old) }
     {
+        reserve_marks(&mut self.quiet, budget.len())?;
+        reserve_marks(&mut self.dry, budget.len())?;
         self.left = budget;
         self.quiet.clear();
+        Ok(())
     }
 
-    /// Why each of so many sources is asked no more.
-    fn all_stops(&self, alloc: Global, count: u32, shut: bool) -> Result<List<Stop>, NoMemory>
-        ensures { IfOk result (λ stops. stops ≡ map (stop_by self.now.kept shut) (range_with_len 0 count)) }
+    /// Why each of so many sources is asked no more, in a list for which there is room.
+    fn all_stops(&self, room: Vec<Stop>, count: u32, shut: bool) -> List<Stop>
+        requires empty { room.items ≡ [] }
+        requires room { count ≤ vec_capacity room }
+        ensures { result ≡ map (stop_by self.now.kept shut) (range_with_len 0 count) }
     {
-        let mut stops = List::new(alloc);
+        let mut stops = room;
         for source in 0..count {
-            stops.push(self.stop_of(source, shut))?;
+            stops.push_reserved(self.stop_of(source, shut));
         }
-        Ok(stops)
+        List::from(stops)
     }
 
     /// The first from one source on, and before another, that may be asked.
@@ -305,45 +326,33 @@ impl<R: RootSource, S: RelatedSet<R::Object>, B: Backoff> Asks<R, S, B> {
         }
     }
 
-    /// Marks the source of an exchange that told not ready, or that is a stream which has ended.
-    fn note_marks(
-        &mut self,
-        source: u32,
-        exchange: &SourceExchange<R::Object>,
-    ) -> Result<(), NoMemory>
-        ensures ok { OnOk result (self.new ≡ with_marks self.old (marked_where (is_not_ready (exchange_of R.Object.type_of exchange.now).answer) self.old.kept.quiet source)
-            (marked_where (ended (exchange_of R.Object.type_of exchange.now)) self.old.kept.dry source)) }
-        ensures err { OnErr result (self.new ≡ self.old) }
+    /// Marks the source of an exchange that told not ready, or that is a stream which has ended. It takes no memory.
+    fn note_marks(&mut self, source: u32, exchange: &SourceExchange<R::Object>)
+        requires { source < length self.old.kept.left }
+        ensures { self.new ≡ with_marks self.old (marked_where (is_not_ready (exchange_of R.Object.type_of exchange.now).answer) self.old.kept.quiet source)
+            (marked_where (ended (exchange_of R.Object.type_of exchange.now)) self.old.kept.dry source) }
     {
         if matches!(&exchange.answer, Answer::NotReady) {
-            return mark(&mut self.quiet, source);
+            mark(&mut self.quiet, source);
+        } else if is_stream_end(exchange) {
+            mark(&mut self.dry, source);
         }
-        if is_stream_end(exchange) {
-            return mark(&mut self.dry, source);
-        }
-        Ok(())
     }
 
-    /// Keeps what an exchange leaves: first what takes memory.
-    fn note(
-        &mut self,
-        now: Moment,
-        source: u32,
-        exchange: &SourceExchange<R::Object>,
-    ) -> Result<(), NoMemory>
-        requires { source + 1 < 2 ^ 32 }
-        ensures kept { OnOk result (self.new.kept ≡ noted B.delay B.delayed B.restarted (is_root_queue (R.feed self.old.root) source) self.old.kept now.0 source (exchange_of R.Object.type_of exchange.now)) }
+    /// Keeps what an exchange leaves. It takes no memory.
+    fn note(&mut self, now: Moment, source: u32, exchange: &SourceExchange<R::Object>)
+        requires few { source + 1 < 2 ^ 32 }
+        requires budget { source < length self.old.kept.left }
+        ensures kept { self.new.kept ≡ noted B.delay B.delayed B.restarted (is_root_queue (R.feed self.old.root) source) self.old.kept now.0 source (exchange_of R.Object.type_of exchange.now) }
         ensures root { self.new.root ≡ self.old.root }
         ensures related { self.new.related ≡ self.old.related }
         ensures spent { self.new.is_spent ≡ self.old.is_spent }
-        ensures err { OnErr result (self.new.kept ≡ self.old.kept) }
     {
-        self.note_marks(source, exchange)?;
+        self.note_marks(source, exchange);
         let queue = self.is_root_queue(source);
         self.note_pause(now, queue, exchange);
         self.after = source + 1;
         spend(&mut self.left, source);
-        Ok(())
     }
 
     /// The first source in turn that may be asked.
@@ -458,12 +467,13 @@ impl<R: RootSource, S: RelatedSet<R::Object>, B: Backoff> Asks<R, S, B> {
     ///
     /// The exchange is that of the next source in turn, after the one of the latest exchange, that has budget left, has not
     /// told not ready in this turn and is no stream that has ended. A call takes time linear in the number of sources, and no
-    /// memory but for the exchange and, once for each source, its marks.
+    /// memory but for the exchange: its marks have their room since the turn began.
     ///
     /// # Errors
     ///
-    /// `Unnamed` exactly where an item of that exchange must become a reference and has no name; `NoMemory`. A fault leaves
-    /// the pause, the backoff, the budgets, the marks and whose turn it is as they were. After one only `Spent`.
+    /// `Unnamed` exactly where an item of that exchange must become a reference and has no name; `NoMemory`, which is wanting
+    /// only in the poll of that source, so that no exchange is made and then lost. A fault leaves the pause, the backoff, the
+    /// budgets, the marks and whose turn it is as they were. After one only `Spent`.
     pub fn next(
         &mut self,
         alloc: Global,
@@ -488,10 +498,9 @@ impl<R: RootSource, S: RelatedSet<R::Object>, B: Backoff> Asks<R, S, B> {
             → IsWorldOf w (R.kind self.old.root) R.Object.meta_of (R.feed self.old.root) (S.feeds self.old.related) B.delay B.delayed B.restarted
             → AskStands w (R.stands self.old.root) (S.stands self.old.related) (length (S.feeds self.old.related)) budget before mine self.old.kept
             → next_asked w budget before mine now.0 ≡ Some source))) }
-        // where memory is wanting, the next source alone was asked
+        // where memory is wanting, it is in the poll of the next source
         ensures lost { IfErr result (λ f. f ≡ AskFault.NoMemory → (source : ℕ)
-            × IsLostAt R.polls S.polls R.loses S.loses (SourcesStand (R.stands self.old.root) (S.stands self.old.related) (length (S.feeds self.old.related))) now.0
-            self.old.root self.old.related self.new.root self.new.related source
+            × IsBrokenAt R.loses S.loses now.0 self.old.root self.old.related self.new.root self.new.related source
             × ((w : World R.Object B) (budget : List ℕ) (before mine : List (Dated R.Object))
             → IsWorldOf w (R.kind self.old.root) R.Object.meta_of (R.feed self.old.root) (S.feeds self.old.related) B.delay B.delayed B.restarted
             → AskStands w (R.stands self.old.root) (S.stands self.old.related) (length (S.feeds self.old.related)) budget before mine self.old.kept
@@ -519,21 +528,41 @@ impl<R: RootSource, S: RelatedSet<R::Object>, B: Backoff> Asks<R, S, B> {
         };
         self.spent = true;
         let exchange = self.poll(alloc, source, now)?;
-        self.note(now, source, &exchange)?;
+        self.note(now, source, &exchange);
         self.spent = false;
         Ok(Some(exchange))
     }
 
+    /// Whether `next` would ask a source at this moment: nothing holds the asks, and there is one that may be asked.
+    pub fn has_next(&self, now: Moment) -> bool
+        requires few { length (S.feeds self.now.related) + 1 < 2 ^ 32 }
+        ensures { (w : World R.Object B) (budget : List ℕ) (before mine : List (Dated R.Object))
+            → IsWorldOf w (R.kind self.now.root) R.Object.meta_of (R.feed self.now.root) (S.feeds self.now.related) B.delay B.delayed B.restarted
+            → AskStands w (R.stands self.now.root) (S.stands self.now.related) (length (S.feeds self.now.related)) budget before mine self.now.kept
+            → result ≡ is_some (next_asked w budget before mine now.0) }
+    {
+        if self.is_held(now) {
+            return false;
+        }
+        self.next_source().is_some()
+    }
+
     /// Begins a turn with a budget: at most so many exchanges of each source, the root first; a missing one is 0.
     ///
-    /// The exchanges so far are then those before the turn.
-    pub fn begin(&mut self, budget: Vec<u32>)
-        ensures stands { (w : World R.Object B) (last : List ℕ) (before mine : List (Dated R.Object))
+    /// The exchanges so far are then those before the turn. Memory for the marks of as many sources as the budget has entries
+    /// is taken here, so that no exchange of the turn wants any for them.
+    ///
+    /// # Errors
+    ///
+    /// `NoMemory` where there is none for those marks; no turn has begun then, and all is as before.
+    pub fn begin(&mut self, _alloc: Global, budget: Vec<u32>) -> Result<(), NoMemory>
+        ensures stands { OnOk result ((w : World R.Object B) (last : List ℕ) (before mine : List (Dated R.Object))
             → AskStands w (R.stands self.old.root) (S.stands self.old.related) (length (S.feeds self.old.related)) last before mine self.old.kept
-            → AskStands w (R.stands self.new.root) (S.stands self.new.related) (length (S.feeds self.old.related)) budget.items (before ++ mine) [] self.new.kept }
-        ensures begun { self.new ≡ asking_begun self.old budget.items }
+            → AskStands w (R.stands self.new.root) (S.stands self.new.related) (length (S.feeds self.old.related)) budget.items (before ++ mine) [] self.new.kept) }
+        ensures begun { OnOk result (self.new ≡ asking_begun self.old budget.items) }
+        ensures err { OnErr result (self.new ≡ self.old) }
     {
-        self.begin_turn(budget);
+        self.begin_turn(budget)
     }
 
     /// Whether the backoff has given up, or the end of a queue counts as that: then nothing is asked any more.
@@ -552,6 +581,33 @@ impl<R: RootSource, S: RelatedSet<R::Object>, B: Backoff> Asks<R, S, B> {
         self.spent
     }
 
+    /// Takes memory for the list of why each source is asked no more, which is made at the end of a turn.
+    ///
+    /// # Errors
+    ///
+    /// `NoMemory` where there is none for the list.
+    pub fn room_for_stops(&self, alloc: Global) -> Result<Vec<Stop>, NoMemory>
+        requires few { length (S.feeds self.now.related) + 1 < 2 ^ 32 }
+        ensures empty { IfOk result (λ v. v.items ≡ []) }
+        ensures room { IfOk result (λ v. length (S.feeds self.now.related) + 1 ≤ vec_capacity v) }
+    {
+        Ok(Vec::with_capacity(alloc, self.count() as usize)?)
+    }
+
+    /// Why each source is asked no more in this turn, the root first, where shutdown was asked or wasn't. The list is made in
+    /// the room that was taken for it, and takes no memory.
+    pub fn stops_in(&self, room: Vec<Stop>, shut: bool) -> List<Stop>
+        requires few { length (S.feeds self.now.related) + 1 < 2 ^ 32 }
+        requires empty { room.items ≡ [] }
+        requires room { length (S.feeds self.now.related) + 1 ≤ vec_capacity room }
+        ensures stops { (w : World R.Object B) (budget : List ℕ) (before mine : List (Dated R.Object))
+            → IsWorldOf w (R.kind self.now.root) R.Object.meta_of (R.feed self.now.root) (S.feeds self.now.related) B.delay B.delayed B.restarted
+            → AskStands w (R.stands self.now.root) (S.stands self.now.related) (length (S.feeds self.now.related)) budget before mine self.now.kept
+            → result ≡ stops_of w budget before mine shut }
+    {
+        self.all_stops(room, self.count(), shut)
+    }
+
     /// Why each source is asked no more in this turn, the root first, where shutdown was asked or wasn't.
     ///
     /// # Errors
@@ -564,7 +620,8 @@ impl<R: RootSource, S: RelatedSet<R::Object>, B: Backoff> Asks<R, S, B> {
             → AskStands w (R.stands self.now.root) (S.stands self.now.related) (length (S.feeds self.now.related)) budget before mine self.now.kept
             → stops ≡ stops_of w budget before mine shut) }
     {
-        self.all_stops(alloc, self.count(), shut)
+        let room = self.room_for_stops(alloc)?;
+        Ok(self.stops_in(room, shut))
     }
 }
 

@@ -1,6 +1,6 @@
 //! What the events of a related source's exchange request.
 
-ghost use Rattle.std.specs.Prelude.{◌≡◌, ◌++◌, ◌∷◌, [], true, false, IfOk, OnOk, IsErrOf, map};
+ghost use Rattle.std.specs.Prelude.{◌≡◌, ◌<◌, ◌++◌, ◌∷◌, [], true, false, IfOk, OnOk, OnErr, IsErrOf, length, map};
 ghost use Rattle.std.specs.List.{flat_map};
 ghost use Rattle.std.specs.Arc.{arc_value};
 ghost use Rattle.kube_meta.specs.Keys.{reference_of, is_named};
@@ -116,6 +116,7 @@ fn map_all<V: Resource, K: Resource, M: Mapper<V, K>>(
     ensures mapped { IfOk result (λ qs. AreParts (IsMappedTo (V.type_of dyntype.now) V.meta_of (M.answers mapper.now)) (flat_map objects_of (map (event_map arc_value) events.now)) [] (map (message_of K.type_of) qs)) }
     ensures named { OnOk result (any_unnamed V.meta_of (flat_map objects_of (map (event_map arc_value) events.now)) ≡ false) }
     ensures unnamed { IsErrOf result StreamFault.Unnamed → any_unnamed V.meta_of (flat_map objects_of (map (event_map arc_value) events.now)) ≡ true }
+    ensures some { OnErr result (0 < length events.now) }
 {
     let mut requests = List::new(alloc);
     for event in events {
@@ -127,7 +128,8 @@ fn map_all<V: Resource, K: Resource, M: Mapper<V, K>>(
     Ok(requests)
 }
 
-/// The exchange of a unit: without its objects, and with the requests for what these are mapped to. Each has a name.
+/// The exchange of a unit: without its objects, and with the requests for what these are mapped to. Each has a name. Where the
+/// unit tells nothing it takes no memory.
 pub(crate) fn map_unit<V: Resource, K: Resource, M: Mapper<V, K>>(
     alloc: Global,
     mapper: &M,
@@ -139,6 +141,7 @@ pub(crate) fn map_unit<V: Resource, K: Resource, M: Mapper<V, K>>(
     ensures exchange { IfOk result (λ x. exchange_of K.type_of x ≡ made_of unit (map (message_of K.type_of) x.requests)) }
     ensures named { OnOk result (any_unnamed V.meta_of (flat_map objects_of (events_of unit)) ≡ false) }
     ensures unnamed { IsErrOf result StreamFault.Unnamed → any_unnamed V.meta_of (flat_map objects_of (events_of unit)) ≡ true }
+    ensures some { OnErr result (0 < length unit.events) }
 {
     match map_all(alloc, mapper, dyntype, unit.events.as_slice()) {
         Ok(requests) => {

@@ -1,6 +1,6 @@
 //! What the events of a root's exchange request.
 
-ghost use Rattle.std.specs.Prelude.{◌≡◌, ◌++◌, ◌∷◌, [], true, false, IfOk, OnOk, IsErrOf, map};
+ghost use Rattle.std.specs.Prelude.{◌≡◌, ◌<◌, ◌++◌, ◌∷◌, [], true, false, IfOk, OnOk, OnErr, IsErrOf, length, map};
 ghost use Rattle.std.specs.List.{fold, flat_map};
 ghost use Rattle.std.specs.Arc.{arc_value};
 ghost use Rattle.kube_meta.specs.Keys.{reference_of, key_of, is_named};
@@ -139,6 +139,7 @@ fn note_all<K: Resource>(
     ensures noted { IfOk result (λ n. noted_of K.type_of n ≡ fold (after_event (updated_of (K.type_of dyntype.now) K.meta_of)) (noted_of K.type_of noted) (map (event_map arc_value) events.now)) }
     ensures named { OnOk result (any_unnamed K.meta_of (flat_map objects_of (map (event_map arc_value) events.now)) ≡ false) }
     ensures unnamed { IsErrOf result StreamFault.Unnamed → any_unnamed K.meta_of (flat_map objects_of (map (event_map arc_value) events.now)) ≡ true }
+    ensures some { OnErr result (0 < length events.now) }
 {
     let mut noted = noted;
     for event in events {
@@ -151,6 +152,7 @@ fn note_all<K: Resource>(
 }
 
 /// The exchange of a unit, and the requests of the list that is under way after it. Each object that it tells of has a name.
+/// Where the unit tells nothing it takes no memory.
 pub(crate) fn note_unit<K: Resource>(
     alloc: Global,
     dyntype: &K::DynamicType,
@@ -162,6 +164,7 @@ pub(crate) fn note_unit<K: Resource>(
     ensures exchange { IfOk result (λ p. exchange_of K.type_of p.0 ≡ record (unit_exchange unit) { requests = map (message_of K.type_of) p.0.requests }) }
     ensures named { OnOk result (any_unnamed K.meta_of (flat_map objects_of (events_of unit)) ≡ false) }
     ensures unnamed { IsErrOf result StreamFault.Unnamed → any_unnamed K.meta_of (flat_map objects_of (events_of unit)) ≡ true }
+    ensures some { OnErr result (0 < length unit.events) }
 {
     let before = Noted {
         listing,

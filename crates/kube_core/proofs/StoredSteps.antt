@@ -1,17 +1,21 @@
 -- What an exchange of the root leaves.
-use Rattle.std.proofs.Common.{◌≡◌, ℕ, Bool, true, false, ◌==◌, List, [], ◌∷◌, ◌++◌, map, if◌then◌else◌, refl, sym, ap, subst, ◌∙◌, append-nil}
+use Rattle.std.proofs.Common.{◌≡◌, ◌≢◌, ℕ, Bool, true, false, ◌==◌, List, [], ◌∷◌, ◌++◌, map, if◌then◌else◌, refl, sym, ap, subst, ◌∙◌, append-nil}
 use Rattle.std.specs.List.{fold}
 use Rattle.kube_meta.specs.declared.metadata.ObjectMeta.{ObjectMeta}
 use Rattle.kube_meta.specs.Reference.{ObjectType}
 use Rattle.kube_meta.specs.Keys.{key_of}
 use Rattle.kube_model.specs.World.{Settings}
+use Rattle.kube_model.specs.declared.call.Answer.{Answer}
+use Rattle.kube_model.specs.declared.call.Call.{Call}
 use Rattle.kube_model.specs.History.{Exchange}
 use Rattle.kube_model.specs.Owed.{is_initial, seen}
 use Rattle.kube_model.specs.SecondForms.{initial_after}
 use Rattle.kube_model.proofs.Marks.{initial-push}
 use Rattle.kube_watch.specs.declared.event.Event.{Event}
+use Rattle.kube_watch.specs.Calls.{brings}
 use Rattle.kube_watch.specs.Events.{event_map}
 use Rattle.kube_watch.specs.Table.{table}
+use Rattle.kube_watch.proofs.Brings.{tells-nothing}
 use Rattle.kube_reflect.specs.Cached.{Kept, applied}
 use Rattle.kube_reflect.specs.Exchanged.{MayFollow, IsLeftBy}
 use Rattle.kube_reflect.specs.Writers.{Writing, with_event}
@@ -33,6 +37,19 @@ module _ {O A : Type 0} (value : A → O) (meta : O → ObjectMeta) where
   pub handles-all : (w : Writing O) (events : List (Event A)) → HasSameHandles w (fold (with_event value meta) w events)
   handles-all w [] = record { book = refl; readers = refl; shown = refl }
   handles-all w (e ∷ es) = let r = handles-all (with_event value meta w e) es in record { book = r.book; readers = r.readers; shown = r.shown }
+
+-- where something is told, the answer brings something
+pub brings-told : {O A : Type 0} (value : A → O) (events : List (Event A)) (settings : Settings) (version : List ℕ) (initial : Bool) (call : Call) (answer : Answer) (items : List O)
+    → map (event_map value) events ≡ (table settings version initial call answer items).events → events ≢ [] → brings answer call ≡ true
+brings-told {O} {A} value events settings version initial call answer items told some = go (brings answer call) refl
+  where
+    none : (es : List (Event A)) → map (event_map value) es ≡ [] → es ≡ []
+    none [] h = refl
+    none (e ∷ es) h = absurd (cc)
+
+    go : (b : Bool) → brings answer call ≡ b → brings answer call ≡ true
+    go true h = h
+    go false h = absurd (some (none events (told ∙ tells-nothing settings version initial call answer items h)))
 
 module _ {K : Type 0} (meta : K → ObjectMeta) where
   -- one of the root

@@ -10,6 +10,7 @@ ghost use Rattle.kube_model.specs.Owed.{is_initial};
 ghost use Rattle.kube_model.specs.Queue.{QueueEvent, waiting};
 ghost use Rattle.kube_model.specs.Requests.{requested_at};
 ghost use Rattle.kube_model.specs.Takes.{Running, runs};
+ghost use Rattle.kube_watch.specs.Calls.{brings};
 ghost use Rattle.kube_reflect.specs.Exchanged.{IsLeftBy, MayFollow, all_keyed};
 ghost use Rattle.kube_reflect.specs.Entries.{IsPublished};
 ghost use Rattle.kube_reflect.specs.Writers.{new_writer, published};
@@ -22,7 +23,7 @@ ghost use Rattle.kube_core.specs.Pendings.{Stands, handed_over, place_of};
 ghost use Rattle.kube_core.specs.Cores.{HasSameHandles, IsOfType, StandsFor, TellsNamed, of_root, with_room};
 
 use crate::pending::Pending;
-use crate::requests::{bulk_requests, copy_requests, request_each, requeue};
+use crate::requests::{bulk_requests, request_each, requeue};
 use crate::storing::{initial_after, store_told};
 use crate::taking::take_next;
 use kube_meta::{Action, Moment, NoMemory, ObjectRef, Resource};
@@ -144,6 +145,7 @@ impl<K: Resource> Core<K> {
         ensures handles { HasSameHandles self.old.writer self.new.writer }
         ensures rest { self.new ≡ record self.old { writer = self.new.writer; initial = self.new.initial } }
         ensures err { OnErr result (self.new ≡ self.old) }
+        ensures brings { OnErr result (brings exchange.now.answer exchange.now.call ≡ true) }
     {
         if exchange.source != 0 {
             return Ok(());
@@ -158,6 +160,9 @@ impl<K: Resource> Core<K> {
     ///
     /// The exchange must be one that its source may have after those that were answered: it makes a call that the source
     /// may owe, with an answer, objects and requests that fit, and its objects have names where they must.
+    ///
+    /// An exchange that requests nothing, with an answer that brings nothing to keep, needs no memory, and is always taken
+    /// in.
     ///
     /// # Errors
     ///
@@ -176,9 +181,11 @@ impl<K: Resource> Core<K> {
         ensures clock { OnOk result (self.new.clock ≡ now) }
         ensures handles { HasSameHandles self.old.writer self.new.writer }
         ensures err { OnErr result (self.new ≡ with_room self.old self.new.pending.schedule.spare) }
+        ensures quiet { OnErr result ((exchange_of K.type_of exchange.now).requests ≡ [] → brings exchange.now.answer exchange.now.call ≡ true) }
     {
-        let requests = copy_requests(alloc, exchange.requests.as_slice())?;
-        self.pending.reserve(alloc, requests.len())?;
+        let requests = self
+            .pending
+            .reserve_copies(alloc, exchange.requests.as_slice())?;
         self.store(alloc, exchange)?;
         self.request_now(requests, now);
         Ok(())

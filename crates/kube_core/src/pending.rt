@@ -1,6 +1,6 @@
 //! What waits and what runs (kube-runtime's `applier`, without its streams).
 
-ghost use Rattle.std.specs.Prelude.{◌≡◌, ◌≤◌, ◌+◌, ◌++◌, ◌∷◌, not, [], List, OnOk, OnErr, IfSome, IfNone, IfOk, length, is_some, Some, None, option_copied, true, false};
+ghost use Rattle.std.specs.Prelude.{◌≡◌, ◌≢◌, ◌≤◌, ◌+◌, ◌++◌, ◌∷◌, not, [], List, OnOk, OnErr, IfSome, IfNone, IfOk, length, map, is_some, Some, None, option_copied, true, false};
 ghost use Rattle.std.specs.Option.{option_map};
 ghost use Rattle.std.specs.List.{filter};
 ghost use Rattle.std.specs.Arc.{arc_value};
@@ -17,6 +17,7 @@ ghost use Rattle.kube_history.specs.TurnCalls.{with_requests};
 ghost use Rattle.kube_turn.specs.Views.{message_of};
 ghost use Rattle.kube_core.specs.Pendings.{Stands, handed_over, place_of, FirstIs, TakenFrom, is_idle};
 
+use crate::requests::copy_requests;
 use indexmap::IndexMap;
 use kube_meta::{Moment, NoMemory, ObjectRef, Resource};
 use kube_sched::{ScheduleRequest, Scheduler};
@@ -125,6 +126,32 @@ impl<K: Resource> Pending<K> {
             return Err(NoMemory);
         };
         self.schedule.reserve(alloc, places)
+    }
+
+    /// The same requests in memory of their own, with a place for each beside those that are kept. It needs no memory where
+    /// there are none.
+    ///
+    /// # Errors
+    ///
+    /// `NoMemory` where there is none for so many; all but the room for requests is then as before.
+    pub fn reserve_copies(
+        &mut self,
+        alloc: Global,
+        requests: &[ReconcileRequest<K>],
+    ) -> Result<Vec<ReconcileRequest<K>>, NoMemory>
+        ensures messages { IfOk result (λ v. map (message_of K.type_of) v.items ≡ map (message_of K.type_of) requests.now) }
+        ensures room { IfOk result (λ v. length self.new.running + length v.items ≤ self.new.schedule.spare) }
+        ensures same { self.new ≡ record self.old { schedule = record self.old.schedule { spare = self.new.schedule.spare } } }
+        ensures some { OnErr result (requests.now ≢ []) }
+    {
+        if requests.is_empty() {
+            // The places that are kept are enough, by the invariant.
+            let _ = &self.running;
+            return Ok(Vec::new(alloc));
+        }
+        let copies = copy_requests(alloc, requests)?;
+        self.reserve(alloc, copies.len())?;
+        Ok(copies)
     }
 
     /// Requests a message for a moment at the place that was kept for a reference that runs no more. It takes no memory.

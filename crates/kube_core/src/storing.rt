@@ -1,11 +1,12 @@
 //! What an exchange of the root leaves in a writer.
 
-ghost use Rattle.std.specs.Prelude.{◌≡◌, ◌++◌, ◌∷◌, [], true, List, ℕ, map, OnOk, OnErr};
+ghost use Rattle.std.specs.Prelude.{◌≡◌, ◌≢◌, ◌++◌, ◌∷◌, [], true, List, ℕ, map, OnOk, OnErr};
 ghost use Rattle.std.specs.Arc.{arc_value};
 ghost use Rattle.std.specs.List.{fold, list_all};
 ghost use Rattle.kube_meta.specs.Keys.{key_of};
 ghost use Rattle.kube_model.specs.World.{Settings};
 ghost use Rattle.kube_model.specs.SecondForms.{initial_after};
+ghost use Rattle.kube_watch.specs.Calls.{brings};
 ghost use Rattle.kube_watch.specs.Events.{event_map};
 ghost use Rattle.kube_watch.specs.Table.{table};
 ghost use Rattle.kube_reflect.specs.Cached.{applied, has_name};
@@ -45,6 +46,7 @@ fn apply_told<K: Resource>(
     ensures applied { OnOk result (writer.new ≡ fold (with_event arc_value K.meta_of) writer.old events.now) }
     ensures named { OnOk result (list_all (λ e. has_name K.meta_of (event_map arc_value e)) events.now ≡ true) }
     ensures err { OnErr result (writer.new ≡ writer.old) }
+    ensures some { OnErr result (events.now ≢ []) }
 {
     match events {
         [] => Ok(()),
@@ -53,7 +55,7 @@ fn apply_told<K: Resource>(
     }
 }
 
-/// Applies what an exchange tells: all of it, or nothing.
+/// Applies what an exchange tells: all of it, or nothing. It needs no memory where the answer brings nothing.
 ///
 /// # Errors
 ///
@@ -71,6 +73,7 @@ pub fn store_told<K: Resource>(
     ensures kind { writer.new.kind ≡ writer.old.kind }
     ensures handles { HasSameHandles writer.old writer.new }
     ensures err { OnErr result (writer.new ≡ writer.old) }
+    ensures brings { OnErr result (brings exchange.now.answer exchange.now.call ≡ true) }
 {
     let events = events_of(
         alloc,

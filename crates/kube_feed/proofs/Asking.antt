@@ -1,5 +1,5 @@
 -- One more ask of a turn, which requests.
-use Rattle.std.proofs.Common.{◌≡◌, ℕ, zero, suc, false, true, List, [], ◌∷◌, ◌++◌, map, length, Option, Some, None, refl, sym, ap, subst, ◌∙◌, append-nil}
+use Rattle.std.proofs.Common.{◌≡◌, ℕ, zero, suc, false, true, List, [], ◌∷◌, ◌++◌, map, length, Option, Some, None, is_some, inl, inr, refl, sym, ap, subst, ◌∙◌, append-nil}
 use Rattle.std.specs.List.{flat_map}
 use Rattle.std.proofs.lemmas.List.{map-append}
 use Rattle.std.proofs.lemmas.Grind.{flat_map-append}
@@ -17,12 +17,12 @@ use Rattle.kube_history.specs.TurnCalls.{with_requests}
 use Rattle.kube_history.proofs.TurnCalls.{requests-join}
 use Rattle.kube_streams.specs.declared.backoff.Backoff as backoff
 use Rattle.kube_core.specs.Pendings.{Parts as Pending, Stands as PendingStands}
-use Rattle.kube_asks.specs.Asking.{Asking, AskStands, IsNextAsked, IsPolledAt, IsBrokenAt, IsLostAt, IfUnnamed, IsWorldOf, with_asked}
+use Rattle.kube_asks.specs.Asking.{Asking, AskStands, IsNextAsked, IsPolledAt, IsBrokenAt, IfUnnamed, IsWorldOf, with_asked}
 use Rattle.kube_asks.specs.declared.asks.AskFault.{AskFault}
 use Rattle.kube_asks.specs.declared.asks.AskFault.TheVariants as faults
 use Rattle.kube_asks.specs.declared.root.RootSource as root_source
 use Rattle.kube_asks.specs.declared.set.RelatedSet as related_set
-use Rattle.kube_step.specs.Asked.{AllStand, AreCutOff, IsLostNext, IsUnnamedNext, NotAsked, AskedOnce}
+use Rattle.kube_step.specs.Asked.{AllStand, AreCutOff, BringsNothing, IsLostNext, IsUnnamedNext, LastBrought, NotAsked, AskedOnce, SourceLeft}
 use Rattle.kube_step.specs.Calls.{ArePolled}
 use Rattle.kube_step.specs.Controllers.{IsWorldOfAsks, AsksStand}
 use Rattle.kube_step.proofs.Asking.{polled-append, source-is}
@@ -104,13 +104,15 @@ module _ {R S B O D : Type 0} (root : root_source.Ghosts R O D) (related : relat
       rest = subst (λ ys. Ends (next_source w h t ys) t.at a.root a.related a'.root a'.related) (sym (append-nil xs)) e;
     }
 
-    pub ended-next : (f : AskFault) → (f ≡ faults.NoMemory → (source : ℕ) × IsLostAt root.polls related.polls root.loses related.loses (AllStand root related a.root a.related) at a.root a.related a'.root a'.related source × Found (Some source))
+    pub ended-next : (f : AskFault) → (f ≡ faults.NoMemory → (source : ℕ) × IsBrokenAt root.loses related.loses at a.root a.related a'.root a'.related source × Found (Some source))
         → IfUnnamed f (λ source. IsBrokenAt root.breaks related.breaks at a.root a.related a'.root a'.related source × Found (Some source)) → (f ≡ faults.Spent → a.is_spent ≡ true)
         → AreEndedBy root related w h t f xs a.root a.related a'.root a'.related
     unfolding cut-none
     ended-next faults.NoMemory lost unnamed only =
-        let l = lost refl in
-        cut-none (IsLostNext root related) (AskedOnce l.0 (found-is (Some l.0) l.2) (subst (λ n. IsLostAt root.polls related.polls root.loses related.loses (AllStand root related a.root a.related) n a.root a.related a'.root a'.related l.0) (sym now) l.1))
+        let l = lost refl in (
+          cut-none (IsLostNext root related) (AskedOnce l.0 (found-is (Some l.0) l.2) (subst (λ n. IsBrokenAt root.loses related.loses n a.root a.related a'.root a'.related l.0) (sym now) l.1)),
+          inr (SourceLeft l.0 (ap (λ ys. next_source w h t ys) (append-nil xs) ∙ found-is (Some l.0) l.2)),
+        )
     ended-next (faults.Unnamed source) lost unnamed only =
         cut-none (λ next n q u q' u'. IsUnnamedNext root related next n q u q' u' source)
         (record { next_is = found-is (Some source) unnamed.1; broken = subst (λ n. IsBrokenAt root.breaks related.breaks n a.root a.related a'.root a'.related source) (sym now) unnamed.0 })
@@ -152,6 +154,11 @@ module _ {R S B O D : Type 0} (root : root_source.Ghosts R O D) (related : relat
         rest = NotAsked refl refl;
       }
 
+      -- so the exchange brought something
+      pub ended-after : (BringsNothing x → ⊥) → AreEndedBy root related w h t faults.NoMemory xs a.root a.related a'.root a'.related
+      unfolding lost-after
+      ended-after some = (lost-after, inr (LastBrought xs x refl some))
+
   -- one more of those that are asked one after another
   pub asked-push : (a : Asking R S B) (xs : List (Exchange O)) (b : Asking R S B) (p' : Pending O D) (x : Exchange O) (b' : Asking R S B) (p'' : Pending O D) → AreAsked root related delays object w h t qs a xs b p'
       → IsOneAsk root related delays object w h t qs xs b x b' p'' → AreAsked root related delays object w h t qs a (xs ++ x ∷ []) b' p''
@@ -187,7 +194,7 @@ module _ {R S B O D : Type 0} (root : root_source.Ghosts R O D) (related : relat
   pub ended-more : (f : AskFault) (a : Asking R S B) (xs : List (Exchange O)) (b : Asking R S B) (p' : Pending O D) (r : R) (s : S) → AreAsked root related delays object w h t qs a xs b p'
       → AreEndedBy root related w h t f xs b.root b.related r s → AreEndedBy root related w h t f [] a.root a.related r s
   unfolding cut-more
-  ended-more faults.NoMemory a xs b p' r s k e = cut-more (IsLostNext root related) a xs b p' r s k e
+  ended-more faults.NoMemory a xs b p' r s k e = (cut-more (IsLostNext root related) a xs b p' r s k e.0, e.1)
   ended-more (faults.Unnamed source) a xs b p' r s k e = cut-more (λ next n q u q' u'. IsUnnamedNext root related next n q u q' u' source) a xs b p' r s k e
   ended-more faults.Spent a xs b p' r s k e = absurd e
 
@@ -204,6 +211,21 @@ module _ {R S B O D : Type 0} (root : root_source.Ghosts R O D) (related : relat
     stand = k.may.asks_stand.sources;
     rest = NotAsked refl refl;
   }
+
+  some-source : (o : Option ℕ) → is_some o ≡ true → (source : ℕ) × (o ≡ Some source)
+  some-source None e = absurd (cc)
+  some-source (Some source) e = (source, refl)
+
+  -- a source was left to ask
+  pub ended-lost : (a : Asking R S B) (xs : List (Exchange O)) (b : Asking R S B) (p' : Pending O D) → AreAsked root related delays object w h t qs a xs b p'
+      → is_some (next_source w h t xs) ≡ true → AreEndedBy root related w h t faults.NoMemory [] a.root a.related b.root b.related
+  unfolding asked-lost
+  ended-lost a xs b p' k left = let s = some-source (next_source w h t xs) left in (asked-lost a xs b p' k, inr (SourceLeft s.0 s.1))
+
+  -- nothing was asked yet
+  pub ended-at-once : (a : Asking R S B) (p : Pending O D) → MayAsk root related delays object w h t qs [] a p → AreEndedBy root related w h t faults.NoMemory [] a.root a.related a.root a.related
+  unfolding asked-lost
+  ended-at-once a p m = (asked-lost a [] a p (asked-none a p m), inl refl)
 
   -- none is left to make
   pub asked-end : (a : Asking R S B) (xs : List (Exchange O)) (b : Asking R S B) (p' : Pending O D) (b' : Asking R S B) (p'' : Pending O D) → AreAsked root related delays object w h t qs a xs b p'

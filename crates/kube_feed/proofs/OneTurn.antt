@@ -1,5 +1,5 @@
 -- One turn, by the calls that take it.
-use Rattle.std.proofs.Common.{◌≡◌, ℕ, Bool, true, false, not, ◌||◌, ◌&&◌, ◌==◌, List, [], ◌∷◌, ◌++◌, map, length, Option, None, if◌then◌else◌, is_some, refl, sym, ap, ap₂, subst, ◌∙◌, append-nil}
+use Rattle.std.proofs.Common.{◌≡◌, ℕ, Bool, true, false, not, ◌||◌, ◌&&◌, ◌==◌, List, [], ◌∷◌, ◌++◌, map, length, Option, None, if◌then◌else◌, is_some, inl, refl, sym, ap, ap₂, subst, ◌∙◌, append-nil}
 use Rattle.std.specs.List.{filter_map}
 use Rattle.std.proofs.lemmas.List.{map-append}
 use Rattle.kube_meta.specs.declared.resource.Resource as resource
@@ -76,9 +76,29 @@ still-open false s shuts e = refl
 -- a fault before the takes ends the turn so
 pub before-takes : {R S O D B : Type 0} (root : root_source.Ghosts R O D) (related : related_set.Ghosts S O D) (w : World O B) (h : List (Step O)) (t : Turn) (Left : List (Exchange O) → List (Taken O) → Type 0)
     (f : AskFault) (r : R) (s : S) (r' : R) (s' : S) → AreEndedBy root related w h t f [] r s r' s' → IsEndedBy root related w h t Left f [] r s r' s'
-before-takes root related w h t Left faults.NoMemory r s r' s' e = (e, BeforeTakes refl)
+before-takes root related w h t Left faults.NoMemory r s r' s' e = (e.0, BeforeTakes refl e.1)
 before-takes root related w h t Left (faults.Unnamed source) r s r' s' e = (e, refl)
 before-takes root related w h t Left faults.Spent r s r' s' e = absurd e
+
+-- nothing was asked, and memory was wanting: these sources are as before
+pub ended-still : {R S B O D : Type 0} (root : root_source.Ghosts R O D) (related : related_set.Ghosts S O D) (delays : backoff.Ghosts B) (object : resource.Ghosts O D) (w : World O B) (h : List (Step O)) (t : Turn)
+    (a : Asking R S B) (p : Parts O D) → PartsStand root related delays object w h a p → (a1 : Asking R S B) → a1.root ≡ a.root → a1.related ≡ a.related
+    → AreEndedBy root related w h t faults.NoMemory [] a.root a.related a1.root a1.related
+ended-still root related delays object w h t a p may a1 same-root same-related =
+    subst (λ x. AreEndedBy root related w h t faults.NoMemory [] a.root a.related x a1.related) (sym same-root)
+    (subst (λ y. AreEndedBy root related w h t faults.NoMemory [] a.root a.related a.root y) (sym same-related) (
+      record {
+        made = [];
+        asked = tt;
+        each_named = tt;
+        reached_root = a.root;
+        reached_related = a.related;
+        polled = (refl, refl);
+        stand = subst (AllStand root related a.root a.related) (may.joined ∙ sym (append-nil (exchanges h))) may.asks_stand.sources;
+        rest = NotAsked refl refl;
+      },
+      inl refl,
+    ))
 
 module _ {R S B O D : Type 0} (root : root_source.Ghosts R O D) (related : related_set.Ghosts S O D) (delays : backoff.Ghosts B) (object : resource.Ghosts O D) (w : World O B) (h : List (Step O)) (t : Turn)
     (a : Asking R S B) (p : Parts O D) (may : PartsStand root related delays object w h a p) (a1 : Asking R S B) (budget : List ℕ) (same : budget ≡ t.budget) (begun : a1 ≡ asking_begun a budget)
@@ -114,19 +134,8 @@ module _ {R S B O D : Type 0} (root : root_source.Ghosts R O D) (related : relat
       (subst (λ y. AreEndedBy root related w h t f [] a1.root y r s) same-related e)
 
   -- nothing was asked, and memory was wanting
-  pub ended-none : AreCutOff root related w h t (IsLostNext root related) [] a.root a.related a1.root a1.related
-  ended-none =
-      subst (λ x. AreCutOff root related w h t (IsLostNext root related) [] a.root a.related x a1.related) (sym same-root)
-      (subst (λ y. AreCutOff root related w h t (IsLostNext root related) [] a.root a.related a.root y) (sym same-related) (record {
-        made = [];
-        asked = tt;
-        each_named = tt;
-        reached_root = a.root;
-        reached_related = a.related;
-        polled = (refl, refl);
-        stand = subst (AllStand root related a.root a.related) (may.joined ∙ sym (append-nil (exchanges h))) may.asks_stand.sources;
-        rest = NotAsked refl refl;
-      }))
+  pub ended-none : AreEndedBy root related w h t faults.NoMemory [] a.root a.related a1.root a1.related
+  ended-none = ended-still root related delays object w h t a p may a1 same-root same-related
 
   -- over finishes
   module _ (fs : List Finished) (p1 : Pending O D) (waits : PendingStands object.type_of (core_world w) p1 (with_requests (events_of w h) t.at (finish_requests closed t.at fs)) (running_in w h t)) where
@@ -177,15 +186,7 @@ module _ {R S B O D : Type 0} (root : root_source.Ghosts R O D) (related : relat
             rest = NotAsked refl refl;
           }
 
-      -- and then memory was wanting
-      pub lost-asked : AreCutOff root related w h t (IsLostNext root related) [] a.root a.related a'.root a'.related
-      lost-asked = go closed refl
-        where
-          go : (b : Bool) → closed ≡ b → AreCutOff root related w h t (IsLostNext root related) [] a.root a.related a'.root a'.related
-          go true e = subst (λ (z : Asking R S B). AreCutOff root related w h t (IsLostNext root related) [] a.root a.related z.root z.related) (sym (stayed (ap not e)).1) ended-none
-          go false e = ended-first faults.NoMemory a'.root a'.related (cut-now e)
-
-      -- or it was wanting among the takes, or after them
+      -- memory was wanting among the takes, or after them
       pub lost-taking : closed ≡ false → (Left : List (Exchange O) → List (Taken O) → Type 0) (ts : List (Taken O)) → Left xs ts → IsEndedBy root related w h t Left faults.NoMemory ts a.root a.related a'.root a'.related
       unfolding cut-now
       lost-taking e Left ts left =
@@ -201,7 +202,10 @@ module _ {R S B O D : Type 0} (root : root_source.Ghosts R O D) (related : relat
       lost-whole p4 ts none took Left says = go closed refl
         where
           go : (b : Bool) → closed ≡ b → IsEndedBy root related w h t Left faults.NoMemory ts a.root a.related a'.root a'.related
-          go true e = (lost-asked, BeforeTakes (none (ap not e)))
+          go true e =
+              subst (λ (z : Asking R S B). IsEndedBy root related w h t Left faults.NoMemory ts a.root a.related z.root z.related) (sym (stayed (ap not e)).1)
+              (subst (λ us. IsEndedBy root related w h t Left faults.NoMemory us a.root a.related a1.root a1.related) (sym (none (ap not e)))
+              (before-takes root related w h t Left faults.NoMemory a.root a.related a1.root a1.related ended-none))
           go false e =
               let g = went-now e in
               let q = took (queue_asked w.key finished_queue t (only_reloaded g.0) xs) g.1.waits in

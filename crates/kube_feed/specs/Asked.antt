@@ -18,14 +18,14 @@ use Rattle.kube_asks.specs.declared.asks.AskFault.TheVariants as faults
 use Rattle.kube_asks.specs.Asking.{Asking, IsPolledAt}
 use Rattle.kube_asks.specs.declared.root.RootSource as root_source
 use Rattle.kube_asks.specs.declared.set.RelatedSet as related_set
-use Rattle.kube_step.specs.Asked.{NamesObjects, AreCutOff, IsLostNext, IsUnnamedNext}
+use Rattle.kube_step.specs.Asked.{NamesObjects, AreCutOff, IsCutEarly, IsLostNext, IsUnnamedNext}
 use Rattle.kube_step.specs.Calls.{ArePolled}
 use Rattle.kube_step.specs.Controllers.{IsWorldOfAsks, AsksStand}
 
 module _ {R S O B D : Type 0} (root : root_source.Ghosts R O D) (related : related_set.Ghosts S O D) (w : World O B) (h : List (Step O)) (t : Turn) where
-  -- a fault ended a turn after these exchanges of it
+  -- a fault ended a turn after these exchanges of it; where memory was wanting, nothing was asked yet, a source was left to ask, or the last exchange brought something
   abbrev pub AreEndedBy : AskFault → List (Exchange O) → R → S → R → S → Type 0
-  AreEndedBy faults.NoMemory before r s r' s' = AreCutOff root related w h t (IsLostNext root related) before r s r' s'
+  AreEndedBy faults.NoMemory before r s r' s' = (cut : AreCutOff root related w h t (IsLostNext root related) before r s r' s') × IsCutEarly (next_source w h t (before ++ cut.made)) (before ++ cut.made)
   AreEndedBy (faults.Unnamed source) before r s r' s' = AreCutOff root related w h t (λ next at p q p' q'. IsUnnamedNext root related next at p q p' q' source) before r s r' s'
   AreEndedBy faults.Spent before r s r' s' = ⊥
 

@@ -30,7 +30,7 @@ use Rattle.kube_asks.specs.declared.asks.AskFault.{AskFault}
 use Rattle.kube_asks.specs.declared.asks.AskFault.TheVariants as faults
 use Rattle.kube_asks.specs.declared.root.RootSource as root_source
 use Rattle.kube_asks.specs.declared.set.RelatedSet as related_set
-use Rattle.kube_step.specs.Asked.{AreCutOff, IsLostNext}
+use Rattle.kube_step.specs.Asked.{AreCutOff, IsCutEarly, IsLostNext}
 use Rattle.kube_step.specs.Calls.{ArePolled}
 use Rattle.kube_step.specs.Controllers.{IsWorldOfAsks, AsksStand}
 use Rattle.kube_step.specs.Finishes.{AreFinishedSo}
@@ -124,9 +124,9 @@ module _ {O D E B : Type 0} (object : resource.Ghosts O D) (policy : O → E →
 
 -- Left says of the exchanges of a turn, and of takes of it, that more was left
 module _ {R S O D : Type 0} (root : root_source.Ghosts R O D) (related : related_set.Ghosts S O D) {B : Type 0} (w : World O B) (h : List (Step O)) (t : Turn) (Left : List (Exchange O) → List (Taken O) → Type 0) where
-  -- memory was wanting in a turn that had made these exchanges and these takes: before its first take, or from there on, where no source was left to ask and more was left
+  -- memory was wanting in a turn that had made these exchanges and these takes: before its first take, where nothing was asked yet, a source was left to ask, or the last exchange brought something; or from there on, where no source was left to ask and more was left
   pub data AreCutShort (made : List (Exchange O)) (ts : List (Taken O)) : Type 0 where
-    BeforeTakes : ts ≡ [] → AreCutShort made ts
+    BeforeTakes : ts ≡ [] → IsCutEarly (next_source w h t made) made → AreCutShort made ts
     AmongTakes : next_source w h t made ≡ None → Left made ts → AreCutShort made ts
 
   -- a fault ended a turn that had made these takes: where an object has no name it had made none

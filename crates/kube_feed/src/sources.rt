@@ -1,6 +1,6 @@
 //! The asks of a turn.
 
-ghost use Rattle.std.specs.Prelude.{◌≡◌, ◌<◌, ◌+◌, ◌^◌, ◌∷◌, [], List, length, map, option_map, IfOk, IfErr, IfSome, OnOk, None};
+ghost use Rattle.std.specs.Prelude.{◌≡◌, ◌<◌, ◌+◌, ◌^◌, ◌∷◌, [], List, length, map, option_map, is_some, true, IfOk, IfErr, IfSome, OnOk, OnErr, None};
 ghost use Rattle.kube_model.specs.World.{World};
 ghost use Rattle.kube_model.specs.History.{Exchange, Message, Step, Turn};
 ghost use Rattle.kube_model.specs.Queue.{QueueEvent};
@@ -9,15 +9,15 @@ ghost use Rattle.kube_model.specs.Takes.{Running};
 ghost use Rattle.kube_model.specs.Turns.{next_source};
 ghost use Rattle.kube_history.specs.CoreWorld.{CoreWorld};
 ghost use Rattle.kube_history.specs.TurnCalls.{with_requests};
-ghost use Rattle.kube_core.specs.Pendings.{Stands};
+ghost use Rattle.kube_core.specs.Pendings.{Parts, Stands};
 ghost use Rattle.kube_turn.specs.Views.{exchange_of};
 ghost use Rattle.kube_asks.specs.Kept.{total};
+ghost use Rattle.kube_step.specs.Asked.{BringsNothing};
 ghost use Rattle.kube_feed.specs.Asked.{AreAsked, AreEndedBy, IsAsked, MayAsk};
 
-use crate::requests::request_all;
 use kube_asks::{AskFault, Asks, Backoff, RelatedSet, RootSource};
 use kube_core::Pending;
-use kube_core::requests::copy_requests;
+use kube_core::requests::request_each;
 use kube_meta::{List, Moment, NoMemory, Resource};
 use kube_turn::SourceExchange;
 use std::alloc::Global;
@@ -32,9 +32,10 @@ fn give<K: Resource>(
     ensures same { IfOk result (λ x. x ≡ exchange) }
     ensures stands { OnOk result ((core : CoreWorld K) (qs : List (QueueEvent Message)) (rs : List (Running K)) → Stands K.type_of core pending.old qs rs
         → Stands K.type_of core pending.new (with_requests qs now.0 (requests_of_exchanges now.0 (exchange_of K.type_of exchange ∷ []))) rs) }
+    ensures brings { OnErr result (BringsNothing (exchange_of K.type_of exchange) → ⊥) }
 {
-    let requests = copy_requests(alloc, exchange.requests.as_slice())?;
-    request_all(alloc, pending, requests, now)?;
+    let requests = pending.reserve_copies(alloc, exchange.requests.as_slice())?;
+    request_each(pending, requests, now);
     Ok(exchange)
 }
 
@@ -67,11 +68,31 @@ fn ask_one<R: RootSource, S: RelatedSet<R::Object>, B: Backoff>(
     Ok(Some(exchange))
 }
 
+/// All that were made, where no source is left to ask; there is no memory for one more.
+fn end<R: RootSource, S: RelatedSet<R::Object>, B: Backoff>(
+    asks: &Asks<R, S, B>,
+    all: Vec<SourceExchange<R::Object>>,
+    now: Moment,
+) -> Result<List<SourceExchange<R::Object>>, AskFault>
+    requires few { length (S.feeds asks.now.related) + 1 < 2 ^ 32 }
+    ensures all { IfOk result (λ xs. xs ≡ all.items) }
+    ensures done { OnOk result ((w : World R.Object B) (h : List (Step R.Object)) (t : Turn) (qs : List (QueueEvent Message)) (xs : List (Exchange R.Object)) (pending : Parts R.Object R.Object.DynamicType) → t.at ≡ now.0
+        → MayAsk R.RootSource S.RelatedSet B.Backoff R.Object.Resource w h t qs xs asks.now pending → next_source w h t xs ≡ None) }
+    ensures left { IfErr result (λ f. (f ≡ AskFault.NoMemory) × ((w : World R.Object B) (h : List (Step R.Object)) (t : Turn) (qs : List (QueueEvent Message)) (xs : List (Exchange R.Object)) (pending : Parts R.Object R.Object.DynamicType) → t.at ≡ now.0
+        → MayAsk R.RootSource S.RelatedSet B.Backoff R.Object.Resource w h t qs xs asks.now pending → is_some (next_source w h t xs) ≡ true)) }
+{
+    if asks.has_next(now) {
+        return Err(AskFault::NoMemory);
+    }
+    Ok(List::from(all))
+}
+
 /// Makes the exchanges of a turn, until none is left to make, and requests what each requests.
 ///
 /// # Errors
 ///
-/// `Unnamed` where an item of the next one must become a reference and has no name; `NoMemory`.
+/// `Unnamed` where an item of the next one must become a reference and has no name; `NoMemory` where a source is left to ask,
+/// or where the last exchange brought something.
 pub fn ask_all<R: RootSource, S: RelatedSet<R::Object>, B: Backoff>(
     asks: &mut Asks<R, S, B>,
     pending: &mut Pending<R::Object>,
@@ -93,11 +114,14 @@ pub fn ask_all<R: RootSource, S: RelatedSet<R::Object>, B: Backoff>(
         → MayAsk R.RootSource S.RelatedSet B.Backoff R.Object.Resource w h t qs [] asks.old pending.old
         → AreEndedBy R.RootSource S.RelatedSet w h t f [] asks.old.root asks.old.related asks.new.root asks.new.related) }
 {
-    let mut all = List::new(alloc);
+    let mut all = Vec::new(alloc);
     loop {
+        let Ok(()) = all.reserve(1) else {
+            return end(asks, all, now);
+        };
         match ask_one(asks, pending, alloc, now)? {
-            Some(exchange) => all.push(exchange)?,
-            None => return Ok(all),
+            Some(exchange) => all.push_reserved(exchange),
+            None => return Ok(List::from(all)),
         }
     }
 }

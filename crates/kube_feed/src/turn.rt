@@ -272,7 +272,8 @@ fn is_last<K: Resource>(parts: &Parts<K>, shutdown: Shutdown, runner: &Option<Ru
     )
 }
 
-/// Takes a turn that is not refused. All memory for its record is taken before its last take, but that for what it shows.
+/// Takes a turn that is not refused. All memory for its record is taken before its last take, but that for what it shows; none
+/// is taken after an exchange that is the last to make and brings nothing, but for what is taken and for what is shown.
 pub fn take_turn<R, S, B, W, Ctx, Rc, P, E>(
     rt: &W,
     alloc: Global,
@@ -326,7 +327,8 @@ where
         show,
     } = turn;
     let closed = close(parts, shutdown);
-    asks.begin(Vec::from(budget));
+    let room = asks.room_for_stops(alloc)?;
+    asks.begin(alloc, Vec::from(budget))?;
     let finished = finish_all(
         &mut parts.pending,
         closed,
@@ -337,7 +339,7 @@ where
         at,
     )?;
     let exchanges = ask_where(!closed, rt, alloc, asks, parts, reload, on, at)?;
-    let stops = asks.stops(alloc, closed)?;
+    let stops = asks.stops_in(room, closed);
     let took = read_and_take(rt, alloc, parts, reconciler, context)?;
     let (taken, runner) = took;
     let store = shown(rt, alloc, &mut parts.reader, show)?;

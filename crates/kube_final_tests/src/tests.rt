@@ -7,23 +7,43 @@ mod served;
 mod texts;
 mod waits;
 
-use kube_meta::{DynamicObject, read_object};
+use kube_api::ApiError;
+use kube_meta::{DynamicObject, Text, read_object};
 use serde_json::Value;
 use std::alloc::Global;
 use std::fmt;
+use std::panic::Expect;
 use std::process::Abort;
-use std::test::Fail;
+
+fn text(rt: &impl Abort, alloc: Global, text: &str) -> Text {
+    Text::new(alloc, text).expect(rt, "memory")
+}
+
+/// A string of its own.
+fn owned(rt: &impl Abort, alloc: Global, text: &str) -> String {
+    String::from_str(alloc, text).expect(rt, "memory")
+}
+
+/// Adds to a string.
+fn add(rt: &impl Abort, string: &mut String, text: &str) {
+    string.push_str(text).expect(rt, "memory");
+}
+
+/// A call that could not be made.
+fn fault(rt: &impl Abort, alloc: Global) -> ApiError {
+    ApiError::Transport(text(rt, alloc, "torn"))
+}
 
 /// The object of a JSON text.
-fn object(alloc: Global, text: &str) -> Result<DynamicObject, Fail> {
-    let value = Value::from_str(alloc, text)?;
-    Ok(read_object(alloc, value)?)
+fn object(rt: &impl Abort, alloc: Global, text: &str) -> DynamicObject {
+    let value = Value::from_str(alloc, text).expect(rt, "JSON");
+    read_object(alloc, value).expect(rt, "an object")
 }
 
 /// The object of metadata as JSON.
-fn with_metadata(alloc: Global, metadata: &str) -> Result<DynamicObject, Fail> {
-    let text = format!(in alloc; "{{\"metadata\":{metadata}}}")?;
-    object(alloc, text.as_str())
+fn with_metadata(rt: &impl Abort, alloc: Global, metadata: &str) -> DynamicObject {
+    let text = format!(in alloc; "{{\"metadata\":{metadata}}}").expect(rt, "memory");
+    object(rt, alloc, text.as_str())
 }
 
 /// The fault of a branch.
@@ -36,7 +56,6 @@ impl fmt::Display for Torn {
     }
 }
 
-fn is_text(rt: &impl Abort, text: &str, wanted: &str) -> Result<(), Fail> {
+fn is_text(rt: &impl Abort, text: &str, wanted: &str) {
     assert_eq!(rt; text, wanted);
-    Ok(())
 }

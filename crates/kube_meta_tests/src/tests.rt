@@ -5,19 +5,26 @@ mod references;
 mod selectors;
 mod values;
 
-use kube_meta::{ApiResource, DynamicObject, ObjectMeta, Text};
+use kube_meta::{ApiResource, DynamicObject, ObjectMeta, Text, TextMap};
 use std::alloc::Global;
+use std::panic::Expect;
+use std::process::Abort;
 use std::sync::Arc;
-use std::test::Fail;
 
-fn text(alloc: Global, text: &str) -> Result<Text, Fail> {
-    Ok(Text::new(alloc, text)?)
+fn text(rt: &impl Abort, alloc: Global, text: &str) -> Text {
+    Text::new(alloc, text).expect(rt, "memory")
 }
 
-fn maybe_text(alloc: Global, given: Option<&str>) -> Result<Option<Text>, Fail> {
+/// Puts a text into a map.
+fn insert(rt: &impl Abort, alloc: Global, map: &mut TextMap, key: &str, value: &str) {
+    let value = text(rt, alloc, value);
+    map.insert(alloc, key, value).expect(rt, "memory");
+}
+
+fn maybe_text(rt: &impl Abort, alloc: Global, given: Option<&str>) -> Option<Text> {
     match given {
-        Some(given) => Ok(Some(text(alloc, given)?)),
-        None => Ok(None),
+        Some(given) => Some(text(rt, alloc, given)),
+        None => None,
     }
 }
 
@@ -30,30 +37,29 @@ fn is(text: &Option<Text>, wanted: &str) -> bool {
 
 /// A type in the version `v1`.
 fn resource(
+    rt: &impl Abort,
     alloc: Global,
     kind: &str,
     group: &str,
     plural: &str,
-) -> Result<Arc<ApiResource>, Fail> {
-    Ok(Arc::new(
-        alloc,
-        ApiResource {
-            group: text(alloc, group)?,
-            version: text(alloc, "v1")?,
-            api_version: text(alloc, "v1")?,
-            kind: text(alloc, kind)?,
-            plural: text(alloc, plural)?,
-        },
-    )?)
+) -> Arc<ApiResource> {
+    let resource = ApiResource {
+        group: text(rt, alloc, group),
+        version: text(rt, alloc, "v1"),
+        api_version: text(rt, alloc, "v1"),
+        kind: text(rt, alloc, kind),
+        plural: text(rt, alloc, plural),
+    };
+    Arc::new(alloc, resource).expect(rt, "memory")
 }
 
-fn named(alloc: Global, name: &str, namespace: Option<&str>) -> Result<DynamicObject, Fail> {
-    Ok(DynamicObject::bare(ObjectMeta {
-        name: Some(text(alloc, name)?),
-        namespace: maybe_text(alloc, namespace)?,
-        uid: Some(text(alloc, "uid-1")?),
+fn named(rt: &impl Abort, alloc: Global, name: &str, namespace: Option<&str>) -> DynamicObject {
+    DynamicObject::bare(ObjectMeta {
+        name: Some(text(rt, alloc, name)),
+        namespace: maybe_text(rt, alloc, namespace),
+        uid: Some(text(rt, alloc, "uid-1")),
         ..ObjectMeta::empty()
-    }))
+    })
 }
 
 fn unnamed() -> DynamicObject {

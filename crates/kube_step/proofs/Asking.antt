@@ -1,5 +1,5 @@
 -- One more ask of a turn, given to what decides.
-use Rattle.std.proofs.Common.{◌≡◌, ℕ, zero, suc, Bool, true, false, ◌||◌, List, [], ◌∷◌, ◌++◌, map, length, Option, Some, None, if◌then◌else◌, refl, sym, ap, ap₂, subst, ◌∙◌, append_assoc, append-nil}
+use Rattle.std.proofs.Common.{◌≡◌, ℕ, zero, suc, Bool, true, false, ◌||◌, List, [], ◌∷◌, ◌++◌, map, length, Option, Some, None, is_some, if◌then◌else◌, inl, inr, refl, sym, ap, ap₂, subst, ◌∙◌, append_assoc, append-nil}
 use Rattle.std.proofs.lemmas.List.{map-append}
 use mathlib.Core.List.{IsPrefix}
 use Rattle.kube_meta.specs.declared.metadata.ObjectMeta.{ObjectMeta}
@@ -24,15 +24,15 @@ use Rattle.kube_streams.specs.declared.backoff.Backoff as backoff
 use Rattle.kube_reflect.specs.Cached.{Kept}
 use Rattle.kube_reflect.specs.Exchanged.{IsLeftBy}
 use Rattle.kube_core.specs.Cores.{Parts, StandsFor as CoreStands, with_room}
-use Rattle.kube_asks.specs.Asking.{Asking, AskStands, IsNextAsked, IsPolledAt, IsBrokenAt, IsLostAt, IfUnnamed, IsWorldOf, with_asked}
+use Rattle.kube_asks.specs.Asking.{Asking, AskStands, IsNextAsked, IsPolledAt, IsBrokenAt, IfUnnamed, IsWorldOf, with_asked}
 use Rattle.kube_asks.specs.declared.asks.AskFault.{AskFault}
 use Rattle.kube_asks.specs.declared.asks.AskFault.TheVariants as faults
 use Rattle.kube_asks.specs.declared.root.RootSource as root_source
 use Rattle.kube_asks.specs.declared.set.RelatedSet as related_set
-use Rattle.kube_step.specs.Asked.{AllStand, MayAsk, IsOneAsk, AreAsked, AreCutOff, AreEndedBy, AreGivenUntil, AreGivenOrLost, IsLeftOrLost, IsLostNext, IsUnnamedNext, AllGiven, AllStored, LastLost, LastNotGiven, NotAsked, AskedOnce}
+use Rattle.kube_step.specs.Asked.{AllStand, MayAsk, IsOneAsk, AreAsked, AreCutOff, AreEndedBy, AreGivenUntil, AreGivenOrLost, BringsNothing, IsCutInAsks, IsLeftOrLost, IsLostNext, IsUnnamedNext, AllGiven, AllStored, LastBrought, LastLost, LastNotGiven, NotAsked, AskedOnce, SourceLeft}
 use Rattle.kube_step.specs.Calls.{ArePolled}
 use Rattle.kube_step.specs.Controllers.{IsWorldOfAsks, AsksStand}
-use Rattle.kube_step.specs.Turns.{requests_first, AmongTakes, IsEndedBy}
+use Rattle.kube_step.specs.Turns.{requests_first, AmongTakes, BeforeTakes, IsEndedBy}
 use Rattle.kube_step.proofs.Trails.{next-append, named-append}
 
 requests-none : (O : Type 0) (at : ℕ) (rs : List Reference) → answers_in {O = O} (map (Requested at) rs) ≡ []
@@ -115,7 +115,7 @@ module _ {R S B O D : Type 0} (root : root_source.Ghosts R O D) (related : relat
   -- so did the fault
   pub ended-until : (f : AskFault) (es : List (CoreEvent O)) (before : List (Exchange O)) (r : R) (s : S) (r' : R) (s' : S) (core : Parts O D) → answers_in es ≡ exchanges_with h t before
       → AreGivenUntil root related object w h t f es before r s r' s' core → AreEndedBy root related w h t f core.writer.kept before r s r' s'
-  ended-until faults.NoMemory es before r s r' s' core e g = (g.0, kept-or-lost es before g.0.made core e g.1)
+  ended-until faults.NoMemory es before r s r' s' core e g = (g.0, kept-or-lost es before g.0.made core e g.1, inr g.2)
   ended-until (faults.Unnamed source) es before r s r' s' core e g = (g.0, kept-given es before g.0.made core e g.1)
   ended-until faults.Spent es before r s r' s' core e g = absurd g
 
@@ -206,14 +206,15 @@ module _ {R S B O D : Type 0} (root : root_source.Ghosts R O D) (related : relat
     given-none : (core' : Parts O D) → Stand es core' → Stand (es ++ []) core'
     given-none core' s = subst (λ us. Stand us core') (sym (append-nil es)) s
 
-    pub given-next : (f : AskFault) → (f ≡ faults.NoMemory → (source : ℕ) × IsLostAt root.polls related.polls root.loses related.loses (AllStand root related a.root a.related) at a.root a.related a'.root a'.related source × Found (Some source))
+    pub given-next : (f : AskFault) → (f ≡ faults.NoMemory → (source : ℕ) × IsBrokenAt root.loses related.loses at a.root a.related a'.root a'.related source × Found (Some source))
         → IfUnnamed f (λ source. IsBrokenAt root.breaks related.breaks at a.root a.related a'.root a'.related source × Found (Some source)) → (f ≡ faults.Spent → a.is_spent ≡ true)
         → (core' : Parts O D) → Stand es core' → AreGivenUntil root related object w h t f es xs a.root a.related a'.root a'.related core'
     unfolding cut-none
     given-next faults.NoMemory lost unnamed only core' stand =
         let l = lost refl in (
-          cut-none (IsLostNext root related) (AskedOnce l.0 (found-is (Some l.0) l.2) (subst (λ n. IsLostAt root.polls related.polls root.loses related.loses (AllStand root related a.root a.related) n a.root a.related a'.root a'.related l.0) (sym now) l.1)),
+          cut-none (IsLostNext root related) (AskedOnce l.0 (found-is (Some l.0) l.2) (subst (λ n. IsBrokenAt root.loses related.loses n a.root a.related a'.root a'.related l.0) (sym now) l.1)),
           AllGiven (given-none core' stand),
+          SourceLeft l.0 (ap (λ ys. next_source w h t ys) (append-nil xs) ∙ found-is (Some l.0) l.2),
         )
     given-next (faults.Unnamed source) lost unnamed only core' stand = (
       cut-none (λ next n p q p' q'. IsUnnamedNext root related next n p q p' q' source)
@@ -258,9 +259,9 @@ module _ {R S B O D : Type 0} (root : root_source.Ghosts R O D) (related : relat
       }
 
       -- what decides stands then for what came before it
-      pub lost-given : (core' : Parts O D) → Stand es core' → AreGivenUntil root related object w h t faults.NoMemory es xs a.root a.related a'.root a'.related core'
+      pub lost-given : (BringsNothing x → ⊥) → (core' : Parts O D) → Stand es core' → AreGivenUntil root related object w h t faults.NoMemory es xs a.root a.related a'.root a'.related core'
       unfolding lost-after
-      lost-given core' stand = (lost-after, LastNotGiven [] x refl (given-none core' stand))
+      lost-given some core' stand = (lost-after, LastNotGiven [] x refl (given-none core' stand), LastBrought xs x refl some)
 
   -- one more of those that are asked one after another
   pub asked-push : (es : List (CoreEvent O)) (a : Asking R S B) (xs : List (Exchange O)) (b : Asking R S B) (core' : Parts O D) (x : Exchange O) (b' : Asking R S B) (core'' : Parts O D) → AreAsked root related delays object w h t es a xs b core'
@@ -304,7 +305,7 @@ module _ {R S B O D : Type 0} (root : root_source.Ghosts R O D) (related : relat
   pub given-more : (f : AskFault) (es : List (CoreEvent O)) (a : Asking R S B) (xs : List (Exchange O)) (b : Asking R S B) (core' : Parts O D) (r : R) (s : S) → AreAsked root related delays object w h t es a xs b core'
       → (core'' : Parts O D) → AreGivenUntil root related object w h t f (es ++ map (Answered t.at) xs) xs b.root b.related r s core'' → AreGivenUntil root related object w h t f es [] a.root a.related r s core''
   unfolding cut-more
-  given-more faults.NoMemory es a xs b core' r s k core'' e = (cut-more (IsLostNext root related) es a xs b core' r s k e.0, given-or-lost-both es xs e.0.made core'' e.1)
+  given-more faults.NoMemory es a xs b core' r s k core'' e = (cut-more (IsLostNext root related) es a xs b core' r s k e.0, given-or-lost-both es xs e.0.made core'' e.1, e.2)
   given-more (faults.Unnamed source) es a xs b core' r s k core'' e =
       (cut-more (λ next n p q p' q'. IsUnnamedNext root related next n p q p' q' source) es a xs b core' r s k e.0, given-both es xs e.0.made core'' e.1)
   given-more faults.Spent es a xs b core' r s k core'' e = absurd e
@@ -323,18 +324,37 @@ module _ {R S B O D : Type 0} (root : root_source.Ghosts R O D) (related : relat
     rest = NotAsked refl refl;
   }
 
-  -- what decides was given all of it then
-  pub given-lost : (es : List (CoreEvent O)) (a : Asking R S B) (xs : List (Exchange O)) (b : Asking R S B) (core' : Parts O D) → AreAsked root related delays object w h t es a xs b core'
-      → AreGivenUntil root related object w h t faults.NoMemory es [] a.root a.related b.root b.related core'
-  unfolding asked-lost
-  given-lost es a xs b core' k = (asked-lost es a xs b core' k, AllGiven k.may.core_stands)
+  some-source : (o : Option ℕ) → is_some o ≡ true → (source : ℕ) × (o ≡ Some source)
+  some-source None e = absurd (cc)
+  some-source (Some source) e = (source, refl)
 
-  -- what is kept is then what it left
-  pub ended-lost : (es : List (CoreEvent O)) (a : Asking R S B) (xs : List (Exchange O)) (b : Asking R S B) (core' : Parts O D) → AreAsked root related delays object w h t es a xs b core'
-      → (kept : Kept O) → kept ≡ core'.writer.kept → AreEndedBy root related w h t faults.NoMemory kept [] a.root a.related b.root b.related
+  -- what decides was given all of it then, and a source was left to ask
+  pub given-lost : (es : List (CoreEvent O)) (a : Asking R S B) (xs : List (Exchange O)) (b : Asking R S B) (core' : Parts O D) → AreAsked root related delays object w h t es a xs b core'
+      → is_some (next_source w h t xs) ≡ true → AreGivenUntil root related object w h t faults.NoMemory es [] a.root a.related b.root b.related core'
   unfolding asked-lost
-  ended-lost es a xs b core' k kept same =
-      (asked-lost es a xs b core' k, AllStored (subst (λ j. IsLeftBy w.key (exchanges_of 0 (exchanges_with h t xs)) j) (sym same) (left-now xs (es ++ map (Answered t.at) xs) b core' k.may)))
+  given-lost es a xs b core' k left = let s = some-source (next_source w h t xs) left in (asked-lost es a xs b core' k, AllGiven k.may.core_stands, SourceLeft s.0 s.1)
+
+  stored-now : (es : List (CoreEvent O)) (a : Asking R S B) (xs : List (Exchange O)) (b : Asking R S B) (core' : Parts O D) → AreAsked root related delays object w h t es a xs b core'
+      → (kept : Kept O) → kept ≡ core'.writer.kept → IsLeftOrLost root related w h t [] xs kept
+  stored-now es a xs b core' k kept same = AllStored (subst (λ j. IsLeftBy w.key (exchanges_of 0 (exchanges_with h t xs)) j) (sym same) (left-now xs (es ++ map (Answered t.at) xs) b core' k.may))
+
+  -- so what is kept is what it left
+  pub ended-lost : (es : List (CoreEvent O)) (a : Asking R S B) (xs : List (Exchange O)) (b : Asking R S B) (core' : Parts O D) → AreAsked root related delays object w h t es a xs b core'
+      → is_some (next_source w h t xs) ≡ true → (kept : Kept O) → kept ≡ core'.writer.kept → AreEndedBy root related w h t faults.NoMemory kept [] a.root a.related b.root b.related
+  unfolding asked-lost
+  ended-lost es a xs b core' k left kept same = let s = some-source (next_source w h t xs) left in (asked-lost es a xs b core' k, stored-now es a xs b core' k kept same, inr (SourceLeft s.0 s.1))
+
+  -- nothing was asked yet
+  pub ended-at-once : (es : List (CoreEvent O)) (a : Asking R S B) (core' : Parts O D) → MayAsk root related delays object w h t [] es a core'
+      → (kept : Kept O) → kept ≡ core'.writer.kept → AreEndedBy root related w h t faults.NoMemory kept [] a.root a.related a.root a.related
+  unfolding asked-lost
+  ended-at-once es a core' m kept same = let k = asked-none es a core' m in (asked-lost es a [] a core' k, stored-now es a [] a core' k kept same, inl refl)
+
+  -- memory was wanting for the store that is to be shown
+  pub ended-shown : (Left : List (Exchange O) → List (Taken O) → Type 0) (es : List (CoreEvent O)) (a : Asking R S B) (xs : List (Exchange O)) (b : Asking R S B) (core' : Parts O D) → AreAsked root related delays object w h t es a xs b core'
+      → t.show ≡ true → (kept : Kept O) → kept ≡ core'.writer.kept → IsEndedBy root related w h t Left faults.NoMemory kept [] a.root a.related b.root b.related
+  unfolding asked-lost
+  ended-shown Left es a xs b core' k shows kept same = (asked-lost es a xs b core' k, BeforeTakes refl (stored-now es a xs b core' k kept same) (inl shows))
 
   -- none was left to make, and memory was wanting among the takes
   pub ended-among : (Left : List (Exchange O) → List (Taken O) → Type 0) (es : List (CoreEvent O)) (a : Asking R S B) (xs : List (Exchange O)) (b : Asking R S B) (core' : Parts O D) → AreAsked root related delays object w h t es a xs b core'

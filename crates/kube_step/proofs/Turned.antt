@@ -1,5 +1,5 @@
 -- A turn that was taken, or that want of memory cut off, by the calls that make it.
-use Rattle.std.proofs.Common.{◌≡◌, ℕ, ◌≤◌, Bool, true, false, not, ◌||◌, ◌&&◌, ◌==◌, List, [], ◌∷◌, ◌++◌, map, length, Some, None, if◌then◌else◌, refl, sym, ap, subst, ◌∙◌, append_assoc, append-nil, arith}
+use Rattle.std.proofs.Common.{◌≡◌, ℕ, ◌≤◌, Bool, true, false, not, ◌||◌, ◌&&◌, ◌==◌, List, [], ◌∷◌, ◌++◌, map, length, Some, None, if◌then◌else◌, inl, inr, refl, sym, ap, subst, ◌∙◌, append_assoc, append-nil, arith}
 use Rattle.std.specs.List.{fold}
 use Rattle.kube_meta.specs.declared.resource.Resource as resource
 use Rattle.kube_model.specs.World.{World}
@@ -21,7 +21,7 @@ use Rattle.kube_streams.specs.declared.backoff.Backoff as backoff
 use Rattle.kube_reflect.specs.Cached.{Kept}
 use Rattle.kube_reflect.specs.Exchanged.{IsLeftBy}
 use Rattle.kube_core.specs.Cores.{Parts, StandsFor as CoreStands}
-use Rattle.kube_asks.specs.Asking.{Asking, AskStands, asking_begun}
+use Rattle.kube_asks.specs.Asking.{Asking, AskStands, SourcesStand, asking_begun}
 use Rattle.kube_asks.specs.declared.asks.AskFault.{AskFault}
 use Rattle.kube_asks.specs.declared.asks.AskFault.TheVariants as faults
 use Rattle.kube_asks.specs.declared.root.RootSource as root_source
@@ -32,7 +32,8 @@ use Rattle.kube_step.specs.Errors.{IfUnnamedAsk}
 use Rattle.kube_step.specs.Policies.{answered_in}
 use Rattle.kube_step.specs.Takes.{taken_so_far}
 use Rattle.kube_step.specs.Turns.{requests_first, MayGoOn, HasAsked, BeforeTakes, IsEndedBy, IsTaken}
-use Rattle.kube_step.proofs.Asking.{ended-among, ended-lost}
+use Rattle.kube_asks.proofs.Pushes.{kept-begun}
+use Rattle.kube_step.proofs.Asking.{ended-among, ended-shown}
 use Rattle.kube_step.proofs.Fronts.{takes-front}
 use Rattle.kube_step.proofs.OneTurn.{cache-same, events-are, events-before, open-taken, closed-taken, core-now}
 use Rattle.kube_step.proofs.Turning.{closed-is, closing-is, begun-world, begun-stands, begun-unspent, may-ask-first}
@@ -50,7 +51,7 @@ if-unnamed faults.Spent P p = tt
 -- a fault before the takes ends the turn so
 pub before-takes : {R S O D B : Type 0} (root : root_source.Ghosts R O D) (related : related_set.Ghosts S O D) (w : World O B) (h : List (Step O)) (t : Turn) (Left : List (Exchange O) → List (Taken O) → Type 0)
     (f : AskFault) (kept : Kept O) (r : R) (s : S) (r' : R) (s' : S) → AreEndedBy root related w h t f kept [] r s r' s' → IsEndedBy root related w h t Left f kept [] r s r' s'
-before-takes root related w h t Left faults.NoMemory kept r s r' s' e = (e.0, BeforeTakes refl e.1)
+before-takes root related w h t Left faults.NoMemory kept r s r' s' e = (e.0, BeforeTakes refl e.1 (inr e.2))
 before-takes root related w h t Left (faults.Unnamed source) kept r s r' s' e = (e, refl)
 before-takes root related w h t Left faults.Spent kept r s r' s' e = absurd e
 
@@ -129,7 +130,7 @@ module _ {R S B O D : Type 0} (root : root_source.Ghosts R O D) (related : relat
 
   pub ended-none : (kept : Kept O) → kept ≡ core.writer.kept → AreEndedBy root related w h t faults.NoMemory kept [] a.root a.related a1.root a1.related
   unfolding lost-first
-  ended-none kept same = (lost-first, AllStored (subst (λ j. IsLeftBy w.key (exchanges_of 0 (exchanges_with h t [])) j) (sym same) first-left))
+  ended-none kept same = (lost-first, AllStored (subst (λ j. IsLeftBy w.key (exchanges_of 0 (exchanges_with h t [])) j) (sym same) first-left), inl refl)
 
   -- over finishes
   module _ (fs : List Finished) (core2 : Parts O D) (core_stands : CoreStands object.type_of object.meta_of (core_world w) (first ++ map (finish_event t.at) fs) core2) where
@@ -157,19 +158,20 @@ module _ {R S B O D : Type 0} (root : root_source.Ghosts R O D) (related : relat
       abbrev asked-all : List (CoreEvent O)
       asked-all = es ++ map (finish_event t.at) fs ++ requests_first t.at t.reload t.on ++ map (Answered t.at) xs ++ Settled t.at ∷ [] ++ shut_if (gave_up w (exchanges_with h t xs)) t.at
 
-      -- memory was wanting before the takes
-      pub lost-asked : core2.writer.kept ≡ core.writer.kept → AreEndedBy root related w h t faults.NoMemory core3.writer.kept [] a.root a.related a'.root a'.related
-      lost-asked same-kept = go closed refl
+      -- memory was wanting for the store that is to be shown
+      pub lost-shown : t.show ≡ true → core2.writer.kept ≡ core.writer.kept → (Left : List (Exchange O) → List (Taken O) → Type 0) → IsEndedBy root related w h t Left faults.NoMemory core3.writer.kept [] a.root a.related a'.root a'.related
+      lost-shown shows same-kept Left = go closed refl
         where
-          go : (b : Bool) → closed ≡ b → AreEndedBy root related w h t faults.NoMemory core3.writer.kept [] a.root a.related a'.root a'.related
+          go : (b : Bool) → closed ≡ b → IsEndedBy root related w h t Left faults.NoMemory core3.writer.kept [] a.root a.related a'.root a'.related
           go true e =
-              subst (λ (c : Asking R S B). AreEndedBy root related w h t faults.NoMemory core3.writer.kept [] a.root a.related c.root c.related) (sym (stayed (ap not e)).1)
-              (ended-none core3.writer.kept (ap (λ (q : Parts O D). q.writer.kept) (stayed (ap not e)).2 ∙ same-kept))
+              subst (λ (c : Asking R S B). IsEndedBy root related w h t Left faults.NoMemory core3.writer.kept [] a.root a.related c.root c.related) (sym (stayed (ap not e)).1)
+              (before-takes root related w h t Left faults.NoMemory core3.writer.kept a.root a.related a1.root a1.related
+              (ended-none core3.writer.kept (ap (λ (q : Parts O D). q.writer.kept) (stayed (ap not e)).2 ∙ same-kept)))
           go false e =
               let g = went-now e in
-              subst (λ p. AreEndedBy root related w h t faults.NoMemory core3.writer.kept [] p a.related a'.root a'.related) same-root
-              (subst (λ q. AreEndedBy root related w h t faults.NoMemory core3.writer.kept [] a1.root q a'.root a'.related) same-related
-              (ended-lost root related delays object w h t (es ++ map (finish_event t.at) fs ++ requests_first t.at t.reload t.on) a1 xs a' g.asked_core g.asked core3.writer.kept g.kept))
+              subst (λ p. IsEndedBy root related w h t Left faults.NoMemory core3.writer.kept [] p a.related a'.root a'.related) same-root
+              (subst (λ q. IsEndedBy root related w h t Left faults.NoMemory core3.writer.kept [] a1.root q a'.root a'.related) same-related
+              (ended-shown root related delays object w h t Left (es ++ map (finish_event t.at) fs ++ requests_first t.at t.reload t.on) a1 xs a' g.asked_core g.asked shows core3.writer.kept g.kept))
 
       -- memory was wanting among the takes, of which one was left
       pub lost-taking : not closed ≡ true → core3.clock.0 ≤ t.at → (kept : Kept O) → kept ≡ core3.writer.kept → (ts : List (Taken O))
@@ -235,3 +237,19 @@ module _ {R S B O D : Type 0} (root : root_source.Ghosts R O D) (related : relat
                 (shown (es ++ before_takes w h t fs xs) (subst (λ us. CoreStands object.type_of object.meta_of (core_world w) us core3) before g.core_stands)
                 ∙ ap (λ os. if t.show then Some os else None) (cache-same (core_world w) t.at ts (es ++ before_takes w h t fs xs)))
                 (ends (es ++ before_takes w h t fs xs ++ takes t.at ts) now)
+
+module _ {R S B O D : Type 0} (root : root_source.Ghosts R O D) (related : related_set.Ghosts S O D) (delays : backoff.Ghosts B) (object : resource.Ghosts O D) (w : World O B) (h : List (Step O)) (t : Turn)
+    (a : Asking R S B) (core : Parts O D) (may : MayGoOn root related delays object w h a core) where
+  -- asks stand for what they stood for, also as a turn begins
+  pub begun-so : AskStands w (root.stands a.root) (related.stands a.related) (length (related.feeds a.related)) t.budget (may.parts.before ++ may.parts.mine) [] (asking_begun a t.budget).kept
+  begun-so = record {
+    sources = subst (SourcesStand (root.stands a.root) (related.stands a.related) (length (related.feeds a.related))) (sym (append-nil (may.parts.before ++ may.parts.mine))) may.parts.asks_stand.sources;
+    kept = kept-begun w may.parts.budget t.budget may.parts.before may.parts.mine a.kept may.parts.asks_stand.kept;
+  }
+
+  -- memory was wanting before the turn began
+  pub ended-still : (closed : Bool) → closed ≡ (was_shut may.parts.events || asks_shutdown t.shutdown) → (kept : Kept O) → kept ≡ core.writer.kept → (a' : Asking R S B) → a' ≡ a
+      → AreEndedBy root related w h t faults.NoMemory kept [] a.root a.related a'.root a'.related
+  ended-still closed k kept e a' same =
+      subst (λ (z : Asking R S B). AreEndedBy root related w h t faults.NoMemory kept [] a.root a.related z.root z.related) (sym same)
+      (ended-none root related delays object w h t a core may (asking_begun a t.budget) t.budget refl refl begun-so closed k kept e)

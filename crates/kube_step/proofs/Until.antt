@@ -24,7 +24,7 @@ use Rattle.kube_step.specs.Takes.{AreHandedOrLost, taken_so_far}
 use Rattle.kube_step.specs.Turns.{HasAsked, HasAskedUntil, InAsks, InFinishes, InTakes, IsDoneUntil, MayGoOn, finishing, requests_first}
 use Rattle.kube_step.proofs.Finishing.{finished-whole}
 use Rattle.kube_step.proofs.OneTurn.{events-are}
-use Rattle.kube_step.proofs.Turned.{closed-events, closed-now, events-first, may-first, open-events}
+use Rattle.kube_step.proofs.Turned.{begun-so, closed-events, closed-now, events-first, may-first, open-events}
 
 module _ {R S B O D E : Type 0} (root : root_source.Ghosts R O D) (related : related_set.Ghosts S O D) (delays : backoff.Ghosts B) (object : resource.Ghosts O D) (policy : O → E → Action → Type 0) (w : World O B) (h : List (Step O)) (t : Turn) (held : List (Finish O E D))
     (a : Asking R S B) (core : Parts O D) (may : MayGoOn root related delays object w h a core) (a1 : Asking R S B) (budget : List ℕ) (same : budget ≡ t.budget) (begun : a1 ≡ asking_begun a budget)
@@ -98,3 +98,13 @@ module _ {R S B O D E : Type 0} (root : root_source.Ghosts R O D) (related : rel
               subst (λ (z : Asking R S B). Until faults.NoMemory [] a.root a.related z.root z.related core3) (sym stay.1)
               (subst (λ c. Until faults.NoMemory [] a.root a.related a1.root a1.related c) (sym stay.2) (until-finishes fs (finished-whole object.type_of policy (running h) held fs done) core2 core_stands))
           go false e = until-takes e [] [] (inl refl) core3 (λ us s. subst (λ vs. Stand vs core3) (sym (append-nil us)) s)
+
+-- before the turn began
+pub until-still : {R S B O D E : Type 0} (root : root_source.Ghosts R O D) (related : related_set.Ghosts S O D) (delays : backoff.Ghosts B) (object : resource.Ghosts O D) (policy : O → E → Action → Type 0) (w : World O B) (h : List (Step O)) (t : Turn) (held : List (Finish O E D))
+    (a : Asking R S B) (core : Parts O D) (may : MayGoOn root related delays object w h a core) (closed : Bool) (k : closed ≡ (was_shut may.parts.events || asks_shutdown t.shutdown))
+    (c : Parts O D) → CoreStands object.type_of object.meta_of (core_world w) (events-first w h t may.parts.events may.parts.agrees closed k) c → (a' : Asking R S B) → a' ≡ a
+    → IsDoneUntil root related object w h t policy held faults.NoMemory may.parts.events [] a.root a.related a'.root a'.related c
+until-still {R} {S} {B} root related delays object policy w h t held a core may closed k c s a' same =
+    subst (λ (z : Asking R S B). IsDoneUntil root related object w h t policy held faults.NoMemory may.parts.events [] a.root a.related z.root z.related c) (sym same)
+    (until-finishes root related delays object policy w h t held a core may (asking_begun a t.budget) t.budget refl refl (begun-so root related delays object w h t a core may) closed k [] ([], tt, refl) c
+    (subst (λ us. CoreStands object.type_of object.meta_of (core_world w) us c) (sym (append-nil (events-first w h t may.parts.events may.parts.agrees closed k))) s))

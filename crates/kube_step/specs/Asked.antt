@@ -1,5 +1,5 @@
 -- Asks of a turn, one after another, each given to what decides. R is the type of a controller's root, S that of its related sources, B that of its backoff's states, O that of objects and D that of their dynamic types.
-use Rattle.std.specs.Prelude.{◌≡◌, ℕ, false, List, [], ◌∷◌, ◌++◌, map, length, Option, Some, None}
+use Rattle.std.specs.Prelude.{◌≡◌, ◌⊎◌, ℕ, false, List, [], ◌∷◌, ◌++◌, map, length, Option, Some, None}
 use Rattle.kube_meta.specs.declared.resource.Resource as resource
 use Rattle.kube_model.specs.World.{World, Settings, Watched, feed_of}
 use Rattle.kube_model.specs.History.{Dated, Exchange, Turn, Step, dated, exchanges, exchanges_with, exchanges_of}
@@ -11,17 +11,31 @@ use Rattle.kube_history.specs.CoreWorld.{core_world}
 use Rattle.kube_history.specs.CoreEvents.{CoreEvent, Answered, answers_in}
 use Rattle.kube_history.specs.Agrees.{EachFits}
 use Rattle.kube_streams.specs.declared.backoff.Backoff as backoff
+use Rattle.kube_watch.specs.Calls.{brings}
 use Rattle.kube_watch.specs.Stands.{exchanges_in}
 use Rattle.kube_reflect.specs.Cached.{Kept}
 use Rattle.kube_reflect.specs.Exchanged.{IsLeftBy}
 use Rattle.kube_core.specs.Cores.{Parts, StandsFor as CoreStands}
 use Rattle.kube_asks.specs.declared.asks.AskFault.{AskFault}
 use Rattle.kube_asks.specs.declared.asks.AskFault.TheVariants as faults
-use Rattle.kube_asks.specs.Asking.{Asking, SourcesStand, IsPolledAt, IsBrokenAt, IsLostAt}
+use Rattle.kube_asks.specs.Asking.{Asking, SourcesStand, IsPolledAt, IsBrokenAt}
 use Rattle.kube_asks.specs.declared.root.RootSource as root_source
 use Rattle.kube_asks.specs.declared.set.RelatedSet as related_set
 use Rattle.kube_step.specs.Calls.{ArePolled}
 use Rattle.kube_step.specs.Controllers.{IsWorldOfAsks, AsksStand}
+
+-- nothing of this exchange takes memory after it was made: it requests nothing, and its answer brings nothing
+abbrev pub BringsNothing : {O : Type 0} → Exchange O → Type 0
+BringsNothing x = (x.requests ≡ []) × (brings x.answer x.call ≡ false)
+
+-- why memory could be wanting among the asks of a turn that has made these exchanges: a source is left to ask, or the last of them brought something
+pub data IsCutInAsks {O : Type 0} (next : Option ℕ) (made : List (Exchange O)) : Type 0 where
+  SourceLeft : (source : ℕ) → next ≡ Some source → IsCutInAsks next made
+  LastBrought : (before : List (Exchange O)) (last : Exchange O) → made ≡ before ++ last ∷ [] → (BringsNothing last → ⊥) → IsCutInAsks next made
+
+-- so it could, or nothing was asked yet
+abbrev pub IsCutEarly : {O : Type 0} → Option ℕ → List (Exchange O) → Type 0
+IsCutEarly next made = (made ≡ []) ⊎ IsCutInAsks next made
 
 module _ {R S O D : Type 0} (root : root_source.Ghosts R O D) (related : related_set.Ghosts S O D) where
   -- the sources stand for these exchanges
@@ -35,7 +49,7 @@ module _ {R S O D : Type 0} (root : root_source.Ghosts R O D) (related : related
   -- no more was asked; or the source that is asked next was, at most once, and memory was wanting
   pub data IsLostNext (next : Option ℕ) (at : ℕ) (r : R) (s : S) (r' : R) (s' : S) : Type 0 where
     NotAsked : r' ≡ r → s' ≡ s → IsLostNext next at r s r' s'
-    AskedOnce : (source : ℕ) → next ≡ Some source → IsLostAt root.polls related.polls root.loses related.loses (AllStand r s) at r s r' s' source → IsLostNext next at r s r' s'
+    AskedOnce : (source : ℕ) → next ≡ Some source → IsBrokenAt root.loses related.loses at r s r' s' source → IsLostNext next at r s r' s'
 
   -- the source that is asked next was, and what came has no name
   pub record IsUnnamedNext (next : Option ℕ) (at : ℕ) (r : R) (s : S) (r' : R) (s' : S) (source : ℕ) : Type 0 where
@@ -63,9 +77,10 @@ module _ {R S O D : Type 0} (root : root_source.Ghosts R O D) (related : related
       AllStored : IsLeftAfter (before ++ made) kept → IsLeftOrLost before made kept
       LastLost : (stored : List (Exchange O)) (last : Exchange O) → made ≡ stored ++ last ∷ [] → IsLeftAfter (before ++ stored) kept → IsLeftOrLost before made kept
 
-    -- so did a fault. What is kept is what came before it left; where memory was wanting, maybe but for the last exchange
+    -- so did a fault. What is kept is what came before it left; where memory was wanting, maybe but for the last exchange, and then nothing was asked yet, a source was left to ask, or the last exchange brought something
     abbrev pub AreEndedBy : AskFault → Kept O → List (Exchange O) → R → S → R → S → Type 0
-    AreEndedBy faults.NoMemory kept before r s r' s' = (cut : AreCutOff IsLostNext before r s r' s') × IsLeftOrLost before cut.made kept
+    AreEndedBy faults.NoMemory kept before r s r' s' =
+        (cut : AreCutOff IsLostNext before r s r' s') × IsLeftOrLost before cut.made kept × IsCutEarly (next_source w h t (before ++ cut.made)) (before ++ cut.made)
     AreEndedBy (faults.Unnamed source) kept before r s r' s' =
         (cut : AreCutOff (λ next at p q p' q'. IsUnnamedNext next at p q p' q' source) before r s r' s') × IsLeftAfter (before ++ cut.made) kept
     AreEndedBy faults.Spent kept before r s r' s' = ⊥
@@ -76,9 +91,10 @@ module _ {R S O D : Type 0} (root : root_source.Ghosts R O D) (related : related
     AllGiven : CoreStands object.type_of object.meta_of (core_world w) (es ++ map (Answered t.at) made) core → AreGivenOrLost es made core
     LastNotGiven : (given : List (Exchange O)) (last : Exchange O) → made ≡ given ++ last ∷ [] → CoreStands object.type_of object.meta_of (core_world w) (es ++ map (Answered t.at) given) core → AreGivenOrLost es made core
 
-  -- after exchanges that a turn made more were made until this fault, and given to what decides, which stood for these events: all of them, or, where memory was wanting, maybe all but the last
+  -- after exchanges that a turn made more were made until this fault, and given to what decides, which stood for these events: all of them, or, where memory was wanting, maybe all but the last, and then a source was left to ask or the last brought something
   abbrev pub AreGivenUntil : AskFault → List (CoreEvent O) → List (Exchange O) → R → S → R → S → Parts O D → Type 0
-  AreGivenUntil faults.NoMemory es before r s r' s' core = (cut : AreCutOff root related w h t (IsLostNext root related) before r s r' s') × AreGivenOrLost es cut.made core
+  AreGivenUntil faults.NoMemory es before r s r' s' core =
+      (cut : AreCutOff root related w h t (IsLostNext root related) before r s r' s') × AreGivenOrLost es cut.made core × IsCutInAsks (next_source w h t (before ++ cut.made)) (before ++ cut.made)
   AreGivenUntil (faults.Unnamed source) es before r s r' s' core =
       (cut : AreCutOff root related w h t (λ next at p q p' q'. IsUnnamedNext root related next at p q p' q' source) before r s r' s')
       × CoreStands object.type_of object.meta_of (core_world w) (es ++ map (Answered t.at) cut.made) core

@@ -1,5 +1,5 @@
 -- Turns of a controller, one at a time. R is the type of its root, S that of its related sources, B that of its backoff's states, O that of objects, D that of their dynamic types and E that of faults.
-use Rattle.std.specs.Prelude.{◌≡◌, ℕ, Bool, false, if◌then◌else◌, List, [], ◌∷◌, ◌++◌, map, None}
+use Rattle.std.specs.Prelude.{◌≡◌, ◌⊎◌, ℕ, Bool, true, false, if◌then◌else◌, List, [], ◌∷◌, ◌++◌, map, None}
 use mathlib.Core.List.{IsPrefix}
 use Rattle.kube_meta.specs.declared.action.Action.{Action}
 use Rattle.kube_meta.specs.Reference.{ObjectType, Reference}
@@ -27,7 +27,7 @@ use Rattle.kube_asks.specs.declared.asks.AskFault.TheVariants as faults
 use Rattle.kube_asks.specs.Asking.{Asking}
 use Rattle.kube_asks.specs.declared.root.RootSource as root_source
 use Rattle.kube_asks.specs.declared.set.RelatedSet as related_set
-use Rattle.kube_step.specs.Asked.{NamesObjects, AreAsked, AreCutOff, AreEndedBy, AreGivenUntil, IsLeftAfter, IsLeftOrLost, IsLostNext}
+use Rattle.kube_step.specs.Asked.{NamesObjects, AreAsked, AreCutOff, AreEndedBy, AreGivenUntil, IsCutEarly, IsLeftAfter, IsLeftOrLost, IsLostNext}
 use Rattle.kube_step.specs.Calls.{ArePolled}
 use Rattle.kube_step.specs.Controllers.{PartsStand}
 use Rattle.kube_step.specs.Finishes.{AreFinishedFirst, AreFinishedSo}
@@ -79,9 +79,9 @@ module _ {O D E B : Type 0} (type_of : D → ObjectType) (policy : O → E → A
 
 -- Left says of the exchanges of a turn, and of takes of it, that more was to be taken
 module _ {R S O D : Type 0} (root : root_source.Ghosts R O D) (related : related_set.Ghosts S O D) {B : Type 0} (w : World O B) (h : List (Step O)) (t : Turn) (Left : List (Exchange O) → List (Taken O) → Type 0) where
-  -- memory was wanting in a turn that had made these exchanges and these takes. Before its first take what is kept is what they left, or maybe all but the last; from there on none was left to ask, what is kept is what all of them left, and more was to be taken
+  -- memory was wanting in a turn that had made these exchanges and these takes. Before its first take what is kept is what they left, or maybe all but the last, and the store was to be shown, nothing was asked yet, a source was left to ask, or the last exchange brought something; from there on none was left to ask, what is kept is what all of them left, and more was to be taken
   pub data AreCutShort (made : List (Exchange O)) (kept : Kept O) (ts : List (Taken O)) : Type 0 where
-    BeforeTakes : ts ≡ [] → IsLeftOrLost root related w h t [] made kept → AreCutShort made kept ts
+    BeforeTakes : ts ≡ [] → IsLeftOrLost root related w h t [] made kept → (t.show ≡ true) ⊎ IsCutEarly (next_source w h t made) made → AreCutShort made kept ts
     AmongTakes : next_source w h t made ≡ None → IsLeftAfter root related w h t made kept → Left made ts → AreCutShort made kept ts
 
   -- a fault ended a turn that had made these takes: where an object has no name it had made none

@@ -1,16 +1,16 @@
 //! The asks of a turn.
 
-ghost use Rattle.std.specs.Prelude.{◌≡◌, ◌<◌, ◌≤◌, ◌+◌, ◌^◌, ◌++◌, ◌∷◌, [], List, length, map, option_map, IfOk, IfErr, IfSome, OnOk, OnErr, None};
+ghost use Rattle.std.specs.Prelude.{◌≡◌, ◌<◌, ◌≤◌, ◌+◌, ◌^◌, ◌++◌, ◌∷◌, [], List, length, map, option_map, is_some, true, IfOk, IfErr, IfSome, OnOk, OnErr, None};
 ghost use Rattle.kube_model.specs.World.{World};
 ghost use Rattle.kube_model.specs.History.{Exchange, Step, Turn};
 ghost use Rattle.kube_model.specs.Turns.{next_source};
 ghost use Rattle.kube_history.specs.CoreWorld.{CoreWorld};
 ghost use Rattle.kube_history.specs.CoreEvents.{CoreEvent, Answered, answers_in};
 ghost use Rattle.kube_history.specs.Legal.{MayBeAnswered};
-ghost use Rattle.kube_core.specs.Cores.{HasSameHandles, StandsFor as CoreStands, with_room};
+ghost use Rattle.kube_core.specs.Cores.{HasSameHandles, Parts, StandsFor as CoreStands, with_room};
 ghost use Rattle.kube_turn.specs.Views.{exchange_of};
 ghost use Rattle.kube_asks.specs.Kept.{total};
-ghost use Rattle.kube_step.specs.Asked.{AreAsked, AreEndedBy, AreGivenUntil, IsAsked, MayAsk};
+ghost use Rattle.kube_step.specs.Asked.{AreAsked, AreEndedBy, AreGivenUntil, BringsNothing, IsAsked, MayAsk};
 
 use kube_asks::{AskFault, Asks, Backoff, RelatedSet, RootSource};
 use kube_core::Core;
@@ -32,6 +32,7 @@ fn give<K: Resource>(
     ensures clock { OnOk result (core.new.clock ≡ now) }
     ensures handles { HasSameHandles core.old.writer core.new.writer }
     ensures err { OnErr result (core.new ≡ with_room core.old core.new.pending.schedule.spare) }
+    ensures brings { OnErr result (BringsNothing (exchange_of K.type_of exchange) → ⊥) }
 {
     core.answer(alloc, &exchange, now)?;
     Ok(exchange)
@@ -68,12 +69,32 @@ fn ask_one<R: RootSource, S: RelatedSet<R::Object>, B: Backoff>(
     Ok(Some(exchange))
 }
 
+/// All that were made, where no source is left to ask; there is no memory for one more.
+fn end<R: RootSource, S: RelatedSet<R::Object>, B: Backoff>(
+    asks: &Asks<R, S, B>,
+    all: Vec<SourceExchange<R::Object>>,
+    now: Moment,
+) -> Result<List<SourceExchange<R::Object>>, AskFault>
+    requires few { length (S.feeds asks.now.related) + 1 < 2 ^ 32 }
+    ensures all { IfOk result (λ xs. xs ≡ all.items) }
+    ensures done { OnOk result ((w : World R.Object B) (h : List (Step R.Object)) (t : Turn) (xs : List (Exchange R.Object)) (es : List (CoreEvent R.Object)) (core : Parts R.Object R.Object.DynamicType) → t.at ≡ now.0
+        → MayAsk R.RootSource S.RelatedSet B.Backoff R.Object.Resource w h t xs es asks.now core → next_source w h t xs ≡ None) }
+    ensures left { IfErr result (λ f. (f ≡ AskFault.NoMemory) × ((w : World R.Object B) (h : List (Step R.Object)) (t : Turn) (xs : List (Exchange R.Object)) (es : List (CoreEvent R.Object)) (core : Parts R.Object R.Object.DynamicType) → t.at ≡ now.0
+        → MayAsk R.RootSource S.RelatedSet B.Backoff R.Object.Resource w h t xs es asks.now core → is_some (next_source w h t xs) ≡ true)) }
+{
+    if asks.has_next(now) {
+        return Err(AskFault::NoMemory);
+    }
+    Ok(List::from(all))
+}
+
 /// Makes the exchanges of a turn, until none is left to make, and gives each to what decides.
 ///
 /// # Errors
 ///
-/// `Unnamed` where an item of the next one must become a reference and has no name; `NoMemory`. What decides was given the
-/// exchanges that were made then; where memory was wanting, maybe not the last.
+/// `Unnamed` where an item of the next one must become a reference and has no name; `NoMemory` where a source is left to ask,
+/// or where the last exchange brought something. What decides was given the exchanges that were made then; where memory was
+/// wanting, maybe not the last.
 pub fn ask_all<R: RootSource, S: RelatedSet<R::Object>, B: Backoff>(
     asks: &mut Asks<R, S, B>,
     core: &mut Core<R::Object>,
@@ -100,11 +121,14 @@ pub fn ask_all<R: RootSource, S: RelatedSet<R::Object>, B: Backoff>(
         → MayAsk R.RootSource S.RelatedSet B.Backoff R.Object.Resource w h t [] es asks.old core.old
         → AreGivenUntil R.RootSource S.RelatedSet R.Object.Resource w h t f es [] asks.old.root asks.old.related asks.new.root asks.new.related core.new) }
 {
-    let mut all = List::new(alloc);
+    let mut all = Vec::new(alloc);
     loop {
+        let Ok(()) = all.reserve(1) else {
+            return end(asks, all, now);
+        };
         match ask_one(asks, core, alloc, now)? {
-            Some(exchange) => all.push(exchange)?,
-            None => return Ok(all),
+            Some(exchange) => all.push_reserved(exchange),
+            None => return Ok(List::from(all)),
         }
     }
 }

@@ -200,8 +200,9 @@ fn shown<K: Resource>(
     show: bool,
     core: &Core<K>,
 ) -> Result<Option<List<Arc<K>>>, NoMemory>
-    ensures { IfOk result (λ o. (world : CoreWorld K) (es : List (CoreEvent K)) → StandsFor K.type_of K.meta_of world es core.now
+    ensures shown { IfOk result (λ o. (world : CoreWorld K) (es : List (CoreEvent K)) → StandsFor K.type_of K.meta_of world es core.now
         → shown_objects o ≡ (if show then Some (cache_of world es) else None)) }
+    ensures err { OnErr result (show ≡ true) }
 {
     if !show {
         return Ok(None);
@@ -217,7 +218,8 @@ fn is_last<K: Resource>(core: &Core<K>, shutdown: Shutdown) -> bool
     matches!(shutdown, Shutdown::Forced) || core.is_shut() && core.running_len() == 0
 }
 
-/// Takes a turn that is not refused. All memory for its record is taken before its last take.
+/// Takes a turn that is not refused. All memory for its record is taken before its last take; none is taken after an exchange
+/// that is the last to make and brings nothing, but for a store that is shown and for what is taken.
 ///
 /// # Errors
 ///
@@ -278,10 +280,11 @@ where
         show,
     } = turn;
     let closed = close(core, shutdown);
-    asks.begin(Vec::from(budget));
+    let room = asks.room_for_stops(alloc)?;
+    asks.begin(alloc, Vec::from(budget))?;
     let finished = finish_all(core, error_policy, context, alloc, finishes, at)?;
     let exchanges = ask_where(!closed, asks, core, alloc, reload, on, at)?;
-    let stops = asks.stops(alloc, closed)?;
+    let stops = asks.stops_in(room, closed);
     let store = shown(alloc, show, core)?;
     let taken = take_where(!closed, core, reconciler, alloc, context, at)?;
     let ended = is_last(core, shutdown);

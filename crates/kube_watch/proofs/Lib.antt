@@ -1,5 +1,6 @@
 pub mod Annotations
 pub mod Asking
+pub mod Brings
 pub mod Fitting
 pub mod Idling
 pub mod Made

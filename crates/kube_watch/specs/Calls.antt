@@ -2,9 +2,10 @@
 use Rattle.std.specs.Prelude.{◌≡◌, ◌⊎◌, ℕ, Bool, true, false, List, map, Option, Some}
 use Rattle.std.specs.Arc.{arc_value}
 use Rattle.kube_model.specs.declared.call.Answer.{Answer}
-use Rattle.kube_model.specs.declared.call.Answer.TheVariants.{Fault, NotReady, Idle}
+use Rattle.kube_model.specs.declared.call.Answer.TheVariants.{Opened, Fault, End, NotReady, Idle, Spent}
 use Rattle.kube_model.specs.declared.call.Call.{Call}
-use Rattle.kube_model.specs.Raw.{Raw, RawAnswer, grown}
+use Rattle.kube_model.specs.declared.call.Call.TheVariants.{Watch}
+use Rattle.kube_model.specs.Raw.{Raw, RawAnswer, Waits, Opens, Ends, grown}
 use Rattle.kube_model.specs.Recorded.{raw_call, answer_of, items_of, IsAnsweredBy}
 use Rattle.kube_model.specs.World.{Settings}
 use Rattle.kube_meta.specs.declared.metadata.ObjectMeta.{ObjectMeta}
@@ -26,9 +27,27 @@ module _ {V : Type 0} (meta : V → ObjectMeta) where
     pub answer : IsAnsweredBy (version_of meta) raw c.answer
     pub items : map arc_value c.items ≡ items_of raw.answer
 
--- the talk is as it was, or longer by this one call
+-- whether an answer to a call brings something to keep, for which memory is taken after the call: objects, a version, an error, or that the objects which are there come first
+abbrev pub brings : Answer → Call → Bool
+brings NotReady call = false
+brings Idle call = false
+brings End call = false
+brings Spent call = false
+brings Opened (Watch version initial) = initial
+brings Opened call = false
+brings answer call = true
+
+-- the same of an answer as it came
+abbrev pub brings_raw : {V : Type 0} → RawAnswer V → Call → Bool
+brings_raw Waits call = false
+brings_raw Ends call = false
+brings_raw Opens (Watch version initial) = initial
+brings_raw Opens call = false
+brings_raw answer call = true
+
+-- the talk is as it was, or longer by this one call, whose answer brings something
 abbrev pub IsAskedOnce : {V : Type 0} → Settings → Call → Option (List (Raw V)) → Option (List (Raw V)) → Type 0
-IsAskedOnce {V} settings asked old new = (new ≡ old) ⊎ ((raw : Raw V) × (raw_call settings asked ≡ Some raw.call) × (new ≡ grown old raw))
+IsAskedOnce {V} settings asked old new = (new ≡ old) ⊎ ((raw : Raw V) × (raw_call settings asked ≡ Some raw.call) × (brings_raw raw.answer asked ≡ true) × (new ≡ grown old raw))
 
 abbrev pub is_fault_answer : Answer → Bool
 is_fault_answer (Fault error) = true

@@ -8,7 +8,7 @@ ghost use Rattle.kube_model.specs.World.{list_params, watch_params};
 ghost use Rattle.kube_model.specs.Fits.{nonempty, answers};
 ghost use Rattle.kube_api.specs.Answers.{event_answer};
 ghost use Rattle.kube_watch.specs.Configs.{settings_of};
-ghost use Rattle.kube_watch.specs.Calls.{IsCame, is_fault_answer};
+ghost use Rattle.kube_watch.specs.Calls.{IsCame, brings_raw, is_fault_answer};
 
 use crate::config::{Config, ListSemantic};
 use kube_api::{ApiMode, Bookmark, ListParams, Page, VersionMatch, WatchEvent, WatchParams};
@@ -183,6 +183,7 @@ fn event<K: Resource>(alloc: Global, event: WatchEvent<K>) -> Result<Came<K>, No
     ensures came { IfOk result (λ c. IsCame K.meta_of (event_answer event) c) }
     ensures answered { IfOk result (λ c. answers Call.Next c.answer ≡ true) }
     ensures sound { IfOk result (λ c. is_fault_answer c.answer ≡ false) }
+    ensures brings { OnErr result (brings_raw (event_answer event) Call.Next ≡ true) }
 {
     match event {
         WatchEvent::Added(object) => {
@@ -210,7 +211,7 @@ pub fn poll_watch<A: ApiMode>(
 ) -> Result<Came<A::Value>, NoMemory>
     ensures talk { IfOk result (λ c. (raw : Raw A.Value) × (raw.call ≡ NextAsked)
         × IsCame A.Value.meta_of raw.answer c × (A.talk api.new ≡ grown (A.talk api.old) raw) × A.moves api.old now.0 raw api.new) }
-    ensures lost { OnErr result ((A.talk api.new ≡ A.talk api.old) ⊎ ((raw : Raw A.Value) × (raw.call ≡ NextAsked) × (A.talk api.new ≡ grown (A.talk api.old) raw))) }
+    ensures lost { OnErr result ((A.talk api.new ≡ A.talk api.old) ⊎ ((raw : Raw A.Value) × (raw.call ≡ NextAsked) × (brings_raw raw.answer Call.Next ≡ true) × (A.talk api.new ≡ grown (A.talk api.old) raw))) }
     ensures answered { IfOk result (λ c. answers Call.Next c.answer ≡ true) }
     ensures faults { IfOk result (λ c. FaultRose (is_fault_answer c.answer) (A.faults api.old) (A.faults api.new)) }
     ensures rises { A.faults api.old ≤ A.faults api.new }

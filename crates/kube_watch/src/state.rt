@@ -1,7 +1,8 @@
 //! How far a watcher has come.
 
-ghost use Rattle.std.specs.Prelude.{◌≡◌, true, IfOk};
+ghost use Rattle.std.specs.Prelude.{◌≡◌, true, IfOk, OnErr};
 ghost use Rattle.kube_watch.specs.Agrees.{asks_api};
+ghost use Rattle.kube_watch.specs.Calls.{brings};
 ghost use Rattle.kube_watch.specs.Configs.{settings_of};
 ghost use Rattle.kube_watch.specs.States.{call_in, is_initial_in, after_page, after_opened, after_item, after_bookmark, after_fault, after_end, state_after, since_after};
 ghost use Rattle.kube_watch.specs.Units.{nanos_of};
@@ -161,7 +162,8 @@ fn after_end(state: State) -> State
 
 /// The state that an answer leaves.
 pub fn state_after(alloc: Global, state: State, answer: &Answer) -> Result<State, NoMemory>
-    ensures { IfOk result (λ s. s ≡ state_after state answer.now) }
+    ensures state { IfOk result (λ s. s ≡ state_after state answer.now) }
+    ensures brings { OnErr result ((call : Call) → brings answer.now call ≡ true) }
 {
     match answer {
         Answer::Page { token, version } => after_page(alloc, token, version),

@@ -1,13 +1,14 @@
 //! What a call with its answer tells.
 
 ghost use Rattle.kube_model.specs.Fits.{fault_of, unless_versioned};
-ghost use Rattle.std.specs.Prelude.{◌≡◌, ℕ, Bool, List, [], ◌∷◌, ◌++◌, IfOk, OnOk, map};
+ghost use Rattle.std.specs.Prelude.{◌≡◌, ℕ, Bool, List, [], ◌∷◌, ◌++◌, true, IfOk, OnOk, OnErr, map};
 ghost use Rattle.std.specs.Arc.{arc_value};
 ghost use Rattle.kube_model.specs.World.{Settings};
 ghost use Rattle.kube_watch.specs.Events.{event_map};
 ghost use Rattle.kube_watch.specs.Table.{table, begun, all_init, list_rows, initial_rows, later_rows};
 ghost use Rattle.kube_watch.specs.Units.{error_in};
 ghost use Rattle.kube_watch.specs.Told.{told_as};
+ghost use Rattle.kube_watch.specs.Calls.{brings};
 
 use crate::event::Event;
 use kube_api::copies::{copy_error, copy_status};
@@ -71,8 +72,9 @@ fn list_events<V: Drop>(
     answer: &Answer,
     items: &[Arc<V>],
 ) -> Result<List<Event<Arc<V>>>, NoMemory>
-    ensures { IfOk result (λ es. (settings : Settings) (kept : List ℕ) → map (event_map arc_value) es
+    ensures told { IfOk result (λ es. (settings : Settings) (kept : List ℕ) → map (event_map arc_value) es
         ≡ (list_rows settings kept asked.now answer.now (map arc_value items.now)).events) }
+    ensures brings { OnErr result (brings answer.now (Call.List asked.now) ≡ true) }
 {
     match answer {
         Answer::Page { token: Some(_), .. } => {
@@ -97,8 +99,9 @@ fn initial_events<V: Drop>(
     answer: &Answer,
     items: &[Arc<V>],
 ) -> Result<List<Event<Arc<V>>>, NoMemory>
-    ensures { IfOk result (λ es. (settings : Settings) (kept : List ℕ) → map (event_map arc_value) es
+    ensures told { IfOk result (λ es. (settings : Settings) (kept : List ℕ) → map (event_map arc_value) es
         ≡ (initial_rows settings kept answer.now (map arc_value items.now)).events) }
+    ensures brings { OnErr result (brings answer.now Call.Next ≡ true) }
 {
     match answer {
         Answer::Added { .. } | Answer::Modified { .. } => {
@@ -115,8 +118,9 @@ fn later_events<V: Drop>(
     answer: &Answer,
     items: &[Arc<V>],
 ) -> Result<List<Event<Arc<V>>>, NoMemory>
-    ensures { IfOk result (λ es. (settings : Settings) (kept : List ℕ) → map (event_map arc_value) es
+    ensures told { IfOk result (λ es. (settings : Settings) (kept : List ℕ) → map (event_map arc_value) es
         ≡ (later_rows settings kept answer.now (map arc_value items.now)).events) }
+    ensures brings { OnErr result (brings answer.now Call.Next ≡ true) }
 {
     match answer {
         Answer::Added { version: Some(_) } | Answer::Modified { version: Some(_) } => tell_all(
@@ -139,8 +143,9 @@ fn watch_events<V: Drop>(
     initial: bool,
     answer: &Answer,
 ) -> Result<List<Event<Arc<V>>>, NoMemory>
-    ensures { IfOk result (λ es. (settings : Settings) (kept version : List ℕ) (items : List V) (waits : Bool) → map (event_map arc_value) es
+    ensures told { IfOk result (λ es. (settings : Settings) (kept version : List ℕ) (items : List V) (waits : Bool) → map (event_map arc_value) es
         ≡ (table settings kept waits (Call.Watch version initial) answer.now items).events) }
+    ensures brings { OnErr result ((version : List ℕ) → brings answer.now (Call.Watch version initial) ≡ true) }
 {
     match answer {
         Answer::Opened if initial => only(alloc, Event::Init),
@@ -156,8 +161,9 @@ pub fn events_of<V: Drop>(
     answer: &Answer,
     items: &[Arc<V>],
 ) -> Result<List<Event<Arc<V>>>, NoMemory>
-    ensures { IfOk result (λ es. (settings : Settings) (kept : List ℕ) → map (event_map arc_value) es
+    ensures told { IfOk result (λ es. (settings : Settings) (kept : List ℕ) → map (event_map arc_value) es
         ≡ (table settings kept initial call.now answer.now (map arc_value items.now)).events) }
+    ensures brings { OnErr result (brings answer.now call.now ≡ true) }
 {
     match call {
         Call::List { token } => list_events(alloc, token, answer, items),
@@ -204,7 +210,8 @@ pub fn error_of(
     call: &Call,
     answer: &Answer,
 ) -> Result<Option<Error>, NoMemory>
-    ensures { IfOk result (λ e. e ≡ error_in initial call.now answer.now) }
+    ensures error { IfOk result (λ e. e ≡ error_in initial call.now answer.now) }
+    ensures brings { OnErr result (brings answer.now call.now ≡ true) }
 {
     match answer {
         Answer::Page { token, version } => {

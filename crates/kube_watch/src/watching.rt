@@ -11,7 +11,7 @@ ghost use Rattle.kube_model.specs.Fits.{answers, idle_fits, is_window_over, sile
 ghost use Rattle.kube_model.specs.Recorded.{IsRecorded};
 ghost use Rattle.kube_watch.specs.Agrees.{asks_api};
 ghost use Rattle.kube_watch.specs.Configs.{settings_of};
-ghost use Rattle.kube_watch.specs.Calls.{IsAsked, IsAskedOnce, is_fault_answer, idled, version_of};
+ghost use Rattle.kube_watch.specs.Calls.{IsAsked, IsAskedOnce, brings, is_fault_answer, idled, version_of};
 ghost use Rattle.kube_watch.specs.States.{call_in};
 ghost use Rattle.kube_watch.specs.Units.{IsMade, as_exchange, exchange_of, events_of, nanos_of};
 
@@ -176,7 +176,8 @@ impl<A: ApiMode> Watcher<A> {
     /// After an error it makes the call that is owed then at the next poll, at whatever moment: the pause after an error is
     /// its caller's. Moments may fall.
     ///
-    /// Errors: `NoMemory`, and only that from then on, since what it had asked can't be given back.
+    /// Errors: `NoMemory`, and only that from then on, since what it had asked can't be given back. It comes before the call,
+    /// in it, or where its answer brings something.
     pub fn poll_exchange(
         &mut self,
         alloc: Global,
@@ -236,7 +237,7 @@ impl<A: ApiMode> Watcher<A> {
 
     /// Makes the owed call at a moment, and gives its unit: as `poll_exchange`, with what the call and its answer tell.
     ///
-    /// Errors: `NoMemory`, and only that from then on.
+    /// Errors: `NoMemory`, and only that from then on. It comes before the call, in it, or where its answer brings something.
     pub fn poll_unit(&mut self, alloc: Global, now: Moment) -> Result<Unit<A::Value>, NoMemory>
         ensures owed { IfOk result (λ u. (ds : List (Dated A.Value)) → StandsFor ds self.old
             → u.call ≡ owed (Watched (settings_in self.old)) (exchanges_in ds)) }
@@ -247,6 +248,7 @@ impl<A: ApiMode> Watcher<A> {
             → IsTrue (is_next u.call) → IsTrue (idle_fits (is_window_over (window_of (Watched (settings_in self.old))) (silent_since ds) now.0) u.answer)) }
         ensures events { IfOk result (λ u. (ds : List (Dated A.Value)) → StandsFor ds self.old
             → events_of u ≡ (row_of (settings_in self.old) (exchanges_in ds) (exchange_of u)).events) }
+        ensures quiet { IfOk result (λ u. brings u.answer u.call ≡ false → events_of u ≡ []) }
         ensures objects { IfOk result (λ u. (ds : List (Dated A.Value)) → StandsFor ds self.old
             → flat_map objects_of (events_of u) ≡ (if has_references (mark (exchanges_in ds) (exchange_of u)) then map arc_value u.items else [])) }
         ensures error { IfOk result (λ u. (ds : List (Dated A.Value)) → StandsFor ds self.old

@@ -234,6 +234,24 @@ fn add_line(rt: &impl Abort, lines: &mut String, line: &str) {
     lines.push_str("\n").expect(rt, "memory");
 }
 
+/// Whether a source is asked next.
+fn next_word(has_next: bool) -> &'static str {
+    if has_next { "next:" } else { "no next:" }
+}
+
+/// Asks, and adds whether a source is asked next before that and what it gives, a line each.
+fn add_ask<R: Abort + Copy, B: Backoff>(
+    rt: &R,
+    alloc: Global,
+    asks: &mut Three<R, B>,
+    at: u64,
+    lines: &mut String,
+) {
+    add_line(rt, lines, next_word(asks.has_next(Moment(at))));
+    let asked = ask(rt, alloc, asks, at);
+    add_line(rt, lines, asked.as_str());
+}
+
 /// Makes the asks of a turn, and adds what they give and the stops after them, a line each.
 fn add_turn<R: Abort + Copy, B: Backoff>(
     rt: &R,
@@ -242,10 +260,10 @@ fn add_turn<R: Abort + Copy, B: Backoff>(
     turn: &Turn,
     lines: &mut String,
 ) {
-    asks.begin(budget(rt, alloc, turn.budget));
+    asks.begin(alloc, budget(rt, alloc, turn.budget))
+        .expect(rt, "memory");
     for _wanted in turn.asked {
-        let asked = ask(rt, alloc, asks, turn.at);
-        add_line(rt, lines, asked.as_str());
+        add_ask(rt, alloc, asks, turn.at, lines);
     }
     let stops = stops(rt, alloc, asks);
     add_line(rt, lines, stops.as_str());
@@ -302,6 +320,7 @@ fn wanted(rt: &impl Abort, alloc: Global, case: &Case) -> String {
     let mut lines = String::new(alloc);
     for turn in case.turns {
         for asked in turn.asked {
+            add_line(rt, &mut lines, next_word(*asked != "none"));
             add_line(rt, &mut lines, asked);
         }
         add_line(rt, &mut lines, turn.stops);
@@ -537,7 +556,8 @@ const FAILING: &[Reply] = &[Reply::NotReady, Reply::Fault];
 
 /// What an ask gives, and a second one after the API of the root was lent and given other replies.
 fn lent<R: Abort + Copy>(rt: &R, alloc: Global, asks: &mut Three<R, StopBackoff>) -> String {
-    asks.begin(budget(rt, alloc, &[9]));
+    asks.begin(alloc, budget(rt, alloc, &[9]))
+        .expect(rt, "memory");
     let first = ask(rt, alloc, asks, 0);
     asks.root_api().replies = FAILING;
     let second = ask(rt, alloc, asks, 0);
@@ -577,7 +597,8 @@ fn listed<R: Abort + Copy>(rt: &R, alloc: Global) -> RelatedList<Ticks<R>>
 fn list_asked<R: Abort + Copy>(rt: &R, alloc: Global, asks: &mut Listed<R>) -> String
     requires { length asks.old.related.items.items ≡ 2 }
 {
-    asks.begin(budget(rt, alloc, &[0, 1, 1]));
+    asks.begin(alloc, budget(rt, alloc, &[0, 1, 1]))
+        .expect(rt, "memory");
     let first = asked_once(rt, alloc, asks.next(alloc, Moment(0)));
     let second = asked_once(rt, alloc, asks.next(alloc, Moment(0)));
     format!(in alloc; "{first}, {second}").expect(rt, "memory")

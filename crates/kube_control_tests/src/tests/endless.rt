@@ -1,20 +1,22 @@
 //! An API whose list never ends.
 
-use super::script::{Answered, PLAIN, bare_turn, kind, objects, page, watching};
-use super::shown::{add_line, told};
+use super::script::{PLAIN, kind, objects, one_turn, page, run, watching};
+use super::shown::{add_line, told_once};
 use kube_api::{ApiError, ApiMode, ListParams, Page, WatchEvent, WatchParams};
 use kube_control::{Controller, DefaultBackoff, NoRelated, WatchRoot};
-use kube_meta::{Action, DynamicObject, Moment, NoMemory, Polled};
+use kube_meta::{DynamicObject, Moment, NoMemory, Polled};
 use kube_step::Recorder;
-use std::alloc::{AllocError, Global};
-use std::sync::Arc;
-use std::test::Fail;
+use std::alloc::Global;
+use std::panic::Expect;
+use std::process::Abort;
 
-/// Answers each list by a page of one object, with a token and no version.
+/// Answers each list by a page of one object, with a token and no version. It has what it stops by for want of memory.
 #[derive(Drop)]
-struct Endless;
+struct Endless<R> {
+    rt: R,
+}
 
-impl ApiMode for Endless {
+impl<R: Abort + Copy> ApiMode for Endless<R> {
     ghost use Rattle.std.specs.Prelude.{None, ◌^◌, ◌-◌};
 
     type Value = DynamicObject;
@@ -29,8 +31,8 @@ impl ApiMode for Endless {
         _params: &ListParams,
         _now: Moment,
     ) -> Result<Polled<Result<Page<DynamicObject>, ApiError>>, NoMemory> {
-        let objects = objects(alloc, &[("a", "1")])?;
-        Ok(Polled::Ready(Ok(page(alloc, objects, "t", "")?)))
+        let objects = objects(&self.rt, alloc, &[("a", "1")]);
+        Ok(Polled::Ready(Ok(page(&self.rt, alloc, objects, "t", ""))))
     }
 
     fn watch(
@@ -52,55 +54,40 @@ impl ApiMode for Endless {
     }
 }
 
-type Asking = Controller<WatchRoot<Endless>, NoRelated, DefaultBackoff>;
+type Asking<R> = Controller<WatchRoot<Endless<R>>, NoRelated, DefaultBackoff>;
 
-fn controller(alloc: Global) -> Result<Asking, NoMemory> {
-    let dyntype = kind(alloc, "ConfigMap")?;
-    Controller::new_with(alloc, Endless, watching(PLAIN), dyntype)
+fn controller<R: Abort + Copy>(rt: &R, alloc: Global) -> Asking<R> {
+    let dyntype = kind(rt, alloc, "ConfigMap");
+    let api = Endless { rt: *rt };
+    Controller::new_with(alloc, api, watching(PLAIN), dyntype).expect(rt, "memory")
 }
 
-/// One turn that may make so many exchanges.
-fn run(alloc: Global, controller: &mut Asking, budget: u32) -> Result<Answered, NoMemory> {
-    let turns = vec![in alloc; bare_turn(alloc, 0, &[budget], true)?]?;
-    let context = Arc::new(alloc, ())?;
+/// What one turn tells that may make so many exchanges.
+fn asked<R: Abort + Copy>(rt: &R, alloc: Global, budget: u32) -> String {
+    let turns = one_turn(rt, alloc, &[budget], true);
     let mut recorder = Recorder::new(alloc);
-    let policy = |_object: Arc<DynamicObject>, _error: &u64, _context: Arc<
-        (),
-    >| Action::await_change();
-    Ok(controller.run(alloc, &mut recorder, &policy, context, turns))
-}
-
-fn asked(alloc: Global, controller: Asking, budget: u32) -> Result<String, NoMemory> {
-    let mut controller = controller;
-    match run(alloc, &mut controller, budget) {
-        Ok(answered) => Ok(told(alloc, &answered, 1)?),
-        Err(error) => Err(error),
-    }
-}
-
-fn asked_anew(alloc: Global, budget: u32) -> Result<String, NoMemory> {
-    match controller(alloc) {
-        Ok(controller) => asked(alloc, controller, budget),
-        Err(error) => Err(error),
-    }
+    let mut controller = controller(rt, alloc);
+    let answered = run(rt, alloc, &mut controller, &mut recorder, turns);
+    told_once(rt, alloc, answered, 1)
 }
 
 /// Pages, each but the first by the token of the one before it, without a request; then nothing is taken or stored.
-fn wanted(alloc: Global, pages: u32) -> Result<String, AllocError> {
-    let mut text = String::from_str(alloc, "; list page")?;
+fn wanted(rt: &impl Abort, alloc: Global, pages: u32) -> String {
+    let mut text = String::from_str(alloc, "; list page").expect(rt, "memory");
     for _page in 1..pages {
-        text.push_str(", listt page")?;
+        text.push_str(", listt page").expect(rt, "memory");
     }
-    add_line(&mut text, "; budget; ; ")?;
-    add_line(&mut text, "1 ran")?;
-    Ok(text)
+    add_line(rt, &mut text, "; budget; ; ");
+    add_line(rt, &mut text, "1 ran");
+    text
 }
 
 #[test]
-fn asks_an_endless_list_within_the_budget(rt: HostRuntime) -> Result<(), Fail> {
+fn asks_an_endless_list_within_the_budget(rt: HostRuntime) {
+    let alloc = rt.alloc();
     for budget in [1, 2, 1000] {
-        let wanted = wanted(rt.alloc(), budget)?;
-        assert_eq!(rt; asked_anew(rt.alloc(), budget)?.as_str(), wanted.as_str());
+        let asked = asked(&rt, alloc, budget);
+        let wanted = wanted(&rt, alloc, budget);
+        assert_eq!(rt; asked.as_str(), wanted.as_str());
     }
-    Ok(())
 }

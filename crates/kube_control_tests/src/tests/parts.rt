@@ -2,15 +2,16 @@
 
 use super::node::Node;
 use super::related::turned;
-use super::script::{Listed, PLAIN, Tested, Told, controller, watching};
+use super::script::{Listed, PLAIN, Root, Tested, Told, controller, watching};
 use kube_api::{ResultPage, TestMode};
-use kube_control::{Controller, DefaultBackoff, NoRelated, ReconcileReason, WatchRoot};
+use kube_control::{Asks, Controller, Core, DefaultBackoff, NoRelated, ReconcileReason, WatchRoot};
 use kube_meta::text::copy_option;
-use kube_meta::{DynamicObject, NoMemory, Text};
+use kube_meta::{DynamicObject, Text};
 use kube_reflect::Store;
 use std::alloc::Global;
+use std::panic::Expect;
+use std::process::Abort;
 use std::sync::Wait;
-use std::test::Fail;
 
 /// A page with `a` and `b`.
 const LISTS: &[Listed] = &[Listed::Page(&[("a", "1"), ("b", "1")], "", "1")];
@@ -18,39 +19,29 @@ const LISTS: &[Listed] = &[Listed::Page(&[("a", "1"), ("b", "1")], "", "1")];
 /// A watch that tells of an object without a name.
 const WATCHES: &[&[Told]] = &[&[Told::Added(("", "2"))]];
 
-fn turned_once(
-    alloc: Global,
-    controller: Tested<DefaultBackoff>,
-    budget: u32,
-) -> Result<Tested<DefaultBackoff>, NoMemory> {
-    let mut controller = controller;
-    match turned(alloc, &mut controller, &[budget]) {
-        Ok(_told) => Ok(controller),
-        Err(error) => Err(error),
-    }
+/// A controller of these, after a turn with this budget.
+fn after_a_turn(rt: &impl Abort, alloc: Global, budget: u32) -> Tested<DefaultBackoff> {
+    let mut controller = controller(rt, alloc, PLAIN, LISTS, WATCHES);
+    turned(rt, alloc, &mut controller, &[budget]);
+    controller
 }
 
-/// A controller of these, after a turn with this budget.
-fn after_a_turn(alloc: Global, budget: u32) -> Result<Tested<DefaultBackoff>, NoMemory> {
-    match controller(alloc, PLAIN, LISTS, WATCHES) {
-        Ok(controller) => turned_once(alloc, controller, budget),
-        Err(error) => Err(error),
-    }
+/// What a controller has is published.
+fn publish<R: Abort + Wait>(rt: &R, alloc: Global, controller: &mut Tested<DefaultBackoff>) {
+    controller.publish(rt, alloc).expect(rt, "memory");
 }
 
 /// How many objects a handle reads before they are published, and after that.
-fn read_lengths<W: Wait>(
-    rt: &W,
+fn read_lengths<R: Abort + Wait>(
+    rt: &R,
     alloc: Global,
     controller: &mut Tested<DefaultBackoff>,
     reads: Store<DynamicObject>,
-) -> Result<(usize, usize), NoMemory> {
+) -> (usize, usize) {
     let mut reads = reads;
     let before = reads.len(rt);
-    match controller.publish(rt, alloc) {
-        Ok(_published) => Ok((before, reads.len(rt))),
-        Err(error) => Err(error),
-    }
+    publish(rt, alloc, controller);
+    (before, reads.len(rt))
 }
 
 /// How many more handles a controller gives, of nine that are asked for.
@@ -65,101 +56,112 @@ fn count_of_handles(controller: &mut Tested<DefaultBackoff>) -> u32 {
 }
 
 /// What a handle reads, and how many more there are; nothing where there is no handle.
-fn handles<W: Wait>(
-    rt: &W,
+fn handles<R: Abort + Wait>(
+    rt: &R,
     alloc: Global,
-    controller: Tested<DefaultBackoff>,
-) -> Result<Option<((usize, usize), u32)>, NoMemory> {
-    let mut controller = controller;
+    controller: &mut Tested<DefaultBackoff>,
+) -> Option<((usize, usize), u32)> {
     match controller.store() {
         Some(reads) => {
-            let lengths = read_lengths(rt, alloc, &mut controller, reads)?;
-            Ok(Some((lengths, count_of_handles(&mut controller))))
+            let lengths = read_lengths(rt, alloc, controller, reads);
+            Some((lengths, count_of_handles(controller)))
         }
-        None => Ok(None),
+        None => None,
     }
 }
 
-fn handles_after_a_turn<W: Wait>(
-    rt: &W,
-    alloc: Global,
-) -> Result<Option<((usize, usize), u32)>, NoMemory> {
-    match after_a_turn(alloc, 2) {
-        Ok(controller) => handles(rt, alloc, controller),
-        Err(error) => Err(error),
-    }
+fn handles_after_a_turn<R: Abort + Wait>(rt: &R, alloc: Global) -> Option<((usize, usize), u32)> {
+    let mut controller = after_a_turn(rt, alloc, 2);
+    handles(rt, alloc, &mut controller)
 }
 
 #[test]
-fn gives_four_handles(rt: HostRuntime) -> Result<(), Fail> {
-    assert_eq!(rt; handles_after_a_turn(&rt, rt.alloc())?, Some(((0, 2), 3)));
-    Ok(())
+fn gives_four_handles(rt: HostRuntime) {
+    assert_eq!(rt; handles_after_a_turn(&rt, rt.alloc()), Some(((0, 2), 3)));
 }
 
-/// How many calls of its API a controller made, and how many objects it has; none where it is spent.
-fn counts(controller: Tested<DefaultBackoff>) -> Option<(usize, usize)> {
-    let (mut asks, core) = controller.into_parts()?;
+/// How many calls of its API these parts made, and how many objects they have.
+fn counts_of(
+    asks: Asks<Root, NoRelated, DefaultBackoff>,
+    core: Core<DynamicObject>,
+) -> (usize, usize) {
+    let mut asks = asks;
     let calls = asks.root_api().get_recordings().len();
-    Some((calls, core.cache().len()))
+    (calls, core.cache().len())
+}
+
+/// The same of a controller's parts; none where it is spent.
+fn counts(controller: Tested<DefaultBackoff>) -> Option<(usize, usize)> {
+    match controller.into_parts() {
+        Some((asks, core)) => Some(counts_of(asks, core)),
+        None => None,
+    }
 }
 
 /// How many objects a controller has after a turn with this budget, and the counts of its parts.
-fn parts(alloc: Global, budget: u32) -> Result<(usize, Option<(usize, usize)>), NoMemory> {
-    match after_a_turn(alloc, budget) {
-        Ok(controller) => Ok((controller.cache().len(), counts(controller))),
-        Err(error) => Err(error),
-    }
+fn parts(rt: &impl Abort, alloc: Global, budget: u32) -> (usize, Option<(usize, usize)>) {
+    let controller = after_a_turn(rt, alloc, budget);
+    let len = controller.cache().len();
+    (len, counts(controller))
 }
 
 #[test]
-fn gives_its_parts_unless_it_is_spent(rt: HostRuntime) -> Result<(), Fail> {
-    assert_eq!(rt; parts(rt.alloc(), 0)?, (0, Some((0, 0))));
-    assert_eq!(rt; parts(rt.alloc(), 2)?, (2, Some((2, 2))));
-    assert_eq!(rt; parts(rt.alloc(), 3)?, (2, None));
-    Ok(())
+fn gives_its_parts_unless_it_is_spent(rt: HostRuntime) {
+    let alloc = rt.alloc();
+    assert_eq!(rt; parts(&rt, alloc, 0), (0, Some((0, 0))));
+    assert_eq!(rt; parts(&rt, alloc, 2), (2, Some((2, 2))));
+    assert_eq!(rt; parts(&rt, alloc, 3), (2, None));
 }
 
 type Nodes = Controller<WatchRoot<TestMode<Node>>, NoRelated, DefaultBackoff>;
 
-/// A controller of nodes, of which there are none.
-fn nodes(alloc: Global) -> Result<Nodes, NoMemory> {
-    let page = ResultPage::empty(alloc).resource_version(alloc, Some("1"))?;
-    let lists = vec![in alloc; Ok(page.into_page())]?;
-    let api = TestMode::new(alloc, lists, Vec::new(alloc));
-    Controller::new(alloc, api, watching(PLAIN))
+/// An API of nodes, of which there are none.
+fn api(rt: &impl Abort, alloc: Global) -> TestMode<Node> {
+    let page = ResultPage::empty(alloc)
+        .resource_version(alloc, Some("1"))
+        .expect(rt, "memory")
+        .into_page();
+    let lists = vec![in alloc; Ok(page)].expect(rt, "memory");
+    TestMode::new(alloc, lists, Vec::new(alloc))
+}
+
+/// A controller of them.
+fn nodes(rt: &impl Abort, alloc: Global) -> Nodes {
+    Controller::new(alloc, api(rt, alloc), watching(PLAIN)).expect(rt, "memory")
 }
 
 /// Whether a controller of nodes has none, and whether it gives its parts.
-fn is_empty_and_whole(alloc: Global) -> Result<(bool, bool), NoMemory> {
-    match nodes(alloc) {
-        Ok(nodes) => Ok((nodes.cache().is_empty(), nodes.into_parts().is_some())),
-        Err(error) => Err(error),
-    }
+fn is_empty_and_whole(rt: &impl Abort, alloc: Global) -> (bool, bool) {
+    let nodes = nodes(rt, alloc);
+    let is_empty = nodes.cache().is_empty();
+    (is_empty, nodes.into_parts().is_some())
 }
 
 #[test]
-fn watches_a_type_of_which_nothing_need_be_known(rt: HostRuntime) -> Result<(), Fail> {
-    assert_eq!(rt; is_empty_and_whole(rt.alloc())?, (true, true));
-    Ok(())
+fn watches_a_type_of_which_nothing_need_be_known(rt: HostRuntime) {
+    assert_eq!(rt; is_empty_and_whole(&rt, rt.alloc()), (true, true));
 }
 
 /// Whether the two copies of a text are as it was.
-fn copies(alloc: Global, text: &Text) -> Result<bool, NoMemory> {
-    let cloned = text.clone()?;
-    Ok(cloned == *text && copy_option(alloc, &Some(cloned))? == Some(text.copy(alloc)?))
+fn copies(rt: &impl Abort, alloc: Global, text: &Text) -> bool {
+    let cloned = text.clone().expect(rt, "memory");
+    let is_same = cloned == *text;
+    let copied = copy_option(alloc, &Some(cloned)).expect(rt, "memory");
+    let wanted = Some(text.copy(alloc).expect(rt, "memory"));
+    is_same && copied == wanted
 }
 
 /// Whether the copy of a reason is of its kind.
-fn copies_reason(alloc: Global, text: Text) -> Result<bool, NoMemory> {
+fn copies_reason(rt: &impl Abort, alloc: Global, text: Text) -> bool {
     let reason = ReconcileReason::Custom { reason: text };
-    let copied = reason.copy(alloc)?;
-    Ok(matches!(copied, ReconcileReason::Custom { .. }))
+    let copied = reason.copy(alloc).expect(rt, "memory");
+    matches!(copied, ReconcileReason::Custom { .. })
 }
 
 #[test]
-fn copies_are_equal(rt: HostRuntime) -> Result<(), Fail> {
+fn copies_are_equal(rt: HostRuntime) {
     let alloc = rt.alloc();
-    assert!(rt; copies(alloc, &Text::new(alloc, "ab")?)?);
-    assert!(rt; copies_reason(alloc, Text::new(alloc, "ab")?)?);
-    Ok(())
+    let text = Text::new(alloc, "ab").expect(&rt, "memory");
+    assert!(rt; copies(&rt, alloc, &text));
+    assert!(rt; copies_reason(&rt, alloc, text));
 }

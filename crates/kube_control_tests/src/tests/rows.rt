@@ -1,15 +1,16 @@
 //! Runs of a controller, row by row: what its API answers, its turns, and what they make.
 
 use super::script::{
-    Answered, Ask, Listed, PLAIN, QUIET, Row, Settings, Tested, Told, controller, run, turns,
+    Ask, Listed, PLAIN, QUIET, Row, Settings, Tested, Told, controller, run, turns,
 };
-use super::shown::{add_line, handed, told};
+use super::shown::{add_line, all, told_once};
 use kube_control::Backoff;
-use kube_meta::{DynamicObject, NoMemory};
+use kube_meta::DynamicObject;
 use kube_step::Recorder;
 use kube_streams::StopBackoff;
-use std::alloc::{AllocError, Global};
-use std::test::Fail;
+use std::alloc::Global;
+use std::panic::Expect;
+use std::process::Abort;
 
 /// The turns of a run, and how it ends.
 type Run = (&'static [Row], &'static str);
@@ -537,101 +538,79 @@ const CASES: [Case; 24] = [
     },
 ];
 
-fn told_once(alloc: Global, answered: Answered, turns: usize) -> Result<String, AllocError> {
-    told(alloc, &answered, turns)
-}
-
 /// What a run over these turns tells.
 fn ran<B: Backoff>(
+    rt: &impl Abort,
     alloc: Global,
     controller: &mut Tested<B>,
     recorder: &mut Recorder<DynamicObject>,
     rows: &[Row],
-) -> Result<String, NoMemory> {
-    let turns = turns(alloc, rows)?;
-    match run(alloc, controller, recorder, turns) {
-        Ok(answered) => Ok(told_once(alloc, answered, rows.len())?),
-        Err(error) => Err(error),
-    }
+) -> String {
+    let turns = turns(rt, alloc, rows);
+    let answered = run(rt, alloc, controller, recorder, turns);
+    told_once(rt, alloc, answered, rows.len())
 }
 
-/// Makes these runs, and adds what they tell, and what was handed over in them.
-fn add_runs<B: Backoff>(
+/// What these runs tell, and what was handed over in them.
+fn all_ran<B: Backoff>(
+    rt: &impl Abort,
     alloc: Global,
     controller: &mut Tested<B>,
     recorder: &mut Recorder<DynamicObject>,
     runs: &[Run],
-    lines: &mut String,
-) -> Result<(), NoMemory> {
+) -> String {
+    let mut lines = String::new(alloc);
     for (rows, _end) in runs {
-        lines.push_str(ran(alloc, controller, recorder, rows)?.as_str())?;
+        let ran = ran(rt, alloc, controller, recorder, rows);
+        lines.push_str(ran.as_str()).expect(rt, "memory");
     }
-    lines.push_str(handed(alloc, recorder)?.as_str())?;
-    Ok(())
-}
-
-fn played<B: Backoff>(
-    alloc: Global,
-    controller: &mut Tested<B>,
-    runs: &[Run],
-    lines: &mut String,
-) -> Result<(), NoMemory> {
-    let mut recorder = Recorder::new(alloc);
-    add_runs(alloc, controller, &mut recorder, runs, lines)
+    let handed = all(rt, alloc, recorder.hand_overs());
+    lines.push_str(handed.as_str()).expect(rt, "memory");
+    lines
 }
 
 /// The same of a controller that is let go then.
-fn all_played<B: Backoff>(
+fn played<B: Backoff>(
+    rt: &impl Abort,
     alloc: Global,
     controller: Tested<B>,
     runs: &[Run],
-    lines: &mut String,
-) -> Result<(), NoMemory> {
+) -> String {
     let mut controller = controller;
-    played(alloc, &mut controller, runs, lines)
+    let mut recorder = Recorder::new(alloc);
+    all_ran(rt, alloc, &mut controller, &mut recorder, runs)
 }
 
-/// The case with a new controller.
-fn add_made(alloc: Global, case: &Case, lines: &mut String) -> Result<(), NoMemory> {
-    match controller(alloc, case.settings, case.lists, case.watches) {
-        Ok(controller) => {
-            if case.gives_up {
-                let controller = controller.trigger_backoff(alloc, StopBackoff);
-                all_played(alloc, controller, case.runs, lines)
-            } else {
-                all_played(alloc, controller, case.runs, lines)
-            }
-        }
-        Err(error) => Err(error),
+/// What the runs of a new controller tell, and what was handed over in them.
+fn made(rt: &impl Abort, alloc: Global, case: &Case) -> String {
+    let controller = controller(rt, alloc, case.settings, case.lists, case.watches);
+    if case.gives_up {
+        let controller = controller.trigger_backoff(alloc, StopBackoff);
+        played(rt, alloc, controller, case.runs)
+    } else {
+        played(rt, alloc, controller, case.runs)
     }
-}
-
-/// What the runs tell, and what was handed over in them.
-fn made(alloc: Global, case: &Case) -> Result<String, NoMemory> {
-    let mut lines = String::new(alloc);
-    add_made(alloc, case, &mut lines)?;
-    Ok(lines)
 }
 
 /// What the runs should tell, and what should be handed over.
-fn wanted(alloc: Global, case: &Case) -> Result<String, AllocError> {
+fn wanted(rt: &impl Abort, alloc: Global, case: &Case) -> String {
     let mut lines = String::new(alloc);
     for (rows, end) in case.runs {
         for (_given, told) in *rows {
-            add_line(&mut lines, told)?;
+            add_line(rt, &mut lines, told);
         }
-        add_line(&mut lines, end)?;
+        add_line(rt, &mut lines, end);
     }
-    lines.push_str(case.handed)?;
-    Ok(lines)
+    lines.push_str(case.handed).expect(rt, "memory");
+    lines
 }
 
 #[test]
-fn runs_tell_what_their_rows_say(rt: HostRuntime) -> Result<(), Fail> {
+fn runs_tell_what_their_rows_say(rt: HostRuntime) {
+    let alloc = rt.alloc();
     for case in &CASES {
-        let made = made(rt.alloc(), case)?;
-        let wanted = wanted(rt.alloc(), case)?;
+        let made = made(&rt, alloc, case);
+        let wanted = wanted(&rt, alloc, case);
         assert_eq!(rt; made.as_str(), wanted.as_str(), "{}", case.name);
     }
-    Ok(())
 }

@@ -3,19 +3,20 @@
 ghost use Rattle.std.specs.Prelude.{◌+◌, ◌<◌, ◌^◌, length};
 
 use kube_api::{
-    ApiError, Bookmark, Page, ResultPage, Sequence, SequenceStep, Status, TestMode, WatchEvent,
+    ApiError, ApiMode, Bookmark, Page, ResultPage, Sequence, SequenceStep, Status, TestMode,
+    WatchEvent,
 };
 use kube_control::{
     Action, Backoff, Config, Controller, DefaultBackoff, Finish, NoRelated, RelatedSet, RunError,
     Shutdown, Trace, Turn, WatchRoot,
 };
-use kube_meta::{
-    ApiResource, DynamicObject, List, Moment, NoMemory, ObjectMeta, ObjectRef, Text, TextMap,
-};
+use kube_meta::{ApiResource, DynamicObject, List, Moment, ObjectMeta, ObjectRef, Text, TextMap};
 use kube_step::Recorder;
 use kube_watch::{Config as WatcherConfig, InitialListStrategy};
 use std::alloc::Global;
 use std::collections::VecDeque;
+use std::panic::Expect;
+use std::process::Abort;
 use std::sync::Arc;
 
 pub type Root = WatchRoot<TestMode<DynamicObject>>;
@@ -94,169 +95,167 @@ pub const PLAIN: Settings = Settings {
 pub const QUIET: &[Told] = &[Told::Wait(1_000_000_000_000)];
 
 /// The type of this name.
-pub fn kind(alloc: Global, name: &str) -> Result<Arc<ApiResource>, NoMemory> {
-    let resource = ApiResource {
-        group: Text::new(alloc, "")?,
-        version: Text::new(alloc, "v1")?,
-        api_version: Text::new(alloc, "v1")?,
-        kind: Text::new(alloc, name)?,
-        plural: Text::new(alloc, name)?,
-    };
-    Ok(Arc::new(alloc, resource)?)
+pub fn kind(rt: &impl Abort, alloc: Global, name: &str) -> Arc<ApiResource> {
+    let resource = ApiResource::new(alloc, "", "v1", name, name).expect(rt, "memory");
+    Arc::new(alloc, resource).expect(rt, "memory")
 }
 
-fn reference(alloc: Global, name: &str) -> Result<ObjectRef<DynamicObject>, NoMemory> {
-    let dyntype = kind(alloc, "ConfigMap")?;
-    ObjectRef::new_with(alloc, name, dyntype)
+fn reference(rt: &impl Abort, alloc: Global, name: &str) -> ObjectRef<DynamicObject> {
+    let dyntype = kind(rt, alloc, "ConfigMap");
+    ObjectRef::new_with(alloc, name, dyntype).expect(rt, "memory")
 }
 
 /// A text that is absent where it is empty.
-pub fn some_text(alloc: Global, text: &str) -> Result<Option<Text>, NoMemory> {
+pub fn some_text(rt: &impl Abort, alloc: Global, text: &str) -> Option<Text> {
     if text.is_empty() {
-        return Ok(None);
+        return None;
     }
-    Ok(Some(Text::new(alloc, text)?))
+    Some(Text::new(alloc, text).expect(rt, "memory"))
 }
 
-fn object(alloc: Global, named: Named) -> Result<Arc<DynamicObject>, NoMemory> {
+fn object(rt: &impl Abort, alloc: Global, named: Named) -> Arc<DynamicObject> {
     let (name, version) = named;
-    let name = some_text(alloc, name)?;
-    let resource_version = some_text(alloc, version)?;
     let metadata = ObjectMeta {
-        name,
-        resource_version,
-        ..ObjectMeta::empty()
+        name: some_text(rt, alloc, name),
+        namespace: None,
+        uid: None,
+        resource_version: some_text(rt, alloc, version),
+        deletion_timestamp: None,
+        generation: None,
+        labels: None,
+        annotations: None,
+        finalizers: None,
+        owner_references: None,
     };
-    Ok(Arc::new(alloc, DynamicObject::bare(metadata))?)
+    Arc::new(alloc, DynamicObject::bare(metadata)).expect(rt, "memory")
 }
 
-fn transport(alloc: Global) -> Result<ApiError, NoMemory> {
-    Ok(ApiError::Transport(Text::new(alloc, "torn")?))
+fn transport(rt: &impl Abort, alloc: Global) -> ApiError {
+    ApiError::Transport(Text::new(alloc, "torn").expect(rt, "memory"))
 }
 
-pub fn objects(alloc: Global, named: &[Named]) -> Result<Vec<Arc<DynamicObject>>, NoMemory> {
+pub fn objects(rt: &impl Abort, alloc: Global, named: &[Named]) -> Vec<Arc<DynamicObject>> {
     let mut objects = Vec::new(alloc);
     for one in named {
-        objects.push(object(alloc, *one)?)?;
+        objects.push(object(rt, alloc, *one)).expect(rt, "memory");
     }
-    Ok(objects)
-}
-
-fn empty_page(
-    alloc: Global,
-    token: &str,
-    version: &str,
-) -> Result<ResultPage<DynamicObject>, NoMemory> {
-    ResultPage::empty(alloc)
-        .continue_token(alloc, Some(token))?
-        .resource_version(alloc, Some(version))
+    objects
 }
 
 /// A page of these, with a token and a version.
 pub fn page(
+    rt: &impl Abort,
     alloc: Global,
     objects: Vec<Arc<DynamicObject>>,
     token: &str,
     version: &str,
-) -> Result<Page<DynamicObject>, NoMemory> {
-    let page = empty_page(alloc, token, version)?;
-    Ok(page.items(objects).into_page())
+) -> Page<DynamicObject> {
+    ResultPage::empty(alloc)
+        .continue_token(alloc, Some(token))
+        .expect(rt, "memory")
+        .resource_version(alloc, Some(version))
+        .expect(rt, "memory")
+        .items(objects)
+        .into_page()
 }
 
-fn list(alloc: Global, listed: Listed) -> Result<Result<Page<DynamicObject>, ApiError>, NoMemory> {
+fn list(rt: &impl Abort, alloc: Global, listed: Listed) -> Result<Page<DynamicObject>, ApiError> {
     match listed {
-        Listed::Page(named, token, version) => Ok(Ok(page(
-            alloc,
-            objects(alloc, named)?,
-            token,
-            version,
-        )?)),
-        Listed::Fault => Ok(Err(transport(alloc)?)),
+        Listed::Page(named, token, version) => {
+            let objects = objects(rt, alloc, named);
+            Ok(page(rt, alloc, objects, token, version))
+        }
+        Listed::Fault => Err(transport(rt, alloc)),
     }
 }
 
-fn bookmark(alloc: Global, version: &str, ending: bool) -> Result<Bookmark, NoMemory> {
+fn bookmark(rt: &impl Abort, alloc: Global, version: &str, ending: bool) -> Bookmark {
+    let version = Text::new(alloc, version).expect(rt, "memory");
     let mut annotations = TextMap::new(alloc);
     if ending {
-        let text = Text::new(alloc, "true")?;
-        annotations.insert(alloc, "k8s.io/initial-events-end", text)?;
+        let text = Text::new(alloc, "true").expect(rt, "memory");
+        annotations
+            .insert(alloc, "k8s.io/initial-events-end", text)
+            .expect(rt, "memory");
     }
-    let version = Text::new(alloc, version)?;
-    Ok(Bookmark {
+    Bookmark {
         version,
         annotations,
-    })
+    }
 }
 
-fn status(alloc: Global, code: u16) -> Result<Status, NoMemory> {
-    Ok(Status {
+fn status(rt: &impl Abort, alloc: Global, code: u16) -> Status {
+    Status {
         code,
-        reason: Text::new(alloc, "")?,
-        message: Text::new(alloc, "")?,
+        reason: Text::new(alloc, "").expect(rt, "memory"),
+        message: Text::new(alloc, "").expect(rt, "memory"),
         uid: None,
-    })
+    }
 }
 
 /// The event that is told, or the fault; a wait is told as a fault.
 fn event(
+    rt: &impl Abort,
     alloc: Global,
     told: Told,
-) -> Result<Result<WatchEvent<DynamicObject>, ApiError>, NoMemory> {
-    Ok(match told {
-        Told::Added(named) => Ok(WatchEvent::Added(object(alloc, named)?)),
-        Told::Modified(named) => Ok(WatchEvent::Modified(object(alloc, named)?)),
-        Told::Deleted(named) => Ok(WatchEvent::Deleted(object(alloc, named)?)),
-        Told::Bookmark(version) => Ok(WatchEvent::Bookmark(bookmark(alloc, version, false)?)),
-        Told::Ending(version) => Ok(WatchEvent::Bookmark(bookmark(alloc, version, true)?)),
-        Told::Error(code) => Ok(WatchEvent::Error(status(alloc, code)?)),
-        Told::Fault | Told::Wait(_) => Err(transport(alloc)?),
-    })
-}
-
-fn step(alloc: Global, told: Told) -> Result<SequenceStep<DynamicObject>, NoMemory> {
-    if let Told::Wait(nanos) = told {
-        return Ok(SequenceStep::Wait(nanos));
+) -> Result<WatchEvent<DynamicObject>, ApiError> {
+    match told {
+        Told::Added(named) => Ok(WatchEvent::Added(object(rt, alloc, named))),
+        Told::Modified(named) => Ok(WatchEvent::Modified(object(rt, alloc, named))),
+        Told::Deleted(named) => Ok(WatchEvent::Deleted(object(rt, alloc, named))),
+        Told::Bookmark(version) => Ok(WatchEvent::Bookmark(bookmark(rt, alloc, version, false))),
+        Told::Ending(version) => Ok(WatchEvent::Bookmark(bookmark(rt, alloc, version, true))),
+        Told::Error(code) => Ok(WatchEvent::Error(status(rt, alloc, code))),
+        Told::Fault | Told::Wait(_) => Err(transport(rt, alloc)),
     }
-    let events = vec![in alloc; event(alloc, told)?]?;
-    Ok(SequenceStep::List(VecDeque::from_vec(events)))
 }
 
-pub fn watch(alloc: Global, told: &[Told]) -> Result<Sequence<DynamicObject>, NoMemory> {
+fn step(rt: &impl Abort, alloc: Global, told: Told) -> SequenceStep<DynamicObject> {
+    if let Told::Wait(nanos) = told {
+        return SequenceStep::Wait(nanos);
+    }
+    let events = vec![in alloc; event(rt, alloc, told)].expect(rt, "memory");
+    SequenceStep::List(VecDeque::from_vec(events))
+}
+
+pub fn watch(rt: &impl Abort, alloc: Global, told: &[Told]) -> Sequence<DynamicObject> {
     let mut steps = Vec::new(alloc);
     for one in told {
-        steps.push(step(alloc, *one)?)?;
+        steps.push(step(rt, alloc, *one)).expect(rt, "memory");
     }
-    Ok(Sequence::new(steps))
+    Sequence::new(steps)
 }
 
 fn lists(
+    rt: &impl Abort,
     alloc: Global,
     listed: &[Listed],
-) -> Result<Vec<Result<Page<DynamicObject>, ApiError>>, NoMemory> {
+) -> Vec<Result<Page<DynamicObject>, ApiError>> {
     let mut lists = Vec::new(alloc);
     for one in listed {
-        lists.push(list(alloc, *one)?)?;
+        lists.push(list(rt, alloc, *one)).expect(rt, "memory");
     }
-    Ok(lists)
+    lists
 }
 
-fn watches(alloc: Global, watched: &[&[Told]]) -> Result<Vec<Sequence<DynamicObject>>, NoMemory> {
+fn watches(rt: &impl Abort, alloc: Global, watched: &[&[Told]]) -> Vec<Sequence<DynamicObject>> {
     let mut watches = Vec::new(alloc);
     for told in watched {
-        watches.push(watch(alloc, told)?)?;
+        watches.push(watch(rt, alloc, told)).expect(rt, "memory");
     }
-    Ok(watches)
+    watches
 }
 
 /// An API that answers lists and watches by these tables.
 fn api(
+    rt: &impl Abort,
     alloc: Global,
     listed: &[Listed],
     watched: &[&[Told]],
-) -> Result<TestMode<DynamicObject>, NoMemory> {
-    let lists = lists(alloc, listed)?;
-    let watches = watches(alloc, watched)?;
-    Ok(TestMode::new(alloc, lists, watches))
+) -> TestMode<DynamicObject> {
+    let lists = lists(rt, alloc, listed);
+    let watches = watches(rt, alloc, watched);
+    TestMode::new(alloc, lists, watches)
 }
 
 pub fn watching(settings: Settings) -> WatcherConfig {
@@ -279,108 +278,135 @@ fn taking(settings: Settings) -> Config {
 
 /// A controller of such an API.
 pub fn controller(
+    rt: &impl Abort,
     alloc: Global,
     settings: Settings,
     listed: &[Listed],
     watched: &[&[Told]],
-) -> Result<Tested<DefaultBackoff>, NoMemory> {
-    let dyntype = kind(alloc, "ConfigMap")?;
-    let api = api(alloc, listed, watched)?;
-    match Controller::new_with(alloc, api, watching(settings), dyntype) {
-        Ok(controller) => Ok(controller.with_config(alloc, taking(settings))),
-        Err(error) => Err(error),
-    }
+) -> Tested<DefaultBackoff> {
+    let dyntype = kind(rt, alloc, "ConfigMap");
+    let api = api(rt, alloc, listed, watched);
+    Controller::new_with(alloc, api, watching(settings), dyntype)
+        .expect(rt, "memory")
+        .with_config(alloc, taking(settings))
 }
 
-fn finish(
-    alloc: Global,
-    name: &str,
-    outcome: Result<Action, u64>,
-) -> Result<Finish<DynamicObject, u64>, NoMemory> {
-    let reference = reference(alloc, name)?;
-    Ok(Finish { reference, outcome })
-}
-
-fn apply(alloc: Global, turn: &mut Turn<DynamicObject, u64>, ask: Ask) -> Result<(), NoMemory> {
+/// The object whose reconcile ended, and how, where that is asked.
+fn ended(ask: Ask) -> Option<(&'static str, Result<Action, u64>)> {
     match ask {
-        Ask::Done(name) => {
-            turn.finishes
-                .push(finish(alloc, name, Ok(Action::await_change()))?)?;
-        }
-        Ask::Again(name, nanos) => {
-            turn.finishes
-                .push(finish(alloc, name, Ok(Action::requeue(nanos)))?)?;
-        }
-        Ask::Failed(name, nanos) => turn.finishes.push(finish(alloc, name, Err(nanos))?)?,
-        Ask::On(name) => turn.on.push(reference(alloc, name)?)?,
-        Ask::Reload => turn.reload = true,
-        Ask::Graceful => turn.shutdown = Shutdown::Graceful,
-        Ask::Forced => turn.shutdown = Shutdown::Forced,
+        Ask::Done(name) => Some((name, Ok(Action::await_change()))),
+        Ask::Again(name, nanos) => Some((name, Ok(Action::requeue(nanos)))),
+        Ask::Failed(name, nanos) => Some((name, Err(nanos))),
+        _ => None,
     }
-    Ok(())
 }
 
-fn budgets(alloc: Global, numbers: &[u32]) -> Result<List<u32>, NoMemory> {
+/// The reconciles that ended, in order.
+fn finishes(rt: &impl Abort, alloc: Global, asks: &[Ask]) -> List<Finish<DynamicObject, u64>> {
+    let mut finishes = List::new(alloc);
+    for ask in asks {
+        if let Some((name, outcome)) = ended(*ask) {
+            let reference = reference(rt, alloc, name);
+            finishes
+                .push(Finish { reference, outcome })
+                .expect(rt, "memory");
+        }
+    }
+    finishes
+}
+
+/// What is to be reconciled, in order.
+fn named(rt: &impl Abort, alloc: Global, asks: &[Ask]) -> List<ObjectRef<DynamicObject>> {
+    let mut named = List::new(alloc);
+    for ask in asks {
+        if let Ask::On(name) = *ask {
+            named.push(reference(rt, alloc, name)).expect(rt, "memory");
+        }
+    }
+    named
+}
+
+/// Whether a reload is asked, and the shutdown that is asked last.
+fn wishes(asks: &[Ask]) -> (bool, Shutdown) {
+    let mut reload = false;
+    let mut shutdown = Shutdown::No;
+    for ask in asks {
+        match *ask {
+            Ask::Reload => reload = true,
+            Ask::Graceful => shutdown = Shutdown::Graceful,
+            Ask::Forced => shutdown = Shutdown::Forced,
+            _ => {}
+        }
+    }
+    (reload, shutdown)
+}
+
+fn budgets(rt: &impl Abort, alloc: Global, numbers: &[u32]) -> List<u32> {
     let mut budgets = List::new(alloc);
     for one in numbers {
-        budgets.push(*one)?;
+        budgets.push(*one).expect(rt, "memory");
     }
-    Ok(budgets)
+    budgets
 }
 
-/// A turn with a budget for each source and nothing else, whose record shows the store or doesn't.
-pub fn bare_turn(
+/// A turn with a budget for each source, whose record shows the store or doesn't.
+fn turn(
+    rt: &impl Abort,
     alloc: Global,
     at: u64,
     budget: &[u32],
+    asks: &[Ask],
     show: bool,
-) -> Result<Turn<DynamicObject, u64>, NoMemory> {
-    let budget = budgets(alloc, budget)?;
-    Ok(Turn {
+) -> Turn<DynamicObject, u64> {
+    let (reload, shutdown) = wishes(asks);
+    Turn {
         at: Moment(at),
-        budget,
-        finishes: List::new(alloc),
-        reload: false,
-        on: List::new(alloc),
-        shutdown: Shutdown::No,
+        budget: budgets(rt, alloc, budget),
+        finishes: finishes(rt, alloc, asks),
+        reload,
+        on: named(rt, alloc, asks),
+        shutdown,
         show,
-    })
-}
-
-fn turn(alloc: Global, given: Given) -> Result<Turn<DynamicObject, u64>, NoMemory> {
-    let (at, budget, asks) = given;
-    let mut turn = bare_turn(alloc, at, &[budget], true)?;
-    for one in asks {
-        apply(alloc, &mut turn, *one)?;
     }
-    Ok(turn)
 }
 
-pub fn turns(alloc: Global, rows: &[Row]) -> Result<Vec<Turn<DynamicObject, u64>>, NoMemory> {
+/// One turn at the moment 0, of which nothing is asked besides its exchanges.
+pub fn one_turn(
+    rt: &impl Abort,
+    alloc: Global,
+    budget: &[u32],
+    show: bool,
+) -> Vec<Turn<DynamicObject, u64>> {
+    vec![in alloc; turn(rt, alloc, 0, budget, &[], show)].expect(rt, "memory")
+}
+
+pub fn turns(rt: &impl Abort, alloc: Global, rows: &[Row]) -> Vec<Turn<DynamicObject, u64>> {
     let mut turns = Vec::new(alloc);
     for (given, _told) in rows {
-        turns.push(turn(alloc, *given)?)?;
+        let (at, budget, asks) = *given;
+        turns
+            .push(turn(rt, alloc, at, &[budget], asks, true))
+            .expect(rt, "memory");
     }
-    Ok(turns)
+    turns
 }
 
 /// A run over these turns, of which there are nine at most. What failed is made again after as many nanoseconds as its error
 /// says.
-pub fn run<S: RelatedSet<DynamicObject>, B: Backoff>(
+pub fn run<A: ApiMode<Value = DynamicObject>, S: RelatedSet<DynamicObject>, B: Backoff>(
+    rt: &impl Abort,
     alloc: Global,
-    controller: &mut Controller<Root, S, B>,
+    controller: &mut Controller<WatchRoot<A>, S, B>,
     recorder: &mut Recorder<DynamicObject>,
     turns: Vec<Turn<DynamicObject, u64>>,
-) -> Result<Answered, NoMemory>
+) -> Answered
     requires few { length (S.feeds controller.old.asks.related) + 1 < 2 ^ 32 }
     requires may { S.can_poll controller.old.asks.related }
 {
-    if turns.len() > 9 {
-        return Err(NoMemory);
-    }
-    let context = Arc::new(alloc, ())?;
+    assert!(rt; turns.len() <= 9);
+    let context = Arc::new(alloc, ()).expect(rt, "memory");
     let policy = |_object: Arc<DynamicObject>, error: &u64, _context: Arc<()>| Action::requeue(
         *error,
     );
-    Ok(controller.run(alloc, recorder, &policy, context, turns))
+    controller.run(alloc, recorder, &policy, context, turns)
 }

@@ -2,26 +2,23 @@
 
 use super::script::Answered;
 use kube_control::{
-    Answer, BadTurn, Call, Finished, ReconcileReason, RunError, SourceExchange, Stop, Taken,
-    TurnRecord,
+    Answer, BadTurn, Call, Finished, Handed, ReconcileReason, RunError, SourceExchange, Stop,
+    Taken, TurnRecord,
 };
 use kube_meta::{DynamicObject, Text};
-use kube_step::Recorder;
-use std::alloc::{AllocError, Global};
+use std::alloc::Global;
+use std::panic::Expect;
+use std::process::Abort;
 use std::sync::Arc;
 
-pub fn add_line(lines: &mut String, line: &str) -> Result<(), AllocError> {
-    lines.push_str(line)?;
-    lines.push_str("\n")
+pub fn add_line(rt: &impl Abort, lines: &mut String, line: &str) {
+    lines.push_str(line).expect(rt, "memory");
+    lines.push_str("\n").expect(rt, "memory");
 }
 
-/// Adds a text behind the others of a list.
-fn add(list: &mut String, text: &str) -> Result<(), AllocError> {
-    if !list.is_empty() {
-        list.push_str(", ")?;
-    }
-    list.push_str(text)?;
-    Ok(())
+/// A text of its own.
+fn owned(rt: &impl Abort, alloc: Global, text: &str) -> String {
+    String::from_str(alloc, text).expect(rt, "memory")
 }
 
 fn text_of(text: &Option<Text>) -> &str {
@@ -32,21 +29,21 @@ fn text_of(text: &Option<Text>) -> &str {
 }
 
 /// An object's name and version.
-fn object(alloc: Global, object: &DynamicObject) -> Result<String, AllocError> {
+fn object(rt: &impl Abort, alloc: Global, object: &DynamicObject) -> String {
     let name = text_of(&object.metadata.name);
     let version = text_of(&object.metadata.resource_version);
-    format!(in alloc; "{name}{version}")
+    format!(in alloc; "{name}{version}").expect(rt, "memory")
 }
 
-fn call(alloc: Global, call: &Call) -> Result<String, AllocError> {
+fn call(rt: &impl Abort, alloc: Global, call: &Call) -> String {
     match call {
-        Call::List { token } => format!(in alloc; "list{}", text_of(token)),
+        Call::List { token } => format!(in alloc; "list{}", text_of(token)).expect(rt, "memory"),
         Call::Watch { version, initial } => {
             let first = if *initial { " initial" } else { "" };
-            format!(in alloc; "watch {}{first}", version.as_str())
+            format!(in alloc; "watch {}{first}", version.as_str()).expect(rt, "memory")
         }
-        Call::Next => String::from_str(alloc, "next"),
-        Call::Stream => String::from_str(alloc, "stream"),
+        Call::Next => owned(rt, alloc, "next"),
+        Call::Stream => owned(rt, alloc, "stream"),
     }
 }
 
@@ -68,27 +65,16 @@ fn answer(answer: &Answer) -> &'static str {
     }
 }
 
-/// The call, the answer, whether there is an error, and what is requested.
-fn exchange(alloc: Global, exchange: &SourceExchange<DynamicObject>) -> Result<String, AllocError> {
-    let mut shown = call(alloc, &exchange.call)?;
-    shown.push_str(" ")?;
-    shown.push_str(answer(&exchange.answer))?;
-    if exchange.error.is_some() {
-        shown.push_str(" failed")?;
-    }
+/// The names that are requested, each after a space.
+fn names(rt: &impl Abort, alloc: Global, exchange: &SourceExchange<DynamicObject>) -> String {
+    let mut names = String::new(alloc);
     for request in exchange.requests.as_slice() {
-        shown.push_str(" ")?;
-        shown.push_str(request.obj_ref.name.as_str())?;
+        names.push_str(" ").expect(rt, "memory");
+        names
+            .push_str(request.obj_ref.name.as_str())
+            .expect(rt, "memory");
     }
-    Ok(shown)
-}
-
-fn finished(alloc: Global, finished: &Finished<DynamicObject, u64>) -> Result<String, AllocError> {
-    let name = finished.reference.name.as_str();
-    match finished.action.requeue_after() {
-        Some(nanos) => format!(in alloc; "{name} again {nanos}"),
-        None => format!(in alloc; "{name} done"),
-    }
+    names
 }
 
 fn reason(reason: &ReconcileReason) -> &'static str {
@@ -102,70 +88,89 @@ fn reason(reason: &ReconcileReason) -> &'static str {
     }
 }
 
-fn taken(alloc: Global, taken: &Taken<DynamicObject>) -> Result<String, AllocError> {
-    match taken {
-        Taken::Started {
-            reason: why,
-            object: found,
-            ..
-        } => {
-            let mut shown = object(alloc, found)?;
-            shown.push_str(reason(why))?;
-            Ok(shown)
+/// An entry of a list.
+pub trait Entry {
+    fn text<R: Abort>(&self, rt: &R, alloc: Global) -> String;
+}
+
+impl Entry for Arc<DynamicObject> {
+    fn text<R: Abort>(&self, rt: &R, alloc: Global) -> String {
+        object(rt, alloc, &**self)
+    }
+}
+
+impl Entry for Handed<DynamicObject> {
+    fn text<R: Abort>(&self, rt: &R, alloc: Global) -> String {
+        object(rt, alloc, &*self.object)
+    }
+}
+
+/// The call, the answer, whether there is an error, and what is requested.
+impl Entry for SourceExchange<DynamicObject> {
+    fn text<R: Abort>(&self, rt: &R, alloc: Global) -> String {
+        let answer = answer(&self.answer);
+        let error = if self.error.is_some() { " failed" } else { "" };
+        let call = call(rt, alloc, &self.call);
+        let names = names(rt, alloc, self);
+        format!(in alloc; "{call} {answer}{error}{names}").expect(rt, "memory")
+    }
+}
+
+impl Entry for Finished<DynamicObject, u64> {
+    fn text<R: Abort>(&self, rt: &R, alloc: Global) -> String {
+        let name = self.reference.name.as_str();
+        match self.action.requeue_after() {
+            Some(nanos) => format!(in alloc; "{name} again {nanos}").expect(rt, "memory"),
+            None => format!(in alloc; "{name} done").expect(rt, "memory"),
         }
-        Taken::NotFound {
-            reference,
-            reason: why,
-        } => {
-            let name = reference.name.as_str();
-            format!(in alloc; "no {name}{}", reason(why))
+    }
+}
+
+impl Entry for Taken<DynamicObject> {
+    fn text<R: Abort>(&self, rt: &R, alloc: Global) -> String {
+        match self {
+            Taken::Started {
+                reason: why,
+                object: found,
+                ..
+            } => {
+                let found = object(rt, alloc, found);
+                format!(in alloc; "{found}{}", reason(why)).expect(rt, "memory")
+            }
+            Taken::NotFound {
+                reference,
+                reason: why,
+            } => {
+                let name = reference.name.as_str();
+                format!(in alloc; "no {name}{}", reason(why)).expect(rt, "memory")
+            }
+            Taken::Nothing => owned(rt, alloc, "nothing"),
         }
-        Taken::Nothing => String::from_str(alloc, "nothing"),
     }
 }
 
-fn all_finished(
-    alloc: Global,
-    record: &TurnRecord<DynamicObject, u64>,
-) -> Result<String, AllocError> {
+/// Adds a text behind the others of a list.
+fn add(rt: &impl Abort, list: &mut String, text: &str) {
+    if !list.is_empty() {
+        list.push_str(", ").expect(rt, "memory");
+    }
+    list.push_str(text).expect(rt, "memory");
+}
+
+/// All of these, in order.
+pub fn all<T: Entry>(rt: &impl Abort, alloc: Global, items: &[T]) -> String {
     let mut list = String::new(alloc);
-    for one in record.finished.as_slice() {
-        add(&mut list, finished(alloc, one)?.as_str())?;
+    for one in items {
+        let text = one.text(rt, alloc);
+        add(rt, &mut list, text.as_str());
     }
-    Ok(list)
+    list
 }
 
-fn all_exchanges(
-    alloc: Global,
-    record: &TurnRecord<DynamicObject, u64>,
-) -> Result<String, AllocError> {
-    let mut list = String::new(alloc);
-    for one in record.exchanges.as_slice() {
-        add(&mut list, exchange(alloc, one)?.as_str())?;
-    }
-    Ok(list)
-}
-
-fn all_taken(alloc: Global, record: &TurnRecord<DynamicObject, u64>) -> Result<String, AllocError> {
-    let mut list = String::new(alloc);
-    for one in record.taken.as_slice() {
-        add(&mut list, taken(alloc, one)?.as_str())?;
-    }
-    Ok(list)
-}
-
-fn all_objects(alloc: Global, objects: &[Arc<DynamicObject>]) -> Result<String, AllocError> {
-    let mut list = String::new(alloc);
-    for one in objects {
-        add(&mut list, object(alloc, one)?.as_str())?;
-    }
-    Ok(list)
-}
-
-fn store(alloc: Global, record: &TurnRecord<DynamicObject, u64>) -> Result<String, AllocError> {
+fn store(rt: &impl Abort, alloc: Global, record: &TurnRecord<DynamicObject, u64>) -> String {
     match &record.store {
-        Some(objects) => all_objects(alloc, objects.as_slice()),
-        None => String::from_str(alloc, "not shown"),
+        Some(objects) => all(rt, alloc, objects.as_slice()),
+        None => owned(rt, alloc, "not shown"),
     }
 }
 
@@ -181,14 +186,14 @@ fn stop(record: &TurnRecord<DynamicObject, u64>) -> &'static str {
 }
 
 /// What a record tells: finishes, exchanges, the stop, takes, the store and whether the trace ends.
-fn shown(alloc: Global, record: &TurnRecord<DynamicObject, u64>) -> Result<String, AllocError> {
-    let finished = all_finished(alloc, record)?;
-    let exchanges = all_exchanges(alloc, record)?;
-    let taken = all_taken(alloc, record)?;
-    let store = store(alloc, record)?;
+fn shown(rt: &impl Abort, alloc: Global, record: &TurnRecord<DynamicObject, u64>) -> String {
     let stop = stop(record);
     let end = if record.ended { "; ended" } else { "" };
-    format!(in alloc; "{finished}; {exchanges}; {stop}; {taken}; {store}{end}")
+    let finished = all(rt, alloc, record.finished.as_slice());
+    let exchanges = all(rt, alloc, record.exchanges.as_slice());
+    let taken = all(rt, alloc, record.taken.as_slice());
+    let store = store(rt, alloc, record);
+    format!(in alloc; "{finished}; {exchanges}; {stop}; {taken}; {store}{end}").expect(rt, "memory")
 }
 
 pub fn records(answered: &Answered) -> &[TurnRecord<DynamicObject, u64>] {
@@ -202,29 +207,37 @@ pub fn records(answered: &Answered) -> &[TurnRecord<DynamicObject, u64>] {
 }
 
 /// What the record of a turn tells; nothing where there is none.
-fn shown_at(alloc: Global, answered: &Answered, turn: usize) -> Result<String, AllocError> {
+fn shown_at(rt: &impl Abort, alloc: Global, answered: &Answered, turn: usize) -> String {
     match records(answered).get(turn) {
-        Some(record) => shown(alloc, record),
-        None => Ok(String::new(alloc)),
+        Some(record) => shown(rt, alloc, record),
+        None => String::new(alloc),
     }
 }
 
-fn why(alloc: Global, why: &BadTurn) -> Result<String, AllocError> {
+fn why(rt: &impl Abort, alloc: Global, why: &BadTurn) -> String {
     match why {
-        BadTurn::Moment { at, last } => format!(in alloc; "moment {} after {}", at.0, last.0),
-        BadTurn::NotRunning { finish } => format!(in alloc; "finish {finish} of none"),
-        BadTurn::Twice { finish } => format!(in alloc; "finish {finish} twice"),
+        BadTurn::Moment { at, last } => {
+            format!(in alloc; "moment {} after {}", at.0, last.0).expect(rt, "memory")
+        }
+        BadTurn::NotRunning { finish } => {
+            format!(in alloc; "finish {finish} of none").expect(rt, "memory")
+        }
+        BadTurn::Twice { finish } => {
+            format!(in alloc; "finish {finish} twice").expect(rt, "memory")
+        }
     }
 }
 
 /// How a run ended, and how many records it gave.
-pub fn end(alloc: Global, answered: &Answered) -> Result<String, AllocError> {
+pub fn end(rt: &impl Abort, alloc: Global, answered: &Answered) -> String {
     let count = records(answered).len();
     match answered {
-        Ok(_) => format!(in alloc; "{count} ran"),
-        Err(RunError::NoMemory { .. }) => Err(AllocError),
+        Ok(_) => format!(in alloc; "{count} ran").expect(rt, "memory"),
+        Err(RunError::NoMemory { .. }) => panic!(rt; "memory"),
         Err(RunError::UnnamedObject { turn, source, .. }) => {
-            format!(in alloc; "{count}, then turn {turn}: source {source} unnamed")
+            format!(in alloc; "{count}, then turn {turn}: source {source} unnamed").expect(
+                rt, "memory",
+            )
         }
         Err(
             RunError::BadTurn {
@@ -233,28 +246,26 @@ pub fn end(alloc: Global, answered: &Answered) -> Result<String, AllocError> {
                 ..
             },
         ) => {
-            let why = why(alloc, cause)?;
-            format!(in alloc; "{count}, then turn {turn}: {why}")
+            let why = why(rt, alloc, cause);
+            format!(in alloc; "{count}, then turn {turn}: {why}").expect(rt, "memory")
         }
-        Err(RunError::Spent { .. }) => format!(in alloc; "{count}, spent"),
+        Err(RunError::Spent { .. }) => format!(in alloc; "{count}, spent").expect(rt, "memory"),
     }
 }
 
 /// What the records of so many turns tell, and how the run ended, a line each.
-pub fn told(alloc: Global, answered: &Answered, turns: usize) -> Result<String, AllocError> {
+fn told(rt: &impl Abort, alloc: Global, answered: &Answered, turns: usize) -> String {
     let mut lines = String::new(alloc);
     for turn in 0..turns {
-        add_line(&mut lines, shown_at(alloc, answered, turn)?.as_str())?;
+        let shown = shown_at(rt, alloc, answered, turn);
+        add_line(rt, &mut lines, shown.as_str());
     }
-    add_line(&mut lines, end(alloc, answered)?.as_str())?;
-    Ok(lines)
+    let end = end(rt, alloc, answered);
+    add_line(rt, &mut lines, end.as_str());
+    lines
 }
 
-/// What was handed over.
-pub fn handed(alloc: Global, recorder: &Recorder<DynamicObject>) -> Result<String, AllocError> {
-    let mut list = String::new(alloc);
-    for one in recorder.hand_overs() {
-        add(&mut list, object(alloc, &one.object)?.as_str())?;
-    }
-    Ok(list)
+/// The same of an answer that is let go then.
+pub fn told_once(rt: &impl Abort, alloc: Global, answered: Answered, turns: usize) -> String {
+    told(rt, alloc, &answered, turns)
 }

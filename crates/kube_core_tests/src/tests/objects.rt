@@ -1,11 +1,11 @@
 //! Objects, exchanges and cores for the tests.
 
 use kube_core::Core;
-use kube_meta::{
-    Action, ApiResource, DynamicObject, List, Moment, NoMemory, ObjectMeta, ObjectRef, Text,
-};
+use kube_meta::{Action, ApiResource, DynamicObject, List, ObjectMeta, ObjectRef, Text};
 use kube_turn::{Answer, Call, Config, ReconcileReason, ReconcileRequest, SourceExchange, Taken};
 use std::alloc::Global;
+use std::panic::Expect;
+use std::process::Abort;
 use std::sync::Arc;
 
 pub type Kind = Arc<ApiResource>;
@@ -14,240 +14,254 @@ pub type Exchange = SourceExchange<DynamicObject>;
 
 pub type Tested = Core<DynamicObject>;
 
+fn text(rt: &impl Abort, alloc: Global, text: &str) -> Text {
+    Text::new(alloc, text).expect(rt, "memory")
+}
+
+/// A text that is absent where it is empty.
+fn some_text(rt: &impl Abort, alloc: Global, given: &str) -> Option<Text> {
+    if given.is_empty() {
+        return None;
+    }
+    Some(text(rt, alloc, given))
+}
+
 /// The type of config maps.
-pub fn config_maps(alloc: Global) -> Result<Kind, NoMemory> {
+pub fn config_maps(rt: &impl Abort, alloc: Global) -> Kind {
     let resource = ApiResource {
-        group: Text::new(alloc, "")?,
-        version: Text::new(alloc, "v1")?,
-        api_version: Text::new(alloc, "v1")?,
-        kind: Text::new(alloc, "ConfigMap")?,
-        plural: Text::new(alloc, "configmaps")?,
+        group: text(rt, alloc, ""),
+        version: text(rt, alloc, "v1"),
+        api_version: text(rt, alloc, "v1"),
+        kind: text(rt, alloc, "ConfigMap"),
+        plural: text(rt, alloc, "configmaps"),
     };
-    Ok(Arc::new(alloc, resource)?)
+    Arc::new(alloc, resource).expect(rt, "memory")
+}
+
+fn copied(rt: &impl Abort, kind: &Kind) -> Kind {
+    kind.clone().expect(rt, "memory")
 }
 
 /// The name of the object of a number.
-fn name_of(alloc: Global, number: u32) -> Result<Text, NoMemory> {
-    Ok(Text::from(format!(in alloc; "o{number}")?))
+fn name_of(rt: &impl Abort, alloc: Global, number: u32) -> Text {
+    Text::from(format!(in alloc; "o{number}").expect(rt, "memory"))
+}
+
+fn metadata(rt: &impl Abort, alloc: Global, number: u32) -> ObjectMeta {
+    ObjectMeta {
+        name: Some(name_of(rt, alloc, number)),
+        namespace: None,
+        uid: None,
+        resource_version: None,
+        deletion_timestamp: None,
+        generation: None,
+        labels: None,
+        annotations: None,
+        finalizers: None,
+        owner_references: None,
+    }
 }
 
 /// The object of a number.
-fn object(alloc: Global, number: u32) -> Result<Arc<DynamicObject>, NoMemory> {
-    let metadata = ObjectMeta {
-        name: Some(name_of(alloc, number)?),
-        ..ObjectMeta::empty()
-    };
-    Ok(Arc::new(alloc, DynamicObject::bare(metadata))?)
+fn object(rt: &impl Abort, alloc: Global, number: u32) -> Arc<DynamicObject> {
+    let metadata = metadata(rt, alloc, number);
+    Arc::new(alloc, DynamicObject::bare(metadata)).expect(rt, "memory")
 }
 
 /// The reference of the object of a number.
-fn reference(
-    alloc: Global,
-    kind: &Kind,
-    number: u32,
-) -> Result<ObjectRef<DynamicObject>, NoMemory> {
-    let name = name_of(alloc, number)?;
-    ObjectRef::new_with(alloc, name.as_str(), kind.clone()?)
+fn reference(rt: &impl Abort, alloc: Global, kind: &Kind, number: u32) -> ObjectRef<DynamicObject> {
+    let name = name_of(rt, alloc, number);
+    let kind = copied(rt, kind);
+    ObjectRef::new_with(alloc, name.as_str(), kind).expect(rt, "memory")
 }
 
 /// The objects of these numbers.
-fn objects(alloc: Global, first: u32, end: u32) -> Result<List<Arc<DynamicObject>>, NoMemory> {
+fn objects(rt: &impl Abort, alloc: Global, first: u32, end: u32) -> List<Arc<DynamicObject>> {
     let mut objects = List::new(alloc);
     for number in first..end {
-        objects.push(object(alloc, number)?)?;
+        objects.push(object(rt, alloc, number)).expect(rt, "memory");
     }
-    Ok(objects)
+    objects
 }
 
 /// A request for the object of a number, which was updated.
 fn update(
+    rt: &impl Abort,
     alloc: Global,
     kind: &Kind,
     number: u32,
-) -> Result<ReconcileRequest<DynamicObject>, NoMemory> {
-    Ok(ReconcileRequest {
-        obj_ref: reference(alloc, kind, number)?,
+) -> ReconcileRequest<DynamicObject> {
+    ReconcileRequest {
+        obj_ref: reference(rt, alloc, kind, number),
         reason: ReconcileReason::ObjectUpdated,
-    })
+    }
 }
 
 /// Requests for the objects before this number, which were updated.
 fn updates(
+    rt: &impl Abort,
     alloc: Global,
     kind: &Kind,
     end: u32,
-) -> Result<List<ReconcileRequest<DynamicObject>>, NoMemory> {
+) -> List<ReconcileRequest<DynamicObject>> {
     let mut requests = List::new(alloc);
     for number in 0..end {
-        requests.push(update(alloc, kind, number)?)?;
+        requests
+            .push(update(rt, alloc, kind, number))
+            .expect(rt, "memory");
     }
-    Ok(requests)
+    requests
 }
 
-/// A text that is absent where it is empty.
-fn some_text(alloc: Global, text: &str) -> Result<Option<Text>, NoMemory> {
-    if text.is_empty() {
-        return Ok(None);
+/// The answer of a page of version 1, with the token of a further one.
+fn page_answer(rt: &impl Abort, alloc: Global, next: &str) -> Answer {
+    Answer::Page {
+        token: some_text(rt, alloc, next),
+        version: Some(text(rt, alloc, "1")),
     }
-    Ok(Some(Text::new(alloc, text)?))
 }
 
 /// A page with the objects of these numbers, which requests those before `end` where it is the last.
 pub fn page(
+    rt: &impl Abort,
     alloc: Global,
     kind: &Kind,
     asked: &str,
     next: &str,
     first: u32,
     end: u32,
-) -> Result<Exchange, NoMemory> {
+) -> Exchange {
     let requested = if next.is_empty() { end } else { 0 };
-    let asked = some_text(alloc, asked)?;
-    let answer = Answer::Page {
-        token: some_text(alloc, next)?,
-        version: Some(Text::new(alloc, "1")?),
-    };
-    let items = objects(alloc, first, end)?;
-    let requests = updates(alloc, kind, requested)?;
-    Ok(SourceExchange {
+    SourceExchange {
         source: 0,
-        call: Call::List { token: asked },
-        answer,
-        items,
-        requests,
+        call: Call::List {
+            token: some_text(rt, alloc, asked),
+        },
+        answer: page_answer(rt, alloc, next),
+        items: objects(rt, alloc, first, end),
+        requests: updates(rt, alloc, kind, requested),
         error: None,
-    })
+    }
 }
 
 /// A watch that was opened from version 1.
-pub fn opened(alloc: Global) -> Result<Exchange, NoMemory> {
-    let version = Text::new(alloc, "1")?;
-    Ok(SourceExchange {
+pub fn opened(rt: &impl Abort, alloc: Global) -> Exchange {
+    SourceExchange {
         source: 0,
         call: Call::Watch {
-            version,
+            version: text(rt, alloc, "1"),
             initial: false,
         },
         answer: Answer::Opened,
         items: List::new(alloc),
         requests: List::new(alloc),
         error: None,
-    })
+    }
 }
 
 /// The object of a number was deleted.
-pub fn deleted(alloc: Global, number: u32) -> Result<Exchange, NoMemory> {
-    let version = Text::new(alloc, "2")?;
-    let items = objects(alloc, number, number.saturating_add(1))?;
-    Ok(SourceExchange {
+pub fn deleted(rt: &impl Abort, alloc: Global, number: u32) -> Exchange {
+    SourceExchange {
         source: 0,
         call: Call::Next,
         answer: Answer::Deleted {
-            version: Some(version),
+            version: Some(text(rt, alloc, "2")),
         },
-        items,
+        items: objects(rt, alloc, number, number.saturating_add(1)),
         requests: List::new(alloc),
         error: None,
-    })
+    }
 }
 
 /// An item of a related stream, which requests the objects before this number.
-pub fn related(alloc: Global, kind: &Kind, end: u32) -> Result<Exchange, NoMemory> {
-    let requests = updates(alloc, kind, end)?;
-    Ok(SourceExchange {
+pub fn related(rt: &impl Abort, alloc: Global, kind: &Kind, end: u32) -> Exchange {
+    SourceExchange {
         source: 1,
         call: Call::Stream,
         answer: Answer::Item,
         items: List::new(alloc),
-        requests,
+        requests: updates(rt, alloc, kind, end),
         error: None,
-    })
+    }
 }
 
 /// A core to which nothing was told.
-pub fn core(alloc: Global, kind: &Kind, concurrency: u16) -> Result<Tested, NoMemory> {
+pub fn core(rt: &impl Abort, alloc: Global, kind: &Kind, concurrency: u16) -> Tested {
     let config = Config::default().concurrency(concurrency);
-    Core::new(alloc, kind.clone()?, config, 1)
+    Core::new(alloc, copied(rt, kind), config, 1).expect(rt, "memory")
 }
 
 /// Answers at the core's clock.
-pub fn answered(
-    alloc: Global,
-    core: &mut Tested,
-    exchange: Result<Exchange, NoMemory>,
-) -> Result<bool, NoMemory> {
+pub fn answer(rt: &impl Abort, alloc: Global, core: &mut Tested, exchange: Exchange) {
     let now = core.clock();
-    core.answer(alloc, &exchange?, now)?;
-    Ok(true)
+    core.answer(alloc, &exchange, now).expect(rt, "memory");
 }
 
 /// Settles so many nanoseconds later.
-pub fn settle(core: &mut Tested, nanos: u64) -> bool {
+pub fn settle(core: &mut Tested, nanos: u64) {
     let now = core.clock().plus(nanos);
     core.settle(now);
-    true
 }
 
 /// The name of a taken message with how it was taken, and nothing where none was.
-fn shown(alloc: Global, taken: &Taken<DynamicObject>) -> Result<Text, NoMemory> {
-    Ok(match taken {
+fn shown(rt: &impl Abort, alloc: Global, taken: &Taken<DynamicObject>) -> String {
+    match taken {
         Taken::Started { reference, .. } => {
-            Text::from(format!(in alloc; "started {}", reference.name.as_str())?)
+            format!(in alloc; "started {}", reference.name.as_str()).expect(rt, "memory")
         }
         Taken::NotFound { reference, .. } => {
-            Text::from(format!(in alloc; "not found {}", reference.name.as_str())?)
+            format!(in alloc; "not found {}", reference.name.as_str()).expect(rt, "memory")
         }
-        Taken::Nothing => Text::new(alloc, "nothing")?,
-    })
+        Taken::Nothing => String::from_str(alloc, "nothing").expect(rt, "memory"),
+    }
+}
+
+/// Whether what was taken is told so.
+fn is_told(rt: &impl Abort, alloc: Global, taken: &Taken<DynamicObject>, told: &str) -> bool {
+    let shown = shown(rt, alloc, taken);
+    shown.as_str() == told
 }
 
 /// Whether a take at the core's clock is told so.
-pub fn takes(alloc: Global, core: &mut Tested, told: &str) -> Result<bool, NoMemory> {
+pub fn takes(rt: &impl Abort, alloc: Global, core: &mut Tested, told: &str) -> bool {
     let now = core.clock();
-    let taken = core.take(alloc, now)?;
-    let shown = shown(alloc, &taken)?;
-    Ok(shown.as_str() == told)
+    let taken = core.take(alloc, now).expect(rt, "memory");
+    is_told(rt, alloc, &taken, told)
 }
 
 /// Finishes the object of a number at the core's clock, with a requeue or none. Whether it ran.
 pub fn finish(
+    rt: &impl Abort,
     alloc: Global,
     core: &mut Tested,
     kind: &Kind,
     number: u32,
     requeue: Option<u64>,
-) -> Result<bool, NoMemory> {
-    let reference = reference(alloc, kind, number)?;
+) -> bool {
+    let reference = reference(rt, alloc, kind, number);
     let now = core.clock();
     let action = match requeue {
         Some(nanos) => Action::requeue(nanos),
         None => Action::await_change(),
     };
-    Ok(core.finish(&reference, true, action, now))
+    core.finish(&reference, true, action, now)
 }
 
 /// Whether the object of a number runs.
-pub fn runs(alloc: Global, core: &Tested, kind: &Kind, number: u32) -> Result<bool, NoMemory> {
-    let reference = reference(alloc, kind, number)?;
-    Ok(core.running(&reference).is_some())
+pub fn runs(rt: &impl Abort, alloc: Global, core: &Tested, kind: &Kind, number: u32) -> bool {
+    let reference = reference(rt, alloc, kind, number);
+    core.running(&reference).is_some()
 }
 
 /// Requests the object of a number at the core's clock.
-pub fn request(
-    alloc: Global,
-    core: &mut Tested,
-    kind: &Kind,
-    number: u32,
-) -> Result<bool, NoMemory> {
-    let reference = reference(alloc, kind, number)?;
+pub fn request(rt: &impl Abort, alloc: Global, core: &mut Tested, kind: &Kind, number: u32) {
+    let reference = reference(rt, alloc, kind, number);
     let now = core.clock();
-    core.request(alloc, reference, now)?;
-    Ok(true)
+    core.request(alloc, reference, now).expect(rt, "memory");
 }
 
 /// Reloads at the core's clock.
-pub fn reload(alloc: Global, core: &mut Tested) -> Result<bool, NoMemory> {
+pub fn reload(rt: &impl Abort, alloc: Global, core: &mut Tested) {
     let now = core.clock();
-    core.reload(alloc, now)?;
-    Ok(true)
+    core.reload(alloc, now).expect(rt, "memory");
 }

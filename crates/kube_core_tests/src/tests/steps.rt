@@ -1,13 +1,11 @@
 //! What is told to a core, one after another, and what it says of it.
 
 use super::objects::{
-    Kind, Tested, answered, config_maps, core, deleted, finish, opened, page, related, reload,
+    Kind, Tested, answer, config_maps, core, deleted, finish, opened, page, related, reload,
     request, runs, settle, takes,
 };
-use kube_meta::NoMemory;
 use std::alloc::Global;
 use std::process::Abort;
-use std::test::Fail;
 
 /// What is told to a core, or what it is asked with what it answers. An object is its number.
 #[derive(Clone, Copy)]
@@ -34,56 +32,60 @@ enum Step {
     Clock(u64),
 }
 
-/// Whether the core answers so.
-fn is_so(alloc: Global, core: &mut Tested, kind: &Kind, step: Step) -> Result<bool, NoMemory> {
+/// Tells a core a step; whether it is one that is told.
+fn is_told(rt: &impl Abort, alloc: Global, core: &mut Tested, kind: &Kind, step: Step) -> bool {
     match step {
         Step::Page(asked, next, first, end) => {
-            answered(alloc, core, page(alloc, kind, asked, next, first, end))
+            answer(
+                rt,
+                alloc,
+                core,
+                page(rt, alloc, kind, asked, next, first, end),
+            )
         }
-        Step::Opened => answered(alloc, core, opened(alloc)),
-        Step::Deleted(number) => answered(alloc, core, deleted(alloc, number)),
-        Step::Related(end) => answered(alloc, core, related(alloc, kind, end)),
-        Step::Request(number) => request(alloc, core, kind, number),
-        Step::Reload => reload(alloc, core),
-        Step::Settle(nanos) => Ok(settle(core, nanos)),
-        Step::Shut => {
-            core.shut();
-            Ok(true)
-        }
+        Step::Opened => answer(rt, alloc, core, opened(rt, alloc)),
+        Step::Deleted(number) => answer(rt, alloc, core, deleted(rt, alloc, number)),
+        Step::Related(end) => answer(rt, alloc, core, related(rt, alloc, kind, end)),
+        Step::Request(number) => request(rt, alloc, core, kind, number),
+        Step::Reload => reload(rt, alloc, core),
+        Step::Settle(nanos) => settle(core, nanos),
+        Step::Shut => core.shut(),
+        _ => return false,
+    }
+    true
+}
+
+/// Whether the core answers so.
+fn is_so(rt: &impl Abort, alloc: Global, core: &mut Tested, kind: &Kind, step: Step) -> bool {
+    match step {
         Step::Finish(number, requeue, ran) => {
-            Ok(finish(alloc, core, kind, number, requeue)? == ran)
+            finish(rt, alloc, core, kind, number, requeue) == ran
         }
-        Step::Takes(told) => takes(alloc, core, told),
-        Step::Runs(number, wanted) => Ok(runs(alloc, core, kind, number)? == wanted),
-        Step::Stored(len) => Ok(core.cache().len() == len),
-        Step::Waiting(len) => Ok(core.waiting_len() == len),
-        Step::Running(len) => Ok(core.running_len() == len),
-        Step::IsShut(wanted) => Ok(core.is_shut() == wanted),
-        Step::Clock(nanos) => Ok(core.clock().0 == nanos),
+        Step::Takes(told) => takes(rt, alloc, core, told),
+        Step::Runs(number, wanted) => runs(rt, alloc, core, kind, number) == wanted,
+        Step::Stored(len) => core.cache().len() == len,
+        Step::Waiting(len) => core.waiting_len() == len,
+        Step::Running(len) => core.running_len() == len,
+        Step::IsShut(wanted) => core.is_shut() == wanted,
+        Step::Clock(nanos) => core.clock().0 == nanos,
+        _ => is_told(rt, alloc, core, kind, step),
     }
 }
 
-fn check_steps(
-    rt: &impl Abort,
-    alloc: Global,
-    core: &mut Tested,
-    kind: &Kind,
-    steps: &[Step],
-) -> Result<(), Fail> {
+fn check_steps(rt: &impl Abort, alloc: Global, core: &mut Tested, kind: &Kind, steps: &[Step]) {
     for (index, step) in steps.iter().enumerate() {
-        assert!(rt; is_so(alloc, core, kind, *step)?, "{index}");
+        assert!(rt; is_so(rt, alloc, core, kind, *step), "{index}");
     }
-    Ok(())
 }
 
 /// As many may run at once, and the steps of the core.
 type Case = (u16, &'static [Step]);
 
-fn check(rt: &impl Abort, alloc: Global, case: &Case) -> Result<(), Fail> {
+fn check(rt: &impl Abort, alloc: Global, case: &Case) {
     let (concurrency, steps) = *case;
-    let kind = config_maps(alloc)?;
-    let mut core = core(alloc, &kind, concurrency)?;
-    check_steps(rt, alloc, &mut core, &kind, steps)
+    let kind = config_maps(rt, alloc);
+    let mut core = core(rt, alloc, &kind, concurrency);
+    check_steps(rt, alloc, &mut core, &kind, steps);
 }
 
 const CASES: [Case; 8] = [
@@ -214,9 +216,8 @@ const CASES: [Case; 8] = [
 ];
 
 #[test]
-fn each_call_is_one_event(rt: HostRuntime) -> Result<(), Fail> {
+fn each_call_is_one_event(rt: HostRuntime) {
     for case in &CASES {
-        check(&rt, rt.alloc(), case)?;
+        check(&rt, rt.alloc(), case);
     }
-    Ok(())
 }

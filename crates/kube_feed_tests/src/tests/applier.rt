@@ -1,25 +1,22 @@
 //! Appliers: rows of turns over a queue and a store, and many references that are made again.
 
-ghost use Rattle.std.specs.Prelude.{◌≡◌, IfOk};
-
-use super::objects::{Maps, Named, Reads, Stored, kind, make_stored, object, opened, publish};
+use super::objects::{
+    Maps, Named, Reads, Stored, add, apply, drop_writer, handle, kind, publish, told, writer,
+};
 use super::scripted::{Request, Said, Scripted};
-use super::shown::{records, told};
-use super::turns::{Answered, Ask, Row, bare_turn, run, turns};
+use super::shown::{add_line, records, told_once};
+use super::turns::{Answered, Ask, Row, one_turn, run, turns};
 use kube_feed::{Applier, Config, Finish, Recorder, Taken, Turn, TurnRecord, applier};
-use kube_meta::{Action, DynamicObject, Moment, Next, NoMemory, ObjectRef};
+use kube_meta::{Action, DynamicObject, List, Moment, Next, ObjectRef};
 use kube_model::error::Error;
-use kube_reflect::WriteError;
 use kube_turn::ReconcileRequest;
-use kube_watch::stream::fault_of;
 use kube_watch::{Event, EventStream, StreamFault};
-use std::alloc::{AllocError, Global};
+use std::alloc::Global;
+use std::panic::Expect;
+use std::process::Abort;
 use std::sync::Wait;
-use std::test::Fail;
 
-type Queue = Scripted<Request>;
-
-type Tested = Applier<DynamicObject, Queue>;
+type Tested<R> = Applier<DynamicObject, Scripted<R, Request>>;
 
 /// What the store's writer told, how many references run at a time, what the queue answers, and the turns.
 type Case = (Stored, u16, &'static [Said], &'static [Row], &'static str);
@@ -160,130 +157,107 @@ const CASES: &[Case] = &[
     ),
 ];
 
-fn make(
+fn make<R: Abort + Copy>(
+    rt: &R,
     alloc: Global,
     store: Reads,
     concurrency: u16,
     script: &'static [Said],
-) -> Result<Tested, NoMemory> {
+) -> Tested<R> {
     let config = Config::default().concurrency(concurrency);
-    applier(alloc, store, Scripted::new(script), config)
+    applier(alloc, store, Scripted::new(rt, script), config).expect(rt, "memory")
 }
 
-/// What the records of a run over these turns tell, and how it ended.
-fn ran<R: Wait>(
-    rt: &R,
-    alloc: Global,
-    applier: &mut Tested,
-    rows: &[Row],
-) -> Result<String, NoMemory> {
-    let turns = turns(alloc, rows)?;
-    let mut recorder = Recorder::new(alloc);
-    let answered = run(rt, alloc, applier, &mut recorder, turns)?;
-    Ok(told(alloc, &answered)?)
-}
-
-/// The same of a case, over this store.
-fn ran_over<R: Wait>(rt: &R, alloc: Global, case: &Case, store: Reads) -> Result<String, NoMemory> {
+/// What the records of a case's run over this store tell, and how it ended.
+fn ran<R: Abort + Copy + Wait>(rt: &R, alloc: Global, case: &Case, store: Reads) -> String {
     let (_told, concurrency, script, rows, _end) = *case;
-    let mut applier = make(alloc, store, concurrency, script)?;
-    ran(rt, alloc, &mut applier, rows)
+    let turns = turns(rt, alloc, rows);
+    let mut recorder = Recorder::new(alloc);
+    let mut applier = make(rt, alloc, store, concurrency, script);
+    let answered = run(rt, alloc, &mut applier, &mut recorder, turns);
+    told_once(rt, alloc, answered)
 }
 
-/// The same of a case.
-fn ran_case<R: Wait>(rt: &R, alloc: Global, case: &Case) -> Result<String, NoMemory> {
-    let (told, _concurrency, _script, _rows, _end) = *case;
-    let (store, _writer) = make_stored(rt, alloc, told)?;
-    ran_over(rt, alloc, case, store)
+/// The same over a store of its own.
+fn made<R: Abort + Copy + Wait>(rt: &R, alloc: Global, case: &Case) -> String {
+    let (stored, _concurrency, _script, _rows, _end) = *case;
+    let mut writer = writer(rt, alloc);
+    let store = handle(rt, &mut writer);
+    let writer = told(rt, alloc, writer, stored);
+    let made = ran(rt, alloc, case, store);
+    drop_writer(writer);
+    made
 }
 
 /// What a case's rows and end tell, a line each.
-fn wanted(alloc: Global, case: &Case) -> Result<String, AllocError> {
+fn wanted(rt: &impl Abort, alloc: Global, case: &Case) -> String {
     let (_told, _concurrency, _script, rows, end) = *case;
     let mut lines = String::new(alloc);
     for (_given, told) in rows {
         if !told.is_empty() {
-            lines.push_str(told)?;
-            lines.push_str("\n")?;
+            add_line(rt, &mut lines, told);
         }
     }
-    lines.push_str(end)?;
-    lines.push_str("\n")?;
-    Ok(lines)
+    add_line(rt, &mut lines, end);
+    lines
 }
 
 #[test]
-fn appliers_take_turns(rt: HostRuntime) -> Result<(), Fail> {
+fn appliers_take_turns(rt: HostRuntime) {
     let alloc = rt.alloc();
     for case in CASES {
-        assert_eq!(rt;
-            ran_case(&rt, alloc, case)?.as_str(),
-            wanted(alloc, case)?.as_str()
-        );
+        let made = made(&rt, alloc, case);
+        let wanted = wanted(&rt, alloc, case);
+        assert_eq!(rt; made.as_str(), wanted.as_str());
     }
-    Ok(())
 }
 
 /// How many references there are.
 const MANY: u32 = 5_000;
 
 /// The name of a number.
-fn name_of(alloc: Global, number: u32) -> Result<String, AllocError> {
-    format!(in alloc; "o{number}")
+fn name_of(rt: &impl Abort, alloc: Global, number: u32) -> String {
+    format!(in alloc; "o{number}").expect(rt, "memory")
 }
 
-fn add(alloc: Global, writer: &mut Maps, number: u32) -> Result<(), NoMemory> {
-    let name = name_of(alloc, number)?;
-    let event = Event::InitApply(object(alloc, (name.as_str(), "1"), "")?);
-    match writer.apply_watcher_event(alloc, &event) {
-        Ok(()) => Ok(()),
-        Err(WriteError::NoMemory) => Err(NoMemory),
-        Err(WriteError::Unnamed) => Ok(()),
-    }
+/// The object of a number is told.
+fn add_numbered(rt: &impl Abort, alloc: Global, writer: &mut Maps, number: u32) {
+    let name = name_of(rt, alloc, number);
+    add(rt, alloc, writer, (name.as_str(), "1"));
 }
 
 /// A list of many objects.
-fn list_many(alloc: Global, writer: &mut Maps) -> Result<(), NoMemory> {
+fn list_many(rt: &impl Abort, alloc: Global, writer: &mut Maps) {
     for number in 0..MANY {
-        add(alloc, writer, number)?;
+        add_numbered(rt, alloc, writer, number);
     }
-    match writer.apply_watcher_event(alloc, &Event::InitDone) {
-        Ok(()) => Ok(()),
-        Err(_) => Err(NoMemory),
-    }
+    apply(rt, alloc, writer, &Event::InitDone);
 }
 
-/// Requests many objects, one a poll, and then is not ready.
+/// Requests many objects, one a poll, and then is not ready. It has what it stops by for want of memory.
 #[derive(Drop)]
-struct Many {
+struct Many<R> {
+    rt: R,
     next: u32,
-    fault: Option<StreamFault>,
 }
 
-impl Many {
-    fn request(&mut self, alloc: Global) -> Result<Request, NoMemory> {
-        let name = name_of(alloc, self.next)?;
-        let dyntype = kind(alloc, "ConfigMap")?;
-        self.next = self.next.saturating_add(1);
-        Ok(ReconcileRequest::from_ref(ObjectRef::new_with(alloc, name.as_str(), dyntype)?))
-    }
-
-    fn answer(&mut self, alloc: Global) -> Result<Next<Result<Request, Error>>, StreamFault> {
-        if self.next == MANY {
-            return Ok(Next::NotReady);
-        }
-        Ok(Next::Item(Ok(self.request(alloc)?)))
-    }
+/// The request for the object of a number.
+fn request(rt: &impl Abort, alloc: Global, number: u32) -> Request {
+    let name = name_of(rt, alloc, number);
+    let dyntype = kind(rt, alloc, "ConfigMap");
+    let reference = ObjectRef::new_with(alloc, name.as_str(), dyntype).expect(rt, "memory");
+    ReconcileRequest::from_ref(reference)
 }
 
-impl EventStream for Many {
+impl<R: Abort + Copy> EventStream for Many<R> {
     ghost use Rattle.std.specs.Prelude.{None};
 
     type Item = Request;
 
     ghost told = { λ _. None };
 
-    ghost fault = { λ s. s.fault };
+    // it answers no fault
+    ghost fault = { λ _. None };
 
     fn poll_next(
         &mut self,
@@ -291,90 +265,82 @@ impl EventStream for Many {
         _now: Moment,
         _fuel: u32,
     ) -> Result<Next<Result<Request, Error>>, StreamFault> {
-        if let Some(fault) = self.fault {
-            return Err(fault);
+        if self.next == MANY {
+            return Ok(Next::NotReady);
         }
-        let answer = self.answer(alloc);
-        self.fault = fault_of(&answer);
-        answer
+        let number = self.next;
+        self.next = number.saturating_add(1);
+        Ok(Next::Item(Ok(request(&self.rt, alloc, number))))
     }
-}
-
-/// An applier of many requests, over a store that has all of them.
-fn make_many<R: Wait>(
-    rt: &R,
-    alloc: Global,
-    reader: Reads,
-    writer: &mut Maps,
-) -> Result<Applier<DynamicObject, Many>, NoMemory> {
-    list_many(alloc, writer)?;
-    publish(rt, alloc, writer)?;
-    let queue = Many {
-        next: 0,
-        fault: None,
-    };
-    applier(alloc, reader, queue, Config::default())
 }
 
 /// A finish of what was started, which is made again at once.
 fn again(
+    rt: &impl Abort,
     alloc: Global,
     taken: &Taken<DynamicObject>,
-) -> Result<Option<Finish<DynamicObject, u64>>, NoMemory> {
+) -> Option<Finish<DynamicObject, u64>> {
     match taken {
-        Taken::Started { reference, .. } => Ok(Some(Finish {
-            reference: reference.copy(alloc)?,
+        Taken::Started { reference, .. } => Some(Finish {
+            reference: reference.copy(alloc).expect(rt, "memory"),
             outcome: Ok(Action::requeue(0)),
-        })),
-        Taken::NotFound { .. } => Ok(None),
-        Taken::Nothing => Ok(None),
+        }),
+        Taken::NotFound { .. } => None,
+        Taken::Nothing => None,
     }
 }
 
-/// A turn that finishes all that a record started.
-fn finishing(
+/// The finishes of all that a record started.
+fn all_again(
+    rt: &impl Abort,
     alloc: Global,
     record: &TurnRecord<DynamicObject, u64>,
-) -> Result<Turn<DynamicObject, u64>, NoMemory> {
-    let mut turn = bare_turn(alloc, 0, &[MANY, 1])?;
+) -> List<Finish<DynamicObject, u64>> {
+    let mut finishes = List::new(alloc);
     for taken in record.taken.as_slice() {
-        if let Some(finish) = again(alloc, taken)? {
-            turn.finishes.push(finish)?;
+        if let Some(finish) = again(rt, alloc, taken) {
+            finishes.push(finish).expect(rt, "memory");
         }
     }
-    Ok(turn)
+    finishes
 }
 
-/// The turn after a run: the first, or one that finishes what the last record started.
-fn next_turn(
-    alloc: Global,
-    answered: &Option<Answered>,
-) -> Result<Turn<DynamicObject, u64>, NoMemory> {
-    let Some(answered) = answered else {
-        return bare_turn(alloc, 0, &[MANY]);
-    };
+/// The turn after a run, which finishes what its last record started.
+fn next_turn(rt: &impl Abort, alloc: Global, answered: &Answered) -> Vec<Turn<DynamicObject, u64>> {
     match records(answered).last() {
-        Some(record) => finishing(alloc, record),
-        None => bare_turn(alloc, 0, &[]),
+        Some(record) => {
+            let finishes = all_again(rt, alloc, record);
+            one_turn(rt, alloc, &[MANY, 1], finishes)
+        }
+        None => one_turn(rt, alloc, &[], List::new(alloc)),
     }
 }
 
-fn run_turn<R: Wait>(
+type Asked<R> = Applier<DynamicObject, Many<R>>;
+
+fn run_turn<R: Abort + Copy + Wait>(
     rt: &R,
     alloc: Global,
-    applier: &mut Applier<DynamicObject, Many>,
-    answered: &Option<Answered>,
-) -> Result<Answered, NoMemory> {
-    let turns = vec![in alloc; next_turn(alloc, answered)?]?;
+    applier: &mut Asked<R>,
+    turn: Vec<Turn<DynamicObject, u64>>,
+) -> Answered {
     let mut recorder = Recorder::new(alloc);
-    run(rt, alloc, applier, &mut recorder, turns)
+    run(rt, alloc, applier, &mut recorder, turn)
+}
+
+/// What the turn after a run answers.
+fn run_next<R: Abort + Copy + Wait>(
+    rt: &R,
+    alloc: Global,
+    applier: &mut Asked<R>,
+    answered: Answered,
+) -> Answered {
+    let turn = next_turn(rt, alloc, &answered);
+    run_turn(rt, alloc, applier, turn)
 }
 
 /// How many references a run finished.
-fn finished(answered: &Option<Answered>) -> usize {
-    let Some(answered) = answered else {
-        return 0;
-    };
+fn finished(answered: &Answered) -> usize {
     match records(answered).last() {
         Some(record) => record.finished.as_slice().len(),
         None => 0,
@@ -382,29 +348,36 @@ fn finished(answered: &Option<Answered>) -> usize {
 }
 
 /// How many references an applier finishes in four turns.
-fn finished_by<R: Wait>(
-    rt: &R,
-    alloc: Global,
-    applier: &mut Applier<DynamicObject, Many>,
-) -> Result<usize, NoMemory> {
-    let mut answered = None;
-    let mut all: usize = 0;
-    for _turn in 0..4 {
-        answered = Some(run_turn(rt, alloc, applier, &answered)?);
+fn finished_by<R: Abort + Copy + Wait>(rt: &R, alloc: Global, applier: &mut Asked<R>) -> usize {
+    let first = one_turn(rt, alloc, &[MANY], List::new(alloc));
+    let mut answered = run_turn(rt, alloc, applier, first);
+    let mut all = finished(&answered);
+    for _turn in 1..4 {
+        answered = run_next(rt, alloc, applier, answered);
         all = all.saturating_add(finished(&answered));
     }
-    Ok(all)
+    all
 }
 
-/// The same of an applier over a store that has all.
-fn all_finished<R: Wait>(rt: &R, alloc: Global) -> Result<usize, NoMemory> {
-    let (reader, mut writer) = opened(alloc)?;
-    let mut applier = make_many(rt, alloc, reader, &mut writer)?;
+/// The same of an applier of many requests, over this store.
+fn finished_over<R: Abort + Copy + Wait>(rt: &R, alloc: Global, store: Reads) -> usize {
+    let queue = Many { rt: *rt, next: 0 };
+    let mut applier = applier(alloc, store, queue, Config::default()).expect(rt, "memory");
     finished_by(rt, alloc, &mut applier)
 }
 
+/// The same over a store that has all.
+fn all_finished<R: Abort + Copy + Wait>(rt: &R, alloc: Global) -> usize {
+    let mut writer = writer(rt, alloc);
+    let store = handle(rt, &mut writer);
+    list_many(rt, alloc, &mut writer);
+    publish(rt, alloc, &mut writer);
+    let finished = finished_over(rt, alloc, store);
+    drop_writer(Some(writer));
+    finished
+}
+
 #[test]
-fn many_references_are_made_again(rt: HostRuntime) -> Result<(), Fail> {
-    assert_eq!(rt; all_finished(&rt, rt.alloc())?, 15_000);
-    Ok(())
+fn many_references_are_made_again(rt: HostRuntime) {
+    assert_eq!(rt; all_finished(&rt, rt.alloc()), 15_000);
 }

@@ -1,13 +1,11 @@
 //! Objects, references, and stores that handles read.
 
-ghost use Rattle.std.specs.Prelude.{◌≡◌, IfOk};
-
-use kube_meta::{
-    ApiResource, DynamicObject, List, NoMemory, ObjectMeta, ObjectRef, OwnerReference, Text,
-};
-use kube_reflect::{Store, WriteError, Writer};
+use kube_meta::{ApiResource, DynamicObject, List, ObjectMeta, ObjectRef, OwnerReference, Text};
+use kube_reflect::{Store, Writer};
 use kube_watch::Event;
 use std::alloc::Global;
+use std::panic::Expect;
+use std::process::Abort;
 use std::sync::{Arc, Wait};
 
 pub type Object = Arc<DynamicObject>;
@@ -20,53 +18,59 @@ pub type Reads = Store<DynamicObject>;
 pub type Named = (&'static str, &'static str);
 
 /// The type of this name.
-pub fn kind(alloc: Global, name: &str) -> Result<Arc<ApiResource>, NoMemory> {
-    let resource = ApiResource::new(alloc, "", "v1", name, name)?;
-    Ok(Arc::new(alloc, resource)?)
+pub fn kind(rt: &impl Abort, alloc: Global, name: &str) -> Arc<ApiResource> {
+    let resource = ApiResource::new(alloc, "", "v1", name, name).expect(rt, "memory");
+    Arc::new(alloc, resource).expect(rt, "memory")
 }
 
-pub fn reference(alloc: Global, name: &str) -> Result<ObjectRef<DynamicObject>, NoMemory> {
-    let dyntype = kind(alloc, "ConfigMap")?;
-    ObjectRef::new_with(alloc, name, dyntype)
+pub fn reference(rt: &impl Abort, alloc: Global, name: &str) -> ObjectRef<DynamicObject> {
+    let dyntype = kind(rt, alloc, "ConfigMap");
+    ObjectRef::new_with(alloc, name, dyntype).expect(rt, "memory")
 }
 
 /// A text that is absent where it is empty.
-fn some_text(alloc: Global, text: &str) -> Result<Option<Text>, NoMemory> {
+fn some_text(rt: &impl Abort, alloc: Global, text: &str) -> Option<Text> {
     if text.is_empty() {
-        return Ok(None);
+        return None;
     }
-    Ok(Some(Text::new(alloc, text)?))
+    Some(Text::new(alloc, text).expect(rt, "memory"))
+}
+
+fn owner(rt: &impl Abort, alloc: Global, name: &str) -> OwnerReference {
+    OwnerReference {
+        api_version: Text::new(alloc, "v1").expect(rt, "memory"),
+        kind: Text::new(alloc, "ConfigMap").expect(rt, "memory"),
+        name: Text::new(alloc, name).expect(rt, "memory"),
+        uid: Text::new(alloc, "u").expect(rt, "memory"),
+    }
 }
 
 /// The config map of this name as an owner.
-fn owners(alloc: Global, name: &str) -> Result<Option<List<OwnerReference>>, NoMemory> {
+fn owners(rt: &impl Abort, alloc: Global, name: &str) -> Option<List<OwnerReference>> {
     if name.is_empty() {
-        return Ok(None);
+        return None;
     }
-    let owner = OwnerReference {
-        api_version: Text::new(alloc, "v1")?,
-        kind: Text::new(alloc, "ConfigMap")?,
-        name: Text::new(alloc, name)?,
-        uid: Text::new(alloc, "u")?,
-    };
     let mut owners = List::new(alloc);
-    owners.push(owner)?;
-    Ok(Some(owners))
+    owners.push(owner(rt, alloc, name)).expect(rt, "memory");
+    Some(owners)
 }
 
 /// An object by its name and its version, and the config map that owns it; the empty text for none.
-pub fn object(alloc: Global, named: (&str, &str), owner: &str) -> Result<Object, NoMemory> {
+pub fn object(rt: &impl Abort, alloc: Global, named: (&str, &str), owner: &str) -> Object {
     let (name, version) = named;
-    let name = some_text(alloc, name)?;
-    let resource_version = some_text(alloc, version)?;
-    let owner_references = owners(alloc, owner)?;
     let metadata = ObjectMeta {
-        name,
-        resource_version,
-        owner_references,
-        ..ObjectMeta::empty()
+        name: some_text(rt, alloc, name),
+        namespace: None,
+        uid: None,
+        resource_version: some_text(rt, alloc, version),
+        deletion_timestamp: None,
+        generation: None,
+        labels: None,
+        annotations: None,
+        finalizers: None,
+        owner_references: owners(rt, alloc, owner),
     };
-    Ok(Arc::new(alloc, DynamicObject::bare(metadata))?)
+    Arc::new(alloc, DynamicObject::bare(metadata)).expect(rt, "memory")
 }
 
 /// What the writer of a store told.
@@ -80,106 +84,69 @@ pub enum Stored {
     Listed(&'static [Named]),
 }
 
-fn apply(alloc: Global, writer: &mut Maps, event: &Event<Object>) -> Result<(), NoMemory> {
-    match writer.apply_watcher_event(alloc, event) {
-        Ok(()) => Ok(()),
-        Err(WriteError::NoMemory) => Err(NoMemory),
-        Err(WriteError::Unnamed) => Ok(()),
-    }
+pub fn apply(rt: &impl Abort, alloc: Global, writer: &mut Maps, event: &Event<Object>) {
+    writer
+        .apply_watcher_event(alloc, event)
+        .expect(rt, "applied");
 }
 
-fn add(alloc: Global, writer: &mut Maps, named: Named) -> Result<(), NoMemory> {
-    let event = Event::InitApply(object(alloc, named, "")?);
-    apply(alloc, writer, &event)
+/// An object of a list is told.
+pub fn add(rt: &impl Abort, alloc: Global, writer: &mut Maps, named: (&str, &str)) {
+    let event = Event::InitApply(object(rt, alloc, named, ""));
+    apply(rt, alloc, writer, &event);
 }
 
 /// A list of these is told.
-fn list(alloc: Global, writer: &mut Maps, listed: &[Named]) -> Result<(), NoMemory> {
-    apply(alloc, writer, &Event::Init)?;
+fn list(rt: &impl Abort, alloc: Global, writer: &mut Maps, listed: &[Named]) {
+    apply(rt, alloc, writer, &Event::Init);
     for named in listed {
-        add(alloc, writer, *named)?;
+        add(rt, alloc, writer, *named);
     }
-    apply(alloc, writer, &Event::InitDone)
+    apply(rt, alloc, writer, &Event::InitDone);
 }
 
 /// A writer of config maps, with one reader place.
-fn writer(alloc: Global) -> Result<Maps, NoMemory> {
-    Writer::new(alloc, kind(alloc, "ConfigMap")?, 1)
+pub fn writer(rt: &impl Abort, alloc: Global) -> Maps {
+    let kind = kind(rt, alloc, "ConfigMap");
+    Writer::new(alloc, kind, 1).expect(rt, "memory")
 }
 
-/// A writer of config maps, and its one handle.
-pub fn opened(alloc: Global) -> Result<(Reads, Maps), NoMemory> {
-    let mut writer = writer(alloc)?;
-    match writer.as_reader() {
-        Some(reader) => Ok((reader, writer)),
-        None => Err(NoMemory),
-    }
+/// The one handle of a new writer.
+pub fn handle(rt: &impl Abort, writer: &mut Maps) -> Reads {
+    writer.as_reader().expect(rt, "a handle")
 }
 
 /// What was applied is published.
-pub fn publish<R: Wait>(rt: &R, alloc: Global, writer: &mut Maps) -> Result<(), NoMemory> {
-    match writer.publish(rt, alloc) {
-        Ok(_published) => Ok(()),
-        Err(error) => Err(error),
-    }
+pub fn publish<R: Abort + Wait>(rt: &R, alloc: Global, writer: &mut Maps) {
+    writer.publish(rt, alloc).expect(rt, "memory");
 }
 
-/// A list of these is told and published.
-fn list_shown<R: Wait>(
-    rt: &R,
-    alloc: Global,
-    writer: &mut Maps,
-    listed: &[Named],
-) -> Result<(), NoMemory> {
-    list(alloc, writer, listed)?;
-    publish(rt, alloc, writer)
-}
-
-/// The writer, after a list of these.
-fn told_list<R: Wait>(
-    rt: &R,
-    alloc: Global,
-    writer: Maps,
-    listed: &[Named],
-) -> Result<Option<Maps>, NoMemory> {
+/// The writer, after a list of these that was published.
+fn told_list<R: Abort + Wait>(rt: &R, alloc: Global, writer: Maps, listed: &[Named]) -> Maps {
     let mut writer = writer;
-    match list_shown(rt, alloc, &mut writer, listed) {
-        Ok(()) => Ok(Some(writer)),
-        Err(error) => Err(error),
-    }
+    list(rt, alloc, &mut writer, listed);
+    publish(rt, alloc, &mut writer);
+    writer
 }
 
-/// No writer, once it has ended.
-fn told_end<R: Wait>(rt: &R, alloc: Global, writer: Maps) -> Result<Option<Maps>, NoMemory> {
+/// A writer ends.
+fn end<R: Abort + Wait>(rt: &R, alloc: Global, writer: Maps) {
     match writer.end(rt, alloc) {
-        Ok(_ended) => Ok(None),
-        Err(_) => Err(NoMemory),
+        Ok(_ended) => {}
+        Err(_) => panic!(rt; "memory"),
     }
 }
 
 /// A writer that tells this; it has ended where it is none.
-fn told<R: Wait>(
-    rt: &R,
-    alloc: Global,
-    writer: Maps,
-    stored: Stored,
-) -> Result<Option<Maps>, NoMemory> {
+pub fn told<R: Abort + Wait>(rt: &R, alloc: Global, writer: Maps, stored: Stored) -> Option<Maps> {
     match stored {
-        Stored::Ended => told_end(rt, alloc, writer),
-        Stored::Nothing => Ok(Some(writer)),
-        Stored::Listed(listed) => told_list(rt, alloc, writer, listed),
+        Stored::Ended => {
+            end(rt, alloc, writer);
+            None
+        }
+        Stored::Nothing => Some(writer),
+        Stored::Listed(listed) => Some(told_list(rt, alloc, writer, listed)),
     }
 }
 
-/// A handle of a store whose writer told this, and the writer, unless it ended.
-pub fn make_stored<R: Wait>(
-    rt: &R,
-    alloc: Global,
-    stored: Stored,
-) -> Result<(Reads, Option<Maps>), NoMemory> {
-    let (reader, writer) = opened(alloc)?;
-    match told(rt, alloc, writer, stored) {
-        Ok(writer) => Ok((reader, writer)),
-        Err(error) => Err(error),
-    }
-}
+pub fn drop_writer(_writer: Option<Maps>) {}

@@ -1,13 +1,14 @@
-//! Streams that answer by a table.
+//! Streams that answer by a table. Each has what it stops by for want of memory.
 
 use super::objects::{Object, object, reference};
-use kube_meta::{DynamicObject, Moment, Next, NoMemory};
+use kube_meta::{DynamicObject, Moment, Next};
 use kube_model::error::Error;
 use kube_turn::ReconcileRequest;
 use kube_watch::stream::fault_of;
 use kube_watch::{EventStream, StreamFault};
 use std::alloc::Global;
 use std::marker::PhantomData;
+use std::process::Abort;
 
 pub type Request = ReconcileRequest<DynamicObject>;
 
@@ -27,33 +28,35 @@ pub enum Said {
 
 /// What a stream gives by a name.
 pub trait Given: Drop {
-    fn given(alloc: Global, name: &str, owner: &str) -> Result<Self, NoMemory>;
+    fn given<R: Abort>(rt: &R, alloc: Global, name: &str, owner: &str) -> Self;
 }
 
 impl Given for Object {
-    fn given(alloc: Global, name: &str, owner: &str) -> Result<Object, NoMemory> {
-        object(alloc, (name, "1"), owner)
+    fn given<R: Abort>(rt: &R, alloc: Global, name: &str, owner: &str) -> Object {
+        object(rt, alloc, (name, "1"), owner)
     }
 }
 
 impl Given for Request {
-    fn given(alloc: Global, name: &str, _owner: &str) -> Result<Request, NoMemory> {
-        Ok(ReconcileRequest::from_ref(reference(alloc, name)?))
+    fn given<R: Abort>(rt: &R, alloc: Global, name: &str, _owner: &str) -> Request {
+        ReconcileRequest::from_ref(reference(rt, alloc, name))
     }
 }
 
 /// Gives its answers, one a poll, also after its end; then it is not ready.
 #[derive(Drop)]
-pub struct Scripted<I> {
+pub struct Scripted<R, I> {
+    rt: R,
     script: &'static [Said],
     next: usize,
     fault: Option<StreamFault>,
     of: PhantomData<I>,
 }
 
-impl<I: Given> Scripted<I> {
-    pub fn new(script: &'static [Said]) -> Scripted<I> {
+impl<R: Abort + Copy, I: Given> Scripted<R, I> {
+    pub fn new(rt: &R, script: &'static [Said]) -> Scripted<R, I> {
         Scripted {
+            rt: *rt,
             script,
             next: 0,
             fault: None,
@@ -73,8 +76,10 @@ impl<I: Given> Scripted<I> {
 
     fn answer(&mut self, alloc: Global) -> Result<Next<Result<I, Error>>, StreamFault> {
         match self.said() {
-            Said::Of(name) => Ok(Next::Item(Ok(I::given(alloc, name, "")?))),
-            Said::Owned(name, owner) => Ok(Next::Item(Ok(I::given(alloc, name, owner)?))),
+            Said::Of(name) => Ok(Next::Item(Ok(I::given(&self.rt, alloc, name, "")))),
+            Said::Owned(name, owner) => {
+                Ok(Next::Item(Ok(I::given(&self.rt, alloc, name, owner))))
+            }
             Said::Failed => Ok(Next::Item(Err(Error::NoResourceVersion))),
             Said::NotReady => Ok(Next::NotReady),
             Said::Spent => Ok(Next::Spent),
@@ -84,7 +89,7 @@ impl<I: Given> Scripted<I> {
     }
 }
 
-impl<I: Given> EventStream for Scripted<I> {
+impl<R: Abort + Copy, I: Given> EventStream for Scripted<R, I> {
     ghost use Rattle.std.specs.Prelude.{None};
 
     type Item = I;

@@ -7,21 +7,19 @@ use kube_model::call::Answer;
 use kube_model::reason::ReconcileReason;
 use kube_model::turn::Stop;
 use kube_turn::SourceExchange;
-use std::alloc::{AllocError, Global};
+use std::alloc::Global;
+use std::panic::Expect;
+use std::process::Abort;
 use std::sync::Arc;
 
-fn add_line(lines: &mut String, line: &str) -> Result<(), AllocError> {
-    lines.push_str(line)?;
-    lines.push_str("\n")
+pub fn add_line(rt: &impl Abort, lines: &mut String, line: &str) {
+    lines.push_str(line).expect(rt, "memory");
+    lines.push_str("\n").expect(rt, "memory");
 }
 
-/// Adds a text behind the others of a list.
-fn add(list: &mut String, text: &str) -> Result<(), AllocError> {
-    if !list.is_empty() {
-        list.push_str(", ")?;
-    }
-    list.push_str(text)?;
-    Ok(())
+/// A text of its own.
+fn owned(rt: &impl Abort, alloc: Global, text: &str) -> String {
+    String::from_str(alloc, text).expect(rt, "memory")
 }
 
 fn text_of(text: &Option<Text>) -> &str {
@@ -29,13 +27,6 @@ fn text_of(text: &Option<Text>) -> &str {
         Some(text) => text.as_str(),
         None => "",
     }
-}
-
-/// An object's name and version.
-fn object(alloc: Global, object: &DynamicObject) -> Result<String, AllocError> {
-    let name = text_of(&object.metadata.name);
-    let version = text_of(&object.metadata.resource_version);
-    format!(in alloc; "{name}{version}")
 }
 
 fn answer(answer: &Answer) -> &'static str {
@@ -48,25 +39,16 @@ fn answer(answer: &Answer) -> &'static str {
     }
 }
 
-/// The source, the answer, whether there is an error, and what is requested.
-fn exchange(alloc: Global, exchange: &SourceExchange<DynamicObject>) -> Result<String, AllocError> {
-    let mut shown = format!(in alloc; "{} {}", exchange.source, answer(&exchange.answer))?;
-    if exchange.error.is_some() {
-        shown.push_str(" failed")?;
-    }
+/// The names that are requested, each after a space.
+fn names(rt: &impl Abort, alloc: Global, exchange: &SourceExchange<DynamicObject>) -> String {
+    let mut names = String::new(alloc);
     for request in exchange.requests.as_slice() {
-        shown.push_str(" ")?;
-        shown.push_str(request.obj_ref.name.as_str())?;
+        names.push_str(" ").expect(rt, "memory");
+        names
+            .push_str(request.obj_ref.name.as_str())
+            .expect(rt, "memory");
     }
-    Ok(shown)
-}
-
-fn finished(alloc: Global, finished: &Finished<DynamicObject, u64>) -> Result<String, AllocError> {
-    let name = finished.reference.name.as_str();
-    match finished.action.requeue_after() {
-        Some(nanos) => format!(in alloc; "{name} again {nanos}"),
-        None => format!(in alloc; "{name} done"),
-    }
+    names
 }
 
 fn reason(reason: &ReconcileReason) -> &'static str {
@@ -81,77 +63,6 @@ fn reason(reason: &ReconcileReason) -> &'static str {
     }
 }
 
-fn taken(alloc: Global, taken: &Taken<DynamicObject>) -> Result<String, AllocError> {
-    match taken {
-        Taken::Started {
-            reason: why,
-            object: found,
-            ..
-        } => {
-            let mut shown = object(alloc, found)?;
-            shown.push_str(reason(why))?;
-            Ok(shown)
-        }
-        Taken::NotFound {
-            reference,
-            reason: why,
-        } => {
-            let name = reference.name.as_str();
-            format!(in alloc; "no {name}{}", reason(why))
-        }
-        Taken::Nothing => String::from_str(alloc, "nothing"),
-    }
-}
-
-fn all_finished(
-    alloc: Global,
-    record: &TurnRecord<DynamicObject, u64>,
-) -> Result<String, AllocError> {
-    let mut list = String::new(alloc);
-    for one in record.finished.as_slice() {
-        add(&mut list, finished(alloc, one)?.as_str())?;
-    }
-    Ok(list)
-}
-
-fn all_exchanges(
-    alloc: Global,
-    record: &TurnRecord<DynamicObject, u64>,
-) -> Result<String, AllocError> {
-    let mut list = String::new(alloc);
-    for one in record.exchanges.as_slice() {
-        add(&mut list, exchange(alloc, one)?.as_str())?;
-    }
-    Ok(list)
-}
-
-/// What was taken, in order.
-pub fn all_taken(
-    alloc: Global,
-    record: &TurnRecord<DynamicObject, u64>,
-) -> Result<String, AllocError> {
-    let mut list = String::new(alloc);
-    for one in record.taken.as_slice() {
-        add(&mut list, taken(alloc, one)?.as_str())?;
-    }
-    Ok(list)
-}
-
-fn all_objects(alloc: Global, objects: &[Arc<DynamicObject>]) -> Result<String, AllocError> {
-    let mut list = String::new(alloc);
-    for one in objects {
-        add(&mut list, object(alloc, one)?.as_str())?;
-    }
-    Ok(list)
-}
-
-fn store(alloc: Global, record: &TurnRecord<DynamicObject, u64>) -> Result<String, AllocError> {
-    match &record.store {
-        Some(objects) => all_objects(alloc, objects.as_slice()),
-        None => String::from_str(alloc, "not shown"),
-    }
-}
-
 fn stop(stop: &Stop) -> &'static str {
     match stop {
         Stop::NotReady => "not ready",
@@ -161,13 +72,102 @@ fn stop(stop: &Stop) -> &'static str {
     }
 }
 
-/// Why each source is asked no more.
-fn all_stops(alloc: Global, record: &TurnRecord<DynamicObject, u64>) -> Result<String, AllocError> {
-    let mut list = String::new(alloc);
-    for one in record.stops.as_slice() {
-        add(&mut list, stop(one))?;
+/// An entry of a list.
+trait Entry {
+    fn text<R: Abort>(&self, rt: &R, alloc: Global) -> String;
+}
+
+/// An object's name and version.
+impl Entry for Arc<DynamicObject> {
+    fn text<R: Abort>(&self, rt: &R, alloc: Global) -> String {
+        let name = text_of(&self.metadata.name);
+        let version = text_of(&self.metadata.resource_version);
+        format!(in alloc; "{name}{version}").expect(rt, "memory")
     }
-    Ok(list)
+}
+
+/// The source, the answer, whether there is an error, and what is requested.
+impl Entry for SourceExchange<DynamicObject> {
+    fn text<R: Abort>(&self, rt: &R, alloc: Global) -> String {
+        let source = self.source;
+        let answer = answer(&self.answer);
+        let error = if self.error.is_some() { " failed" } else { "" };
+        let names = names(rt, alloc, self);
+        format!(in alloc; "{source} {answer}{error}{names}").expect(rt, "memory")
+    }
+}
+
+impl Entry for Stop {
+    fn text<R: Abort>(&self, rt: &R, alloc: Global) -> String {
+        owned(rt, alloc, stop(self))
+    }
+}
+
+impl Entry for Finished<DynamicObject, u64> {
+    fn text<R: Abort>(&self, rt: &R, alloc: Global) -> String {
+        let name = self.reference.name.as_str();
+        match self.action.requeue_after() {
+            Some(nanos) => format!(in alloc; "{name} again {nanos}").expect(rt, "memory"),
+            None => format!(in alloc; "{name} done").expect(rt, "memory"),
+        }
+    }
+}
+
+impl Entry for Taken<DynamicObject> {
+    fn text<R: Abort>(&self, rt: &R, alloc: Global) -> String {
+        match self {
+            Taken::Started {
+                reason: why,
+                object,
+                ..
+            } => {
+                let found = object.text(rt, alloc);
+                format!(in alloc; "{found}{}", reason(why)).expect(rt, "memory")
+            }
+            Taken::NotFound {
+                reference,
+                reason: why,
+            } => {
+                let name = reference.name.as_str();
+                format!(in alloc; "no {name}{}", reason(why)).expect(rt, "memory")
+            }
+            Taken::Nothing => owned(rt, alloc, "nothing"),
+        }
+    }
+}
+
+/// Adds a text behind the others of a list.
+fn add(rt: &impl Abort, list: &mut String, text: &str) {
+    if !list.is_empty() {
+        list.push_str(", ").expect(rt, "memory");
+    }
+    list.push_str(text).expect(rt, "memory");
+}
+
+/// All of these, in order.
+fn all<T: Entry>(rt: &impl Abort, alloc: Global, items: &[T]) -> String {
+    let mut list = String::new(alloc);
+    for one in items {
+        let text = one.text(rt, alloc);
+        add(rt, &mut list, text.as_str());
+    }
+    list
+}
+
+/// What was taken, in order.
+pub fn all_taken(
+    rt: &impl Abort,
+    alloc: Global,
+    record: &TurnRecord<DynamicObject, u64>,
+) -> String {
+    all(rt, alloc, record.taken.as_slice())
+}
+
+fn store(rt: &impl Abort, alloc: Global, record: &TurnRecord<DynamicObject, u64>) -> String {
+    match &record.store {
+        Some(objects) => all(rt, alloc, objects.as_slice()),
+        None => owned(rt, alloc, "not shown"),
+    }
 }
 
 /// Whether the runner ended, and the trace.
@@ -181,14 +181,16 @@ fn end_of(record: &TurnRecord<DynamicObject, u64>) -> &'static str {
 }
 
 /// What a record tells: finishes, exchanges, stops, takes, the store and whether the runner and the trace end.
-fn shown(alloc: Global, record: &TurnRecord<DynamicObject, u64>) -> Result<String, AllocError> {
-    let finished = all_finished(alloc, record)?;
-    let exchanges = all_exchanges(alloc, record)?;
-    let stops = all_stops(alloc, record)?;
-    let taken = all_taken(alloc, record)?;
-    let store = store(alloc, record)?;
+fn shown(rt: &impl Abort, alloc: Global, record: &TurnRecord<DynamicObject, u64>) -> String {
     let end = end_of(record);
-    format!(in alloc; "{finished}; {exchanges}; {stops}; {taken}; {store}{end}")
+    let finished = all(rt, alloc, record.finished.as_slice());
+    let exchanges = all(rt, alloc, record.exchanges.as_slice());
+    let stops = all(rt, alloc, record.stops.as_slice());
+    let taken = all_taken(rt, alloc, record);
+    let store = store(rt, alloc, record);
+    format!(in alloc; "{finished}; {exchanges}; {stops}; {taken}; {store}{end}").expect(
+        rt, "memory",
+    )
 }
 
 pub fn records(answered: &Answered) -> &[TurnRecord<DynamicObject, u64>] {
@@ -201,22 +203,30 @@ pub fn records(answered: &Answered) -> &[TurnRecord<DynamicObject, u64>] {
     }
 }
 
-fn why(alloc: Global, why: &BadTurn) -> Result<String, AllocError> {
+fn why(rt: &impl Abort, alloc: Global, why: &BadTurn) -> String {
     match why {
-        BadTurn::Moment { at, last } => format!(in alloc; "moment {} after {}", at.0, last.0),
-        BadTurn::NotRunning { finish } => format!(in alloc; "finish {finish} of none"),
-        BadTurn::Twice { finish } => format!(in alloc; "finish {finish} twice"),
+        BadTurn::Moment { at, last } => {
+            format!(in alloc; "moment {} after {}", at.0, last.0).expect(rt, "memory")
+        }
+        BadTurn::NotRunning { finish } => {
+            format!(in alloc; "finish {finish} of none").expect(rt, "memory")
+        }
+        BadTurn::Twice { finish } => {
+            format!(in alloc; "finish {finish} twice").expect(rt, "memory")
+        }
     }
 }
 
 /// How a run ended, and how many records it gave.
-fn end(alloc: Global, answered: &Answered) -> Result<String, AllocError> {
+fn end(rt: &impl Abort, alloc: Global, answered: &Answered) -> String {
     let count = records(answered).len();
     match answered {
-        Ok(_) => format!(in alloc; "{count} ran"),
-        Err(RunError::NoMemory { .. }) => Err(AllocError),
+        Ok(_) => format!(in alloc; "{count} ran").expect(rt, "memory"),
+        Err(RunError::NoMemory { .. }) => panic!(rt; "memory"),
         Err(RunError::UnnamedObject { turn, source, .. }) => {
-            format!(in alloc; "{count}, then turn {turn}: source {source} unnamed")
+            format!(in alloc; "{count}, then turn {turn}: source {source} unnamed").expect(
+                rt, "memory",
+            )
         }
         Err(
             RunError::BadTurn {
@@ -225,19 +235,26 @@ fn end(alloc: Global, answered: &Answered) -> Result<String, AllocError> {
                 ..
             },
         ) => {
-            let why = why(alloc, cause)?;
-            format!(in alloc; "{count}, then turn {turn}: {why}")
+            let why = why(rt, alloc, cause);
+            format!(in alloc; "{count}, then turn {turn}: {why}").expect(rt, "memory")
         }
-        Err(RunError::Spent { .. }) => format!(in alloc; "{count}, spent"),
+        Err(RunError::Spent { .. }) => format!(in alloc; "{count}, spent").expect(rt, "memory"),
     }
 }
 
 /// What the records of a run tell, and how it ended, a line each.
-pub fn told(alloc: Global, answered: &Answered) -> Result<String, AllocError> {
+fn told(rt: &impl Abort, alloc: Global, answered: &Answered) -> String {
     let mut lines = String::new(alloc);
     for record in records(answered) {
-        add_line(&mut lines, shown(alloc, record)?.as_str())?;
+        let shown = shown(rt, alloc, record);
+        add_line(rt, &mut lines, shown.as_str());
     }
-    add_line(&mut lines, end(alloc, answered)?.as_str())?;
-    Ok(lines)
+    let end = end(rt, alloc, answered);
+    add_line(rt, &mut lines, end.as_str());
+    lines
+}
+
+/// The same of an answer that is let go then.
+pub fn told_once(rt: &impl Abort, alloc: Global, answered: Answered) -> String {
+    told(rt, alloc, &answered)
 }

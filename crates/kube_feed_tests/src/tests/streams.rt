@@ -1,27 +1,28 @@
 //! Controllers that streams feed: rows of turns over a root, a related source and a store.
 
-use super::objects::{Named, Object, Reads, Stored, kind, make_stored};
+use super::objects::{Named, Object, Reads, Stored, drop_writer, handle, kind, told, writer};
 use super::scripted::{Said, Scripted};
-use super::shown::told;
+use super::shown::{add_line, told_once};
 use super::turns::{Ask, Row, run, turns};
 use kube_feed::{
     Beside, DefaultBackoff, FedController, NoRelated, One, Owners, Recorder, RelatedStream,
     StreamRoot,
 };
-use kube_meta::{DynamicObject, NoMemory};
-use std::alloc::{AllocError, Global};
+use kube_meta::DynamicObject;
+use std::alloc::Global;
+use std::panic::Expect;
+use std::process::Abort;
 use std::sync::Wait;
-use std::test::Fail;
 
-type Stream = Scripted<Object>;
+type Stream<R> = Scripted<R, Object>;
 
-type Root = StreamRoot<DynamicObject, Stream>;
+type Root<R> = StreamRoot<DynamicObject, Stream<R>>;
 
-type Bare = FedController<Root, NoRelated, DefaultBackoff>;
+type Bare<R> = FedController<Root<R>, NoRelated, DefaultBackoff>;
 
-type Owned = One<RelatedStream<DynamicObject, Stream, Owners<DynamicObject>>>;
+type Owned<R> = One<RelatedStream<DynamicObject, Stream<R>, Owners<DynamicObject>>>;
 
-type Tested = FedController<Root, Beside<NoRelated, Owned>, DefaultBackoff>;
+type Tested<R> = FedController<Root<R>, Beside<NoRelated, Owned<R>>, DefaultBackoff>;
 
 /// What the store's writer told, the type of the root's objects, what the root's stream answers, what the related one's
 /// does, and the turns.
@@ -104,70 +105,71 @@ const CASES: &[Case] = &[
     ),
 ];
 
-/// A controller of these streams, with a handle.
-fn make(
+/// A controller of this stream, with a handle.
+fn bare<R: Abort + Copy>(
+    rt: &R,
     alloc: Global,
     store: Reads,
     of: &str,
     root: &'static [Said],
-    related: &'static [Said],
-) -> Result<Tested, NoMemory> {
-    let dyntype = kind(alloc, of)?;
-    let bare: Bare = FedController::for_stream_with(alloc, Scripted::new(root), store, dyntype);
-    let pods = kind(alloc, "Pod")?;
-    bare.owns_stream_with(alloc, Scripted::new(related), pods)
+) -> Bare<R> {
+    let dyntype = kind(rt, alloc, of);
+    FedController::for_stream_with(alloc, Scripted::new(rt, root), store, dyntype)
 }
 
-/// What the records of a run over these turns tell, and how it ended.
-fn ran<R: Wait>(
+/// The same with a related stream.
+fn make<R: Abort + Copy>(
     rt: &R,
     alloc: Global,
-    controller: &mut Tested,
-    rows: &[Row],
-) -> Result<String, NoMemory> {
-    let turns = turns(alloc, rows)?;
-    let mut recorder = Recorder::new(alloc);
-    let answered = run(rt, alloc, controller, &mut recorder, turns)?;
-    Ok(told(alloc, &answered)?)
+    bare: Bare<R>,
+    related: &'static [Said],
+) -> Tested<R> {
+    let pods = kind(rt, alloc, "Pod");
+    bare.owns_stream_with(alloc, Scripted::new(rt, related), pods)
+        .expect(rt, "memory")
 }
 
-/// The same of a case, over this store.
-fn ran_over<R: Wait>(rt: &R, alloc: Global, case: &Case, store: Reads) -> Result<String, NoMemory> {
+/// What the records of a case's run over this store tell, and how it ended.
+fn ran<R: Abort + Copy + Wait>(rt: &R, alloc: Global, case: &Case, store: Reads) -> String {
     let (_told, of, root, related, rows, _end) = *case;
-    let mut controller = make(alloc, store, of, root, related)?;
-    ran(rt, alloc, &mut controller, rows)
+    let turns = turns(rt, alloc, rows);
+    let mut recorder = Recorder::new(alloc);
+    let bare = bare(rt, alloc, store, of, root);
+    let mut controller = make(rt, alloc, bare, related);
+    let answered = run(rt, alloc, &mut controller, &mut recorder, turns);
+    told_once(rt, alloc, answered)
 }
 
-/// The same of a case.
-fn ran_case<R: Wait>(rt: &R, alloc: Global, case: &Case) -> Result<String, NoMemory> {
-    let (told, _of, _root, _related, _rows, _end) = *case;
-    let (store, _writer) = make_stored(rt, alloc, told)?;
-    ran_over(rt, alloc, case, store)
+/// The same over a store of its own.
+fn made<R: Abort + Copy + Wait>(rt: &R, alloc: Global, case: &Case) -> String {
+    let (stored, _of, _root, _related, _rows, _end) = *case;
+    let mut writer = writer(rt, alloc);
+    let store = handle(rt, &mut writer);
+    let writer = told(rt, alloc, writer, stored);
+    let made = ran(rt, alloc, case, store);
+    drop_writer(writer);
+    made
 }
 
 /// What a case's rows and end tell, a line each.
-fn wanted(alloc: Global, case: &Case) -> Result<String, AllocError> {
+fn wanted(rt: &impl Abort, alloc: Global, case: &Case) -> String {
     let (_told, _of, _root, _related, rows, end) = *case;
     let mut lines = String::new(alloc);
     for (_given, told) in rows {
         if !told.is_empty() {
-            lines.push_str(told)?;
-            lines.push_str("\n")?;
+            add_line(rt, &mut lines, told);
         }
     }
-    lines.push_str(end)?;
-    lines.push_str("\n")?;
-    Ok(lines)
+    add_line(rt, &mut lines, end);
+    lines
 }
 
 #[test]
-fn fed_controllers_take_turns(rt: HostRuntime) -> Result<(), Fail> {
+fn fed_controllers_take_turns(rt: HostRuntime) {
     let alloc = rt.alloc();
     for case in CASES {
-        assert_eq!(rt;
-            ran_case(&rt, alloc, case)?.as_str(),
-            wanted(alloc, case)?.as_str()
-        );
+        let made = made(&rt, alloc, case);
+        let wanted = wanted(&rt, alloc, case);
+        assert_eq!(rt; made.as_str(), wanted.as_str());
     }
-    Ok(())
 }

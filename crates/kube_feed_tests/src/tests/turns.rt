@@ -6,9 +6,11 @@ use super::objects::reference;
 use kube_feed::{
     Backoff, FedController, Finish, Recorder, RelatedSet, RootSource, RunError, Trace, Turn,
 };
-use kube_meta::{Action, DynamicObject, List, Moment, NoMemory};
+use kube_meta::{Action, DynamicObject, List, Moment, ObjectRef};
 use kube_model::turn::Shutdown;
 use std::alloc::Global;
+use std::panic::Expect;
+use std::process::Abort;
 use std::sync::{Arc, Wait};
 
 pub type Answered = Result<Trace<DynamicObject, u64>, RunError<DynamicObject, u64>>;
@@ -35,76 +37,105 @@ pub type Given = (u64, &'static [u32], &'static [Ask]);
 /// A turn, and what its record tells; the empty text where it has none.
 pub type Row = (Given, &'static str);
 
-fn finish(
-    alloc: Global,
-    name: &str,
-    outcome: Result<Action, u64>,
-) -> Result<Finish<DynamicObject, u64>, NoMemory> {
-    let reference = reference(alloc, name)?;
-    Ok(Finish { reference, outcome })
-}
-
-fn apply(alloc: Global, turn: &mut Turn<DynamicObject, u64>, ask: Ask) -> Result<(), NoMemory> {
+/// The object whose reconcile ended, and how, where that is asked.
+fn ended(ask: Ask) -> Option<(&'static str, Result<Action, u64>)> {
     match ask {
-        Ask::Done(name) => {
-            turn.finishes
-                .push(finish(alloc, name, Ok(Action::await_change()))?)?;
-        }
-        Ask::Again(name, nanos) => {
-            turn.finishes
-                .push(finish(alloc, name, Ok(Action::requeue(nanos)))?)?;
-        }
-        Ask::Failed(name, nanos) => turn.finishes.push(finish(alloc, name, Err(nanos))?)?,
-        Ask::On(name) => turn.on.push(reference(alloc, name)?)?,
-        Ask::Reload => turn.reload = true,
-        Ask::Show => turn.show = true,
-        Ask::Graceful => turn.shutdown = Shutdown::Graceful,
-        Ask::Forced => turn.shutdown = Shutdown::Forced,
+        Ask::Done(name) => Some((name, Ok(Action::await_change()))),
+        Ask::Again(name, nanos) => Some((name, Ok(Action::requeue(nanos)))),
+        Ask::Failed(name, nanos) => Some((name, Err(nanos))),
+        _ => None,
     }
-    Ok(())
 }
 
-fn budgets(alloc: Global, numbers: &[u32]) -> Result<List<u32>, NoMemory> {
+/// The reconciles that ended, in order.
+fn finishes(rt: &impl Abort, alloc: Global, asks: &[Ask]) -> List<Finish<DynamicObject, u64>> {
+    let mut finishes = List::new(alloc);
+    for ask in asks {
+        if let Some((name, outcome)) = ended(*ask) {
+            let reference = reference(rt, alloc, name);
+            finishes
+                .push(Finish { reference, outcome })
+                .expect(rt, "memory");
+        }
+    }
+    finishes
+}
+
+/// What is to be reconciled, in order.
+fn named(rt: &impl Abort, alloc: Global, asks: &[Ask]) -> List<ObjectRef<DynamicObject>> {
+    let mut named = List::new(alloc);
+    for ask in asks {
+        if let Ask::On(name) = *ask {
+            named.push(reference(rt, alloc, name)).expect(rt, "memory");
+        }
+    }
+    named
+}
+
+/// Whether a reload is asked, whether the store is to be shown, and the shutdown that is asked last.
+fn wishes(asks: &[Ask]) -> (bool, bool, Shutdown) {
+    let mut reload = false;
+    let mut show = false;
+    let mut shutdown = Shutdown::No;
+    for ask in asks {
+        match *ask {
+            Ask::Reload => reload = true,
+            Ask::Show => show = true,
+            Ask::Graceful => shutdown = Shutdown::Graceful,
+            Ask::Forced => shutdown = Shutdown::Forced,
+            _ => {}
+        }
+    }
+    (reload, show, shutdown)
+}
+
+fn budgets(rt: &impl Abort, alloc: Global, numbers: &[u32]) -> List<u32> {
     let mut budgets = List::new(alloc);
     for one in numbers {
-        budgets.push(*one)?;
+        budgets.push(*one).expect(rt, "memory");
     }
-    Ok(budgets)
+    budgets
 }
 
-/// A turn with a budget for each source and nothing else.
-pub fn bare_turn(
-    alloc: Global,
-    at: u64,
-    budget: &[u32],
-) -> Result<Turn<DynamicObject, u64>, NoMemory> {
-    let budget = budgets(alloc, budget)?;
-    Ok(Turn {
+fn turn(rt: &impl Abort, alloc: Global, given: Given) -> Turn<DynamicObject, u64> {
+    let (at, budget, asks) = given;
+    let (reload, show, shutdown) = wishes(asks);
+    Turn {
         at: Moment(at),
-        budget,
-        finishes: List::new(alloc),
+        budget: budgets(rt, alloc, budget),
+        finishes: finishes(rt, alloc, asks),
+        reload,
+        on: named(rt, alloc, asks),
+        shutdown,
+        show,
+    }
+}
+
+pub fn turns(rt: &impl Abort, alloc: Global, rows: &[Row]) -> Vec<Turn<DynamicObject, u64>> {
+    let mut turns = Vec::new(alloc);
+    for (given, _told) in rows {
+        turns.push(turn(rt, alloc, *given)).expect(rt, "memory");
+    }
+    turns
+}
+
+/// One turn at the moment 0 with a budget for each source, which finishes these and nothing else.
+pub fn one_turn(
+    rt: &impl Abort,
+    alloc: Global,
+    budget: &[u32],
+    finishes: List<Finish<DynamicObject, u64>>,
+) -> Vec<Turn<DynamicObject, u64>> {
+    let turn = Turn {
+        at: Moment(0),
+        budget: budgets(rt, alloc, budget),
+        finishes,
         reload: false,
         on: List::new(alloc),
         shutdown: Shutdown::No,
         show: false,
-    })
-}
-
-fn turn(alloc: Global, given: Given) -> Result<Turn<DynamicObject, u64>, NoMemory> {
-    let (at, budget, asks) = given;
-    let mut turn = bare_turn(alloc, at, budget)?;
-    for one in asks {
-        apply(alloc, &mut turn, *one)?;
-    }
-    Ok(turn)
-}
-
-pub fn turns(alloc: Global, rows: &[Row]) -> Result<Vec<Turn<DynamicObject, u64>>, NoMemory> {
-    let mut turns = Vec::new(alloc);
-    for (given, _told) in rows {
-        turns.push(turn(alloc, *given)?)?;
-    }
-    Ok(turns)
+    };
+    vec![in alloc; turn].expect(rt, "memory")
 }
 
 /// A run over these turns, of which there are nine at most. What failed is made again after as many nanoseconds as its error
@@ -115,23 +146,21 @@ pub fn run<R, S, B, W>(
     controller: &mut FedController<R, S, B>,
     recorder: &mut Recorder<DynamicObject>,
     turns: Vec<Turn<DynamicObject, u64>>,
-) -> Result<Answered, NoMemory>
+) -> Answered
 where
     R: RootSource<Object = DynamicObject>,
     S: RelatedSet<DynamicObject>,
     B: Backoff,
-    W: Wait,
+    W: Abort + Wait,
     requires few { length (S.feeds controller.old.asks.related) + 1 < 2 ^ 32 }
     requires root { R.can_poll controller.old.asks.root }
     requires may { S.can_poll controller.old.asks.related }
     ensures root { R.can_poll controller.new.asks.root }
 {
-    if turns.len() > 9 {
-        return Err(NoMemory);
-    }
-    let context = Arc::new(alloc, ())?;
+    assert!(rt; turns.len() <= 9);
+    let context = Arc::new(alloc, ()).expect(rt, "memory");
     let policy = |_object: Arc<DynamicObject>, error: &u64, _context: Arc<()>| Action::requeue(
         *error,
     );
-    Ok(controller.run(rt, alloc, recorder, &policy, context, turns))
+    controller.run(rt, alloc, recorder, &policy, context, turns)
 }

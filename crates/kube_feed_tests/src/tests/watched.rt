@@ -1,15 +1,13 @@
 //! A controller that is fed by what a watcher tells, over a store that is published before each take, starts what one that watches
 //! the same API starts, turn by turn.
 
-ghost use Rattle.std.specs.Prelude.{◌≡◌, IfOk};
-
-use super::objects::{Maps, Named, Object, kind, object, opened, publish};
-use super::shown::{all_taken, records};
+use super::objects::{Maps, Named, Object, handle, kind, object, publish, writer};
+use super::shown::{add_line, all_taken, records};
 use super::turns::{Answered, Ask, Row, run, turns};
 use kube_api::{ApiError, Page, ResultPage, Sequence, SequenceStep, TestMode, WatchEvent};
 use kube_control::{Controller, WatchRoot};
 use kube_feed::{DefaultBackoff, FedController, NoRelated, Recorder, StreamRoot, Turn};
-use kube_meta::{Action, DynamicObject, Moment, Next, NoMemory};
+use kube_meta::{Action, DynamicObject, Moment, Next};
 use kube_model::error::Error;
 use kube_streams::reflect::Reflect;
 use kube_streams::settled::Settled;
@@ -17,10 +15,11 @@ use kube_streams::watch_ext::WatchStreamExt;
 use kube_watch::stream::fault_of;
 use kube_watch::watcher::watcher;
 use kube_watch::{Config as WatcherConfig, Event, EventStream, StreamFault, Watcher};
-use std::alloc::{AllocError, Global};
+use std::alloc::Global;
 use std::collections::VecDeque;
+use std::panic::Expect;
+use std::process::Abort;
 use std::sync::{Arc, Wait};
-use std::test::Fail;
 
 type Api = TestMode<DynamicObject>;
 
@@ -59,51 +58,59 @@ const ROWS: &[Row] = &[
     ((22, &[9], &[Ask::Done("a"), Ask::Graceful]), ""),
 ];
 
-fn objects(alloc: Global, named: &[Named]) -> Result<Vec<Object>, NoMemory> {
+fn objects(rt: &impl Abort, alloc: Global, named: &[Named]) -> Vec<Object> {
     let mut objects = Vec::new(alloc);
     for one in named {
-        objects.push(object(alloc, *one, "")?)?;
+        objects
+            .push(object(rt, alloc, *one, ""))
+            .expect(rt, "memory");
     }
-    Ok(objects)
+    objects
 }
 
-fn page(alloc: Global) -> Result<Page<DynamicObject>, NoMemory> {
-    let page = ResultPage::empty(alloc).resource_version(alloc, Some("1"))?;
-    Ok(page.items(objects(alloc, LISTED)?).into_page())
+fn page(rt: &impl Abort, alloc: Global) -> Page<DynamicObject> {
+    let objects = objects(rt, alloc, LISTED);
+    ResultPage::empty(alloc)
+        .resource_version(alloc, Some("1"))
+        .expect(rt, "memory")
+        .items(objects)
+        .into_page()
 }
 
 /// An event of a watch; a wait is told as an addition without a name.
-fn event(alloc: Global, told: Told) -> Result<WatchEvent<DynamicObject>, NoMemory> {
-    Ok(match told {
-        Told::Added(named) => WatchEvent::Added(object(alloc, named, "")?),
-        Told::Modified(named) => WatchEvent::Modified(object(alloc, named, "")?),
-        Told::Deleted(named) => WatchEvent::Deleted(object(alloc, named, "")?),
-        Told::Wait(_) => WatchEvent::Added(object(alloc, ("", ""), "")?),
-    })
-}
-
-fn step(alloc: Global, told: Told) -> Result<SequenceStep<DynamicObject>, NoMemory> {
-    if let Told::Wait(nanos) = told {
-        return Ok(SequenceStep::Wait(nanos));
+fn event(rt: &impl Abort, alloc: Global, told: Told) -> WatchEvent<DynamicObject> {
+    match told {
+        Told::Added(named) => WatchEvent::Added(object(rt, alloc, named, "")),
+        Told::Modified(named) => WatchEvent::Modified(object(rt, alloc, named, "")),
+        Told::Deleted(named) => WatchEvent::Deleted(object(rt, alloc, named, "")),
+        Told::Wait(_) => WatchEvent::Added(object(rt, alloc, ("", ""), "")),
     }
-    let event: Result<WatchEvent<DynamicObject>, ApiError> = Ok(event(alloc, told)?);
-    let events = vec![in alloc; event]?;
-    Ok(SequenceStep::List(VecDeque::from_vec(events)))
 }
 
-fn watch(alloc: Global) -> Result<Sequence<DynamicObject>, NoMemory> {
+fn step(rt: &impl Abort, alloc: Global, told: Told) -> SequenceStep<DynamicObject> {
+    if let Told::Wait(nanos) = told {
+        return SequenceStep::Wait(nanos);
+    }
+    let event: Result<WatchEvent<DynamicObject>, ApiError> = Ok(event(rt, alloc, told));
+    let events = vec![in alloc; event].expect(rt, "memory");
+    SequenceStep::List(VecDeque::from_vec(events))
+}
+
+fn watch(rt: &impl Abort, alloc: Global) -> Sequence<DynamicObject> {
     let mut steps = Vec::new(alloc);
     for one in TOLD {
-        steps.push(step(alloc, *one)?)?;
+        steps.push(step(rt, alloc, *one)).expect(rt, "memory");
     }
-    Ok(Sequence::new(steps))
+    Sequence::new(steps)
 }
 
 /// An API that answers by these tables.
-fn api(alloc: Global) -> Result<Api, NoMemory> {
-    let lists = vec![in alloc; Ok(page(alloc)?)]?;
-    let watches = vec![in alloc; watch(alloc)?]?;
-    Ok(TestMode::new(alloc, lists, watches))
+fn api(rt: &impl Abort, alloc: Global) -> Api {
+    let page = page(rt, alloc);
+    let lists = vec![in alloc; Ok(page)].expect(rt, "memory");
+    let watch = watch(rt, alloc);
+    let watches = vec![in alloc; watch].expect(rt, "memory");
+    TestMode::new(alloc, lists, watches)
 }
 
 /// A stream of events that a writer has applied, and published after each poll.
@@ -114,19 +121,19 @@ struct Publishing<'a, R> {
     fault: Option<StreamFault>,
 }
 
-impl<'a, R: Wait> Publishing<'a, R> {
+impl<'a, R: Abort + Wait> Publishing<'a, R> {
     fn answer(
         &mut self,
         alloc: Global,
         now: Moment,
     ) -> Result<Next<Result<Event<Object>, Error>>, StreamFault> {
         let answer = self.stream.poll_next(alloc, now, 1);
-        publish(self.rt, alloc, self.stream.writer())?;
+        publish(self.rt, alloc, self.stream.writer());
         answer
     }
 }
 
-impl<'a, R: Wait> EventStream for Publishing<'a, R> {
+impl<'a, R: Abort + Wait> EventStream for Publishing<'a, R> {
     ghost use Rattle.std.specs.Prelude.{None};
 
     type Item = Event<Object>;
@@ -157,7 +164,7 @@ type Fed<'a, R> = FedController<
 >;
 
 /// A stream of what a watcher of this API tells this writer.
-fn make_stream<'a, R: Wait>(
+fn make_stream<'a, R: Abort + Wait>(
     rt: &'a R,
     alloc: Global,
     api: Api,
@@ -173,88 +180,82 @@ fn make_stream<'a, R: Wait>(
 }
 
 /// A controller of what a watcher of such an API tells.
-fn fed<'a, R: Wait>(rt: &'a R, alloc: Global) -> Result<Fed<'a, R>, NoMemory> {
-    let dyntype = kind(alloc, "ConfigMap")?;
-    let api = api(alloc)?;
-    let (reader, writer) = opened(alloc)?;
+fn fed<'a, R: Abort + Wait>(rt: &'a R, alloc: Global) -> Fed<'a, R> {
+    let dyntype = kind(rt, alloc, "ConfigMap");
+    let api = api(rt, alloc);
+    let mut writer = writer(rt, alloc);
+    let store = handle(rt, &mut writer);
     let stream = make_stream(rt, alloc, api, writer);
-    Ok(FedController::for_stream_with(alloc, stream, reader, dyntype))
-}
-
-fn ran_fed<R: Wait>(rt: &R, alloc: Global) -> Result<Answered, NoMemory> {
-    let turns = turns(alloc, ROWS)?;
-    let mut controller = fed(rt, alloc)?;
-    let mut recorder = Recorder::new(alloc);
-    run(rt, alloc, &mut controller, &mut recorder, turns)
+    FedController::for_stream_with(alloc, stream, store, dyntype)
 }
 
 type Watched = Controller<WatchRoot<Api>, NoRelated, DefaultBackoff>;
 
-fn watched(alloc: Global) -> Result<Watched, NoMemory> {
-    let dyntype = kind(alloc, "ConfigMap")?;
-    Controller::new_with(alloc, api(alloc)?, WatcherConfig::default(), dyntype)
+fn watched(rt: &impl Abort, alloc: Global) -> Watched {
+    let dyntype = kind(rt, alloc, "ConfigMap");
+    let api = api(rt, alloc);
+    Controller::new_with(alloc, api, WatcherConfig::default(), dyntype).expect(rt, "memory")
 }
 
 fn run_watched(
+    rt: &impl Abort,
     alloc: Global,
     controller: &mut Watched,
     recorder: &mut Recorder<DynamicObject>,
     turns: Vec<Turn<DynamicObject, u64>>,
-) -> Result<Answered, NoMemory> {
-    if turns.len() > 9 {
-        return Err(NoMemory);
-    }
-    let context = Arc::new(alloc, ())?;
+) -> Answered {
+    assert!(rt; turns.len() <= 9);
+    let context = Arc::new(alloc, ()).expect(rt, "memory");
     let policy = |_object: Object, error: &u64, _context: Arc<()>| Action::requeue(*error);
-    Ok(controller.run(alloc, recorder, &policy, context, turns))
-}
-
-fn ran_watched(alloc: Global) -> Result<Answered, NoMemory> {
-    let turns = turns(alloc, ROWS)?;
-    let mut controller = watched(alloc)?;
-    let mut recorder = Recorder::new(alloc);
-    run_watched(alloc, &mut controller, &mut recorder, turns)
+    controller.run(alloc, recorder, &policy, context, turns)
 }
 
 /// What each turn of a run took, a line each.
-fn taken(alloc: Global, answered: &Answered) -> Result<String, AllocError> {
+fn taken(rt: &impl Abort, alloc: Global, answered: &Answered) -> String {
     let mut lines = String::new(alloc);
     for record in records(answered) {
-        lines.push_str(all_taken(alloc, record)?.as_str())?;
-        lines.push_str("\n")?;
+        let taken = all_taken(rt, alloc, record);
+        add_line(rt, &mut lines, taken.as_str());
     }
-    Ok(lines)
+    lines
+}
+
+/// The same of an answer that is let go then.
+fn taken_once(rt: &impl Abort, alloc: Global, answered: Answered) -> String {
+    taken(rt, alloc, &answered)
 }
 
 /// What each row takes, a line each.
-fn wanted(alloc: Global) -> Result<String, AllocError> {
+fn wanted(rt: &impl Abort, alloc: Global) -> String {
     let mut lines = String::new(alloc);
     for (_given, taken) in ROWS {
-        lines.push_str(taken)?;
-        lines.push_str("\n")?;
+        add_line(rt, &mut lines, taken);
     }
-    Ok(lines)
+    lines
 }
 
-fn taken_fed<R: Wait>(rt: &R, alloc: Global) -> Result<String, NoMemory> {
-    match ran_fed(rt, alloc) {
-        Ok(answered) => Ok(taken(alloc, &answered)?),
-        Err(error) => Err(error),
-    }
+fn taken_fed<R: Abort + Wait>(rt: &R, alloc: Global) -> String {
+    let turns = turns(rt, alloc, ROWS);
+    let mut recorder = Recorder::new(alloc);
+    let mut controller = fed(rt, alloc);
+    let answered = run(rt, alloc, &mut controller, &mut recorder, turns);
+    taken_once(rt, alloc, answered)
 }
 
-fn taken_watched(alloc: Global) -> Result<String, NoMemory> {
-    match ran_watched(alloc) {
-        Ok(answered) => Ok(taken(alloc, &answered)?),
-        Err(error) => Err(error),
-    }
+fn taken_watched(rt: &impl Abort, alloc: Global) -> String {
+    let turns = turns(rt, alloc, ROWS);
+    let mut recorder = Recorder::new(alloc);
+    let mut controller = watched(rt, alloc);
+    let answered = run_watched(rt, alloc, &mut controller, &mut recorder, turns);
+    taken_once(rt, alloc, answered)
 }
 
 #[test]
-fn fed_and_watched_start_alike(rt: HostRuntime) -> Result<(), Fail> {
+fn fed_and_watched_start_alike(rt: HostRuntime) {
     let alloc = rt.alloc();
-    let wanted = wanted(alloc)?;
-    assert_eq!(rt; taken_watched(alloc)?.as_str(), wanted.as_str());
-    assert_eq!(rt; taken_fed(&rt, alloc)?.as_str(), wanted.as_str());
-    Ok(())
+    let wanted = wanted(&rt, alloc);
+    let watched = taken_watched(&rt, alloc);
+    assert_eq!(rt; watched.as_str(), wanted.as_str());
+    let fed = taken_fed(&rt, alloc);
+    assert_eq!(rt; fed.as_str(), wanted.as_str());
 }

@@ -9,8 +9,8 @@ use kube_final::kinds::{CustomResourceDefinition, Deployment, Ingress, Job, Pod,
 use kube_final::wait::{Condition, FnCondition};
 use kube_meta::{DynamicObject, ObjectFault};
 use std::alloc::Global;
+use std::process::Abort;
 use std::rt::HostRuntime;
-use std::test::Fail;
 
 /// A condition, an object as JSON, and the answer: `true`, `false`, or the place of what has another form.
 type Row = (&'static str, &'static str, &'static str);
@@ -222,11 +222,9 @@ fn is_wanted(answer: Result<bool, ObjectFault>, wanted: &str) -> bool {
 }
 
 /// Whether a condition answers of an object what is wanted.
-fn holds(alloc: Global, row: &Row) -> Result<bool, Fail> {
-    match object(alloc, row.1) {
-        Ok(object) => Ok(is_wanted(answer(alloc, row.0, &object), row.2)),
-        Err(fault) => Err(fault),
-    }
+fn holds(rt: &impl Abort, alloc: Global, row: &Row) -> bool {
+    let object = object(rt, alloc, row.1);
+    is_wanted(answer(alloc, row.0, &object), row.2)
 }
 
 /// What the conditions of known types answer where there is no object.
@@ -242,12 +240,11 @@ fn answers_of_none() -> [bool; 6] {
 }
 
 #[test]
-fn conditions_of_known_types(rt: HostRuntime) -> Result<(), Fail> {
+fn conditions_of_known_types(rt: HostRuntime) {
     for row in &ROWS {
-        assert_eq!(rt; holds(rt.alloc(), row)?, true, "{} of {}", row.0, row.1);
+        assert_eq!(rt; holds(&rt, rt.alloc(), row), true, "{} of {}", row.0, row.1);
     }
     assert_eq!(rt; answers_of_none(), [false; 6]);
-    Ok(())
 }
 
 /// Conditions of any object, and of two conditions, each with its answer where there is no object.
@@ -272,16 +269,18 @@ fn never_or_created(object: Option<&DynamicObject>) -> bool {
 }
 
 /// The same of the object of a text.
-fn answers_of(alloc: Global, text: &str) -> Result<[bool; 8], Fail> {
-    match object(alloc, text) {
-        Ok(object) => Ok(answers(Some(&object))),
-        Err(fault) => Err(fault),
-    }
+fn answers_of(rt: &impl Abort, alloc: Global, text: &str) -> [bool; 8] {
+    let object = object(rt, alloc, text);
+    answers(Some(&object))
 }
 
 #[test]
-fn conditions_of_any_object(rt: HostRuntime) -> Result<(), Fail> {
-    let of_one = answers_of(rt.alloc(), r#"{"metadata":{"name":"a","uid":"uid-1"}}"#)?;
+fn conditions_of_any_object(rt: HostRuntime) {
+    let of_one = answers_of(
+        &rt,
+        rt.alloc(),
+        r#"{"metadata":{"name":"a","uid":"uid-1"}}"#,
+    );
     assert_eq!(rt;
         of_one,
         [true, false, true, false, false, true, false, true]
@@ -290,5 +289,4 @@ fn conditions_of_any_object(rt: HostRuntime) -> Result<(), Fail> {
         answers(None),
         [false, true, true, true, false, true, false, false]
     );
-    Ok(())
 }

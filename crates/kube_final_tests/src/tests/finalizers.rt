@@ -1,16 +1,18 @@
 //! What a finalizer makes of an object: its decision, its patch, and its answer.
 
-ghost use Rattle.std.specs.Prelude.{◌≡◌, false, IfOk};
+ghost use Rattle.std.specs.Prelude.{◌≡◌, false};
 
-use super::{Torn, is_text, with_metadata};
-use kube_api::{ApiError, DeleteAnswer, ObjectApi, PatchAnswer};
+use super::{Torn, add, fault, is_text, owned, with_metadata};
+use kube_api::{DeleteAnswer, ObjectApi, PatchAnswer};
 use kube_final::finalizer::{Decision, Error, Event, Finalizer};
 use kube_final::{Patch, PatchRefusal};
-use kube_meta::{Action, DynamicObject, Moment, NoMemory, ObjectMeta, Polled, Text};
-use std::alloc::{AllocError, Global};
+use kube_meta::{Action, DynamicObject, Moment, NoMemory, ObjectMeta, Polled};
+use serde_json::Value;
+use std::alloc::Global;
+use std::panic::Expect;
+use std::process::Abort;
 use std::rt::HostRuntime;
 use std::sync::Arc;
-use std::test::Fail;
 
 /// An object as JSON; the branch (`none`, `ok` or `err`); the answer to the patch; the decision, the calls with their
 /// patches, and the answer.
@@ -122,49 +124,59 @@ const ROWS: [Row; 18] = [
     ),
 ];
 
-/// Answers each patch alike, and keeps its calls as text.
+/// Answers each patch alike, and keeps its calls as text. It has what it stops by for want of memory.
 #[derive(Drop)]
-struct Alike {
+struct Alike<R> {
+    rt: R,
     answer: &'static str,
     calls: String,
 }
 
-impl Alike {
-    fn new(alloc: Global, answer: &'static str) -> Alike {
-        Alike {
-            answer,
-            calls: String::new(alloc),
+/// A value as text.
+fn value_text(rt: &impl Abort, alloc: Global, value: &Value) -> String {
+    value.to_string(alloc).expect(rt, "memory")
+}
+
+fn add_value(rt: &impl Abort, alloc: Global, calls: &mut String, value: &Value) {
+    let value = value_text(rt, alloc, value);
+    add(rt, calls, " ");
+    add(rt, calls, value.as_str());
+}
+
+fn add_operation(rt: &impl Abort, alloc: Global, calls: &mut String, operation: &Patch) {
+    match operation {
+        Patch::Test { path, value } => {
+            add(rt, calls, "test ");
+            add(rt, calls, path.as_str());
+            add_value(rt, alloc, calls, value);
         }
-    }
-
-    fn push_value(&mut self, alloc: Global, value: &serde_json::Value) -> Result<(), NoMemory> {
-        self.calls.push_str(" ")?;
-        self.calls.push_str(value.to_string(alloc)?.as_str())?;
-        Ok(())
-    }
-
-    fn push(&mut self, alloc: Global, operation: &Patch) -> Result<(), NoMemory> {
-        match operation {
-            Patch::Test { path, value } => {
-                self.calls.push_str("test ")?;
-                self.calls.push_str(path.as_str())?;
-                self.push_value(alloc, value)
-            }
-            Patch::Add { path, value } => {
-                self.calls.push_str(", add ")?;
-                self.calls.push_str(path.as_str())?;
-                self.push_value(alloc, value)
-            }
-            Patch::Remove { path } => {
-                self.calls.push_str(", remove ")?;
-                self.calls.push_str(path.as_str())?;
-                Ok(())
-            }
+        Patch::Add { path, value } => {
+            add(rt, calls, ", add ");
+            add(rt, calls, path.as_str());
+            add_value(rt, alloc, calls, value);
+        }
+        Patch::Remove { path } => {
+            add(rt, calls, ", remove ");
+            add(rt, calls, path.as_str());
         }
     }
 }
 
-impl ObjectApi for Alike {
+fn add_patch(rt: &impl Abort, alloc: Global, calls: &mut String, name: &str, patch: &[Patch]) {
+    add(rt, calls, name);
+    add(rt, calls, ": ");
+    for operation in patch {
+        add_operation(rt, alloc, calls, operation);
+    }
+    add(rt, calls, "; ");
+}
+
+/// An object without metadata.
+fn bare(rt: &impl Abort, alloc: Global) -> Arc<DynamicObject> {
+    Arc::new(alloc, DynamicObject::bare(ObjectMeta::empty())).expect(rt, "memory")
+}
+
+impl<R: Abort + Copy> ObjectApi for Alike<R> {
     ghost use Rattle.std.specs.Prelude.{None, ◌^◌, ◌-◌};
 
     type Value = DynamicObject;
@@ -182,22 +194,12 @@ impl ObjectApi for Alike {
         patch: &[Patch],
         _now: Moment,
     ) -> Result<Polled<PatchAnswer<DynamicObject>>, NoMemory> {
-        self.calls.push_str(name)?;
-        self.calls.push_str(": ")?;
-        for operation in patch {
-            self.push(alloc, operation)?;
-        }
-        self.calls.push_str("; ")?;
+        let rt = self.rt;
+        add_patch(&rt, alloc, &mut self.calls, name, patch);
         Ok(match self.answer {
-            "done" => Polled::Ready(PatchAnswer::Done(Arc::new(
-                alloc,
-                DynamicObject::bare(ObjectMeta::empty()),
-            )?)),
+            "done" => Polled::Ready(PatchAnswer::Done(bare(&rt, alloc))),
             "refused" => Polled::Ready(PatchAnswer::Refused(PatchRefusal::TestFailed(0))),
-            "fault" => {
-                let text = Text::new(alloc, "torn")?;
-                Polled::Ready(PatchAnswer::Fault(ApiError::Transport(text)))
-            }
+            "fault" => Polled::Ready(PatchAnswer::Fault(fault(&rt, alloc))),
             _ => Polled::NotReady,
         })
     }
@@ -212,43 +214,67 @@ impl ObjectApi for Alike {
     }
 }
 
-/// A finalizer of an object, by its metadata as JSON.
-fn guarded(alloc: Global, metadata: &str) -> Result<Finalizer<DynamicObject>, Fail>
-    ensures { IfOk result (λ f. f.is_over ≡ false) }
-{
-    let object = with_metadata(alloc, metadata)?;
-    let object = Arc::new(alloc, object)?;
-    Ok(Finalizer::new(alloc, "f", object)?)
-}
-
-fn decision_text(alloc: Global, decision: Decision) -> Result<String, AllocError> {
-    match decision {
-        Decision::Apply => String::from_str(alloc, "apply; "),
-        Decision::Cleanup { index } => format!(in alloc; "cleanup {index}; "),
-        Decision::AddFirst => String::from_str(alloc, "add first; "),
-        Decision::AddMore => String::from_str(alloc, "add more; "),
-        Decision::Nothing => String::from_str(alloc, "nothing; "),
-        Decision::Unnamed => String::from_str(alloc, "unnamed; "),
+fn answering<R: Copy>(rt: &R, alloc: Global, answer: &'static str) -> Alike<R> {
+    Alike {
+        rt: *rt,
+        answer,
+        calls: String::new(alloc),
     }
 }
 
-fn action_text(alloc: Global, action: Action) -> Result<String, AllocError> {
+/// A finalizer of an object.
+pub fn guarding(
+    rt: &impl Abort,
+    alloc: Global,
+    object: Arc<DynamicObject>,
+) -> Finalizer<DynamicObject>
+    ensures { result.is_over ≡ false }
+{
+    Finalizer::new(alloc, "f", object).expect(rt, "memory")
+}
+
+/// A finalizer of an object, by its metadata as JSON.
+fn guarded(rt: &impl Abort, alloc: Global, metadata: &str) -> Finalizer<DynamicObject>
+    ensures { result.is_over ≡ false }
+{
+    let object = with_metadata(rt, alloc, metadata);
+    let object = Arc::new(alloc, object).expect(rt, "memory");
+    guarding(rt, alloc, object)
+}
+
+fn decision_text(rt: &impl Abort, alloc: Global, decision: Decision) -> String {
+    match decision {
+        Decision::Apply => owned(rt, alloc, "apply; "),
+        Decision::Cleanup { index } => format!(in alloc; "cleanup {index}; ").expect(rt, "memory"),
+        Decision::AddFirst => owned(rt, alloc, "add first; "),
+        Decision::AddMore => owned(rt, alloc, "add more; "),
+        Decision::Nothing => owned(rt, alloc, "nothing; "),
+        Decision::Unnamed => owned(rt, alloc, "unnamed; "),
+    }
+}
+
+fn action_text(rt: &impl Abort, alloc: Global, action: &Action) -> String {
     match action.requeue_after() {
-        Some(nanos) => format!(in alloc; "after {nanos}"),
-        None => String::from_str(alloc, "after change"),
+        Some(nanos) => format!(in alloc; "after {nanos}").expect(rt, "memory"),
+        None => owned(rt, alloc, "after change"),
+    }
+}
+
+fn shown(rt: &impl Abort, alloc: Global, answer: &Polled<Result<Action, Error<Torn>>>) -> String {
+    match answer {
+        Polled::NotReady => owned(rt, alloc, "not ready"),
+        Polled::Ready(Ok(action)) => action_text(rt, alloc, action),
+        Polled::Ready(Err(error)) => format!(in alloc; "{error}").expect(rt, "memory"),
     }
 }
 
 /// The text of the answer of a poll.
 pub fn answer_text(
+    rt: &impl Abort,
     alloc: Global,
     answer: Polled<Result<Action, Error<Torn>>>,
-) -> Result<String, AllocError> {
-    match answer {
-        Polled::NotReady => String::from_str(alloc, "not ready"),
-        Polled::Ready(Ok(action)) => action_text(alloc, action),
-        Polled::Ready(Err(error)) => format!(in alloc; "{error}"),
-    }
+) -> String {
+    shown(rt, alloc, &answer)
 }
 
 /// How a branch ends: `ok`, `err`, or not yet.
@@ -261,33 +287,39 @@ pub fn branch_of(branch: &str) -> Option<Result<Action, Torn>> {
 }
 
 /// What a poll comes to.
-fn polled(
+fn polled<R: Abort + Copy>(
+    rt: &R,
     alloc: Global,
     finalizer: &mut Finalizer<DynamicObject>,
-    api: &mut Alike,
+    api: &mut Alike<R>,
     branch: &str,
-) -> Result<String, NoMemory>
+) -> String
     requires unready { finalizer.old.is_over ≡ false }
 {
-    match finalizer.poll(alloc, api, branch_of(branch), Moment(5)) {
-        Ok(answer) => Ok(answer_text(alloc, answer)?),
-        Err(error) => Err(error),
-    }
+    let answer = finalizer
+        .poll(alloc, api, branch_of(branch), Moment(5))
+        .expect(rt, "memory");
+    answer_text(rt, alloc, answer)
+}
+
+fn joined(rt: &impl Abort, alloc: Global, first: &str, second: &str, third: &str) -> String {
+    format!(in alloc; "{first}{second}{third}").expect(rt, "memory")
 }
 
 /// The decision, the calls with their patches, and the answer.
-fn come_of(
+fn come_of<R: Abort + Copy>(
+    rt: &R,
     alloc: Global,
-    finalizer: Finalizer<DynamicObject>,
-    row: &Row,
-) -> Result<String, NoMemory>
-    requires unready { finalizer.is_over ≡ false }
+    finalizer: &mut Finalizer<DynamicObject>,
+    api: &mut Alike<R>,
+    branch: &str,
+) -> String
+    requires unready { finalizer.old.is_over ≡ false }
 {
-    let mut finalizer = finalizer;
-    let mut api = Alike::new(alloc, row.2);
-    let decision = decision_text(alloc, finalizer.decide())?;
-    let answer = polled(alloc, &mut finalizer, &mut api, row.1)?;
+    let decision = decision_text(rt, alloc, finalizer.decide());
+    let answer = polled(rt, alloc, finalizer, api, branch);
     joined(
+        rt,
         alloc,
         decision.as_str(),
         api.calls.as_str(),
@@ -295,64 +327,73 @@ fn come_of(
     )
 }
 
-fn joined(alloc: Global, first: &str, second: &str, third: &str) -> Result<String, NoMemory> {
-    Ok(format!(in alloc; "{first}{second}{third}")?)
-}
-
-fn outcome(alloc: Global, row: &Row) -> Result<String, Fail> {
-    match guarded(alloc, row.0) {
-        Ok(finalizer) => Ok(come_of(alloc, finalizer, row)?),
-        Err(fault) => Err(fault),
-    }
+/// The same of the finalizer and the answer of a row.
+fn outcome<R: Abort + Copy>(rt: &R, alloc: Global, row: &Row) -> String {
+    let mut finalizer = guarded(rt, alloc, row.0);
+    let mut api = answering(rt, alloc, row.2);
+    come_of(rt, alloc, &mut finalizer, &mut api, row.1)
 }
 
 #[test]
-fn finalizers_by_the_table(rt: HostRuntime) -> Result<(), Fail> {
+fn finalizers_by_the_table(rt: HostRuntime) {
     for row in &ROWS {
-        is_text(&rt, outcome(rt.alloc(), row)?.as_str(), row.3)?;
+        let outcome = outcome(&rt, rt.alloc(), row);
+        is_text(&rt, outcome.as_str(), row.3);
     }
-    Ok(())
+}
+
+/// Polls without a branch, and joins what one API was sent, what another is then, and the answer.
+fn polled_again<R: Abort + Copy>(
+    rt: &R,
+    alloc: Global,
+    finalizer: &mut Finalizer<DynamicObject>,
+    sent: &str,
+    ready: &mut Alike<R>,
+) -> String
+    requires unready { finalizer.old.is_over ≡ false }
+{
+    let answer = polled(rt, alloc, finalizer, ready, "none");
+    joined(rt, alloc, sent, ready.calls.as_str(), answer.as_str())
 }
 
 /// Polls a cleanup that has succeeded at an API that is not ready, and then without a branch at one that is.
-fn polled_twice(alloc: Global, finalizer: Finalizer<DynamicObject>) -> Result<String, NoMemory>
-    requires unready { finalizer.is_over ≡ false }
+fn polled_twice<R: Abort + Copy>(
+    rt: &R,
+    alloc: Global,
+    finalizer: &mut Finalizer<DynamicObject>,
+    later: &mut Alike<R>,
+    ready: &mut Alike<R>,
+) -> String
+    requires unready { finalizer.old.is_over ≡ false }
 {
-    let mut finalizer = finalizer;
-    let mut api = Alike::new(alloc, "later");
-    match finalizer.poll(alloc, &mut api, branch_of("ok"), Moment(5)) {
-        Ok(Polled::NotReady) => {
-            let mut ready = Alike::new(alloc, "done");
-            let answer = polled(alloc, &mut finalizer, &mut ready, "none")?;
-            joined(
-                alloc,
-                api.calls.as_str(),
-                ready.calls.as_str(),
-                answer.as_str(),
-            )
-        }
-        Ok(Polled::Ready(_)) => Ok(String::from_str(alloc, "ready")?),
-        Err(error) => Err(error),
+    let answer = finalizer
+        .poll(alloc, later, branch_of("ok"), Moment(5))
+        .expect(rt, "memory");
+    match answer {
+        Polled::NotReady => polled_again(rt, alloc, finalizer, later.calls.as_str(), ready),
+        Polled::Ready(_) => owned(rt, alloc, "ready"),
     }
 }
 
-fn cleaned_twice(alloc: Global) -> Result<String, Fail> {
-    match guarded(
+fn cleaned_twice<R: Abort + Copy>(rt: &R, alloc: Global) -> String {
+    let mut finalizer = guarded(
+        rt,
         alloc,
         r#"{"name":"x","finalizers":["f"],"deletionTimestamp":"1"}"#,
-    ) {
-        Ok(finalizer) => Ok(polled_twice(alloc, finalizer)?),
-        Err(fault) => Err(fault),
-    }
+    );
+    let mut later = answering(rt, alloc, "later");
+    let mut ready = answering(rt, alloc, "done");
+    polled_twice(rt, alloc, &mut finalizer, &mut later, &mut ready)
 }
 
 #[test]
-fn a_patch_is_sent_again_without_a_branch(rt: HostRuntime) -> Result<(), Fail> {
+fn a_patch_is_sent_again_without_a_branch(rt: HostRuntime) {
+    let text = cleaned_twice(&rt, rt.alloc());
     is_text(
         &rt,
-        cleaned_twice(rt.alloc())?.as_str(),
+        text.as_str(),
         r#"x: test /metadata/finalizers/0 "f", remove /metadata/finalizers/0; x: test /metadata/finalizers/0 "f", remove /metadata/finalizers/0; after 7"#,
-    )
+    );
 }
 
 fn event_text(event: Option<Event<DynamicObject>>) -> &'static str {
@@ -364,11 +405,9 @@ fn event_text(event: Option<Event<DynamicObject>>) -> &'static str {
 }
 
 /// The branch that is owed for an object.
-fn event_of(alloc: Global, metadata: &str) -> Result<&'static str, Fail> {
-    match guarded(alloc, metadata) {
-        Ok(finalizer) => Ok(event_text(finalizer.event()?)),
-        Err(fault) => Err(fault),
-    }
+fn event_of(rt: &impl Abort, alloc: Global, metadata: &str) -> &'static str {
+    let finalizer = guarded(rt, alloc, metadata);
+    event_text(finalizer.event().expect(rt, "memory"))
 }
 
 /// An object, and the branch that is owed for it.
@@ -382,9 +421,8 @@ const EVENTS: [(&str, &str); 3] = [
 ];
 
 #[test]
-fn events_of_decisions(rt: HostRuntime) -> Result<(), Fail> {
+fn events_of_decisions(rt: HostRuntime) {
     for (metadata, wanted) in &EVENTS {
-        is_text(&rt, event_of(rt.alloc(), metadata)?, wanted)?;
+        is_text(&rt, event_of(&rt, rt.alloc(), metadata), wanted);
     }
-    Ok(())
 }

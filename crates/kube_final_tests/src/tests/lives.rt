@@ -1,11 +1,12 @@
 //! Lives: which lists of steps are one, and what they come to on a server.
 
-use super::is_text;
+use super::{add, is_text, owned, text};
 use kube_final::laws::{LifeState, LifeStep, guarded, play, valid};
-use kube_meta::{List, NoMemory, Text};
-use std::alloc::{AllocError, Global};
+use kube_meta::{List, Text};
+use std::alloc::Global;
+use std::panic::Expect;
+use std::process::Abort;
 use std::rt::HostRuntime;
-use std::test::Fail;
 
 /// A step, short to write: its kind, its number, and for a change by another party the finalizers.
 type Short = (&'static str, u32, &'static [&'static str]);
@@ -111,19 +112,19 @@ const ROWS: [Row; 15] = [
     ),
 ];
 
-fn names(alloc: Global, given: &[&str]) -> Result<List<Text>, Fail> {
+fn names(rt: &impl Abort, alloc: Global, given: &[&str]) -> List<Text> {
     let mut names = List::new(alloc);
     for name in given {
-        names.push(Text::new(alloc, name)?)?;
+        names.push(text(rt, alloc, name)).expect(rt, "memory");
     }
-    Ok(names)
+    names
 }
 
-fn step(alloc: Global, short: &Short) -> Result<LifeStep, Fail> {
+fn step(rt: &impl Abort, alloc: Global, short: &Short) -> LifeStep {
     let number = short.1;
-    Ok(match short.0 {
+    match short.0 {
         "other" => LifeStep::Other {
-            finalizers: names(alloc, short.2)?,
+            finalizers: names(rt, alloc, short.2),
         },
         "delete" => LifeStep::RequestDelete,
         "decide" => LifeStep::Decide { sight: number },
@@ -139,64 +140,69 @@ fn step(alloc: Global, short: &Short) -> Result<LifeStep, Fail> {
         },
         "send" => LifeStep::Send { decision: number },
         _ => LifeStep::Arrive { send: number },
-    })
+    }
 }
 
-fn steps(alloc: Global, shorts: &[Short]) -> Result<Vec<LifeStep>, Fail> {
+fn steps(rt: &impl Abort, alloc: Global, shorts: &[Short]) -> Vec<LifeStep> {
     let mut life = Vec::new(alloc);
     for short in shorts {
-        life.push(step(alloc, short)?)?;
+        life.push(step(rt, alloc, short)).expect(rt, "memory");
     }
-    Ok(life)
+    life
 }
 
-fn names_text(alloc: Global, names: &[Text]) -> Result<String, AllocError> {
-    let mut text = String::from_str(alloc, "[")?;
+/// Adds names, with a space between them.
+fn add_names(rt: &impl Abort, string: &mut String, names: &[Text]) {
     let mut before = "";
     for name in names {
-        text.push_str(before)?;
-        text.push_str(name.as_str())?;
+        add(rt, string, before);
+        add(rt, string, name.as_str());
         before = " ";
     }
-    text.push_str("]")?;
-    Ok(text)
+}
+
+/// How an object that is there stands.
+fn finalizers_text(rt: &impl Abort, alloc: Global, state: &LifeState) -> String {
+    let mut string = owned(rt, alloc, "[");
+    add_names(rt, &mut string, state.finalizers.as_slice());
+    add(rt, &mut string, "]");
+    if state.deleting {
+        add(rt, &mut string, " deleting");
+    }
+    string
 }
 
 /// How an object stands.
-fn state_text(alloc: Global, state: LifeState) -> Result<String, AllocError> {
+fn state_text(rt: &impl Abort, alloc: Global, state: &LifeState) -> String {
     if state.gone {
-        return String::from_str(alloc, "gone");
+        return owned(rt, alloc, "gone");
     }
-    let mut text = names_text(alloc, state.finalizers.as_slice())?;
-    if state.deleting {
-        text.push_str(" deleting")?;
-    }
-    Ok(text)
+    finalizers_text(rt, alloc, state)
+}
+
+/// The same of a state that ends with it.
+fn state_text_once(rt: &impl Abort, alloc: Global, state: LifeState) -> String {
+    state_text(rt, alloc, &state)
 }
 
 /// How an object stands at the end of a life, of which the laws hold. (No row has so many steps as the first test is of.)
-fn come_of(alloc: Global, life: &[LifeStep]) -> Result<String, NoMemory> {
-    if life.len() > 99 || !valid(alloc, life, "f")? {
-        return Ok(String::from_str(alloc, "no life")?);
+fn come_of(rt: &impl Abort, alloc: Global, life: &[LifeStep]) -> String {
+    if life.len() > 99 || !valid(alloc, life, "f").expect(rt, "memory") {
+        return owned(rt, alloc, "no life");
     }
     guarded(life, "f");
-    match play(alloc, life, "f") {
-        Ok(state) => Ok(state_text(alloc, state)?),
-        Err(error) => Err(error),
-    }
+    state_text_once(rt, alloc, play(alloc, life, "f").expect(rt, "memory"))
 }
 
-fn outcome(alloc: Global, shorts: &[Short]) -> Result<String, Fail> {
-    match steps(alloc, shorts) {
-        Ok(life) => Ok(come_of(alloc, life.as_slice())?),
-        Err(fault) => Err(fault),
-    }
+fn outcome(rt: &impl Abort, alloc: Global, shorts: &[Short]) -> String {
+    let life = steps(rt, alloc, shorts);
+    come_of(rt, alloc, life.as_slice())
 }
 
 #[test]
-fn lives_of_an_object(rt: HostRuntime) -> Result<(), Fail> {
+fn lives_of_an_object(rt: HostRuntime) {
     for row in &ROWS {
-        is_text(&rt, outcome(rt.alloc(), row.0)?.as_str(), row.1)?;
+        let outcome = outcome(&rt, rt.alloc(), row.0);
+        is_text(&rt, outcome.as_str(), row.1);
     }
-    Ok(())
 }

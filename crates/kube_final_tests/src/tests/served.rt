@@ -1,140 +1,172 @@
 //! Finalizers and deletions over the objects of a server.
 
-ghost use Rattle.std.specs.Prelude.{◌≡◌, false, IfOk, IfSome};
+ghost use Rattle.std.specs.Prelude.{◌≡◌, false, IfSome};
 
-use super::finalizers::{answer_text, branch_of};
+use super::finalizers::{answer_text, branch_of, guarding};
 use super::waits::{deletion_text, uid_one};
-use super::{is_text, with_metadata};
+use super::{add, is_text, owned, text, with_metadata};
 use kube_api::TestMode;
 use kube_final::delete::DeleteAndFinalize;
 use kube_final::finalizer::Finalizer;
-use kube_meta::{ApiResource, DynamicObject, List, Moment, NoMemory, ObjectRef, Text};
+use kube_meta::{ApiResource, DynamicObject, Moment, ObjectRef, Text};
 use kube_server::{Server, ServerObjects};
-use std::alloc::{AllocError, Global};
+use std::alloc::Global;
+use std::panic::Expect;
+use std::process::Abort;
 use std::rt::HostRuntime;
 use std::sync::Arc;
-use std::test::Fail;
 
-fn resource(alloc: Global) -> Result<Arc<ApiResource>, NoMemory> {
-    Ok(Arc::new(
-        alloc,
-        ApiResource {
-            group: Text::new(alloc, "")?,
-            version: Text::new(alloc, "v1")?,
-            api_version: Text::new(alloc, "v1")?,
-            kind: Text::new(alloc, "ConfigMap")?,
-            plural: Text::new(alloc, "configmaps")?,
-        },
-    )?)
+fn resource(rt: &impl Abort, alloc: Global) -> Arc<ApiResource> {
+    let resource = ApiResource {
+        group: text(rt, alloc, ""),
+        version: text(rt, alloc, "v1"),
+        api_version: text(rt, alloc, "v1"),
+        kind: text(rt, alloc, "ConfigMap"),
+        plural: text(rt, alloc, "configmaps"),
+    };
+    Arc::new(alloc, resource).expect(rt, "memory")
 }
 
-fn server(alloc: Global) -> Result<Server, NoMemory> {
-    Ok(Server::new(alloc, resource(alloc)?))
+fn server(rt: &impl Abort, alloc: Global) -> Server {
+    Server::new(alloc, resource(rt, alloc))
 }
 
-fn key(alloc: Global) -> Result<ObjectRef<DynamicObject>, NoMemory> {
-    let resource = resource(alloc)?;
-    ObjectRef::new_with(alloc, "x", resource)
+fn key(rt: &impl Abort, alloc: Global) -> ObjectRef<DynamicObject> {
+    let resource = resource(rt, alloc);
+    ObjectRef::new_with(alloc, "x", resource).expect(rt, "memory")
+}
+
+fn remove(rt: &impl Abort, alloc: Global, server: &mut Server) {
+    let key = key(rt, alloc);
+    server.remove(alloc, &key).expect(rt, "it is there");
+}
+
+fn put_object(rt: &impl Abort, alloc: Global, server: &mut Server, metadata: &str) {
+    let object = with_metadata(rt, alloc, metadata);
+    server.put(alloc, object).expect(rt, "it has a name");
 }
 
 /// Puts the object of metadata as JSON; takes it away where that is `gone`, and else leaves all as it is.
-fn put(alloc: Global, server: &mut Server, metadata: &str) -> Result<(), Fail> {
+fn put(rt: &impl Abort, alloc: Global, server: &mut Server, metadata: &str) {
     match metadata {
         "" => {}
-        "gone" => {
-            server.remove(alloc, &key(alloc)?)?;
-        }
-        _ => {
-            server.put(alloc, with_metadata(alloc, metadata)?)?;
-        }
+        "gone" => remove(rt, alloc, server),
+        _ => put_object(rt, alloc, server, metadata),
     }
-    Ok(())
 }
 
-fn names_text(alloc: Global, names: &Option<List<Text>>) -> Result<String, AllocError> {
-    let mut text = String::new(alloc);
-    if let Some(names) = names {
-        for name in names.as_slice() {
-            text.push_str(name.as_str())?;
-            text.push_str(" ")?;
-        }
+/// Adds names, with a space after each.
+fn add_names(rt: &impl Abort, string: &mut String, names: &[Text]) {
+    for name in names {
+        add(rt, string, name.as_str());
+        add(rt, string, " ");
     }
-    Ok(text)
+}
+
+/// Adds the finalizers of an object, and its version.
+fn add_object(rt: &impl Abort, string: &mut String, object: &DynamicObject) {
+    if let Some(names) = &object.metadata.finalizers {
+        add_names(rt, string, names.as_slice());
+    }
+    if let Some(version) = &object.metadata.resource_version {
+        add(rt, string, "@");
+        add(rt, string, version.as_str());
+    }
 }
 
 /// The finalizers of an object, and its version.
-fn object_text(alloc: Global, object: &DynamicObject) -> Result<String, AllocError> {
-    let mut text = names_text(alloc, &object.metadata.finalizers)?;
-    if let Some(version) = &object.metadata.resource_version {
-        text.push_str("@")?;
-        text.push_str(version.as_str())?;
-    }
-    Ok(text)
+fn object_text(rt: &impl Abort, alloc: Global, object: &DynamicObject) -> String {
+    let mut string = String::new(alloc);
+    add_object(rt, &mut string, object);
+    string
 }
 
 /// How the object stands on the server.
-fn server_text(alloc: Global, server: &Server) -> Result<String, NoMemory> {
-    let key = key(alloc)?;
-    match server.get(alloc, &key) {
-        Ok(Some(object)) => Ok(object_text(alloc, object)?),
-        Ok(None) => Ok(String::from_str(alloc, "gone")?),
-        Err(error) => Err(error),
+fn server_text(rt: &impl Abort, alloc: Global, server: &Server) -> String {
+    let key = key(rt, alloc);
+    match server.get(alloc, &key).expect(rt, "memory") {
+        Some(object) => object_text(rt, alloc, object),
+        None => owned(rt, alloc, "gone"),
+    }
+}
+
+/// The object as the server has it.
+fn seen(rt: &impl Abort, alloc: Global, server: &Server) -> Option<Arc<DynamicObject>> {
+    let key = key(rt, alloc);
+    match server.get(alloc, &key).expect(rt, "memory") {
+        Some(object) => Some(object.clone().expect(rt, "memory")),
+        None => None,
     }
 }
 
 /// A finalizer of the object as the server has it.
-fn guarded(alloc: Global, server: &Server) -> Result<Option<Finalizer<DynamicObject>>, NoMemory>
-    ensures { IfOk result (λ o. IfSome o (λ f. f.is_over ≡ false)) }
+fn guarded(rt: &impl Abort, alloc: Global, server: &Server) -> Option<Finalizer<DynamicObject>>
+    ensures { IfSome result (λ f. f.is_over ≡ false) }
 {
-    let key = key(alloc)?;
-    match server.get(alloc, &key)? {
-        Some(object) => {
-            let object = object.clone()?;
-            Ok(Some(Finalizer::new(alloc, "f", object)?))
-        }
-        None => Ok(None),
+    match seen(rt, alloc, server) {
+        Some(object) => Some(guarding(rt, alloc, object)),
+        None => None,
     }
 }
 
 /// What a poll over the objects of a server comes to.
 fn polled_over(
+    rt: &impl Abort,
     alloc: Global,
     finalizer: &mut Finalizer<DynamicObject>,
     objects: &mut ServerObjects<'_>,
     branch: &str,
-) -> Result<String, NoMemory>
+) -> String
     requires unready { finalizer.old.is_over ≡ false }
 {
-    match finalizer.poll(alloc, objects, branch_of(branch), Moment(5)) {
-        Ok(answer) => Ok(answer_text(alloc, answer)?),
-        Err(error) => Err(error),
-    }
+    let answer = finalizer
+        .poll(alloc, objects, branch_of(branch), Moment(5))
+        .expect(rt, "memory");
+    answer_text(rt, alloc, answer)
+}
+
+/// The same of objects that end with it.
+fn polled_over_once(
+    rt: &impl Abort,
+    alloc: Global,
+    finalizer: &mut Finalizer<DynamicObject>,
+    objects: ServerObjects<'_>,
+    branch: &str,
+) -> String
+    requires unready { finalizer.old.is_over ≡ false }
+{
+    let mut objects = objects;
+    polled_over(rt, alloc, finalizer, &mut objects, branch)
 }
 
 /// What a poll over the server comes to.
 fn polled(
+    rt: &impl Abort,
     alloc: Global,
     finalizer: &mut Finalizer<DynamicObject>,
     server: &mut Server,
     branch: &str,
-) -> Result<String, NoMemory>
+) -> String
     requires unready { finalizer.old.is_over ≡ false }
 {
-    let mut objects = server.objects_in(alloc, None)?;
-    polled_over(alloc, finalizer, &mut objects, branch)
+    match server.objects_in(alloc, None) {
+        Ok(objects) => polled_over_once(rt, alloc, finalizer, objects, branch),
+        Err(_) => panic!(rt; "memory"),
+    }
 }
 
 /// The same of a finalizer that ends with it.
 fn polled_once(
+    rt: &impl Abort,
     alloc: Global,
     finalizer: Finalizer<DynamicObject>,
     server: &mut Server,
     branch: &str,
-) -> Result<String, NoMemory>
+) -> String
     requires unready { finalizer.is_over ≡ false }
 {
     let mut finalizer = finalizer;
-    polled(alloc, &mut finalizer, server, branch)
+    polled(rt, alloc, &mut finalizer, server, branch)
 }
 
 /// What the object is when it is seen, what another party makes of it then, the branch, and the answer of the poll with how
@@ -211,83 +243,92 @@ const ROWS: [Row; 11] = [
 
 /// What a row's poll answers, where another party changes the object after it was seen.
 fn answer_of(
+    rt: &impl Abort,
     alloc: Global,
     finalizer: Finalizer<DynamicObject>,
     server: &mut Server,
     row: &Row,
-) -> Result<String, Fail>
+) -> String
     requires unready { finalizer.is_over ≡ false }
 {
-    match put(alloc, server, row.1) {
-        Ok(()) => Ok(polled_once(alloc, finalizer, server, row.2)?),
-        Err(fault) => Err(fault),
-    }
+    put(rt, alloc, server, row.1);
+    polled_once(rt, alloc, finalizer, server, row.2)
 }
 
 /// What the object that was seen comes to.
-fn come_of_one(alloc: Global, server: &mut Server, row: &Row) -> Result<String, Fail> {
-    match guarded(alloc, server)? {
-        Some(finalizer) => answer_of(alloc, finalizer, server, row),
-        None => Ok(String::new(alloc)),
+fn come_of_one(rt: &impl Abort, alloc: Global, server: &mut Server, row: &Row) -> String {
+    match guarded(rt, alloc, server) {
+        Some(finalizer) => answer_of(rt, alloc, finalizer, server, row),
+        None => String::new(alloc),
     }
+}
+
+/// An answer, and how the object stands on the server.
+fn with_left(rt: &impl Abort, alloc: Global, answer: &str, server: &Server) -> String {
+    let left = server_text(rt, alloc, server);
+    format!(in alloc; "{answer}; {left}").expect(rt, "memory")
 }
 
 /// What a row comes to, with a server on which nothing is yet.
-fn come_of(alloc: Global, server: &mut Server, row: &Row) -> Result<String, Fail> {
-    put(alloc, server, row.0)?;
-    let answer = come_of_one(alloc, server, row)?;
-    let left = server_text(alloc, server)?;
-    Ok(format!(in alloc; "{answer}; {left}")?)
+fn come_of(rt: &impl Abort, alloc: Global, server: &mut Server, row: &Row) -> String {
+    put(rt, alloc, server, row.0);
+    let answer = come_of_one(rt, alloc, server, row);
+    with_left(rt, alloc, answer.as_str(), server)
 }
 
-fn outcome(alloc: Global, row: &Row) -> Result<String, Fail> {
-    let mut server = server(alloc)?;
-    come_of(alloc, &mut server, row)
+fn outcome(rt: &impl Abort, alloc: Global, row: &Row) -> String {
+    let mut server = server(rt, alloc);
+    come_of(rt, alloc, &mut server, row)
 }
 
 #[test]
-fn finalizers_over_a_server(rt: HostRuntime) -> Result<(), Fail> {
+fn finalizers_over_a_server(rt: HostRuntime) {
     for row in &ROWS {
-        is_text(&rt, outcome(rt.alloc(), row)?.as_str(), row.3)?;
+        let outcome = outcome(&rt, rt.alloc(), row);
+        is_text(&rt, outcome.as_str(), row.3);
     }
-    Ok(())
 }
 
 /// Deletes the object of the server, and waits at a watch that tells that `uid-1` goes.
 fn deleted_over(
+    rt: &impl Abort,
     alloc: Global,
     deletion: &mut DeleteAndFinalize<TestMode<DynamicObject>>,
     objects: &mut ServerObjects<'_>,
-) -> Result<String, NoMemory>
+) -> String
     requires unready { deletion.old.is_over ≡ false }
 {
-    match deletion.poll(objects, alloc, Moment(5), 9) {
-        Ok(answer) => deletion_text(alloc, answer),
-        Err(error) => Err(error),
-    }
+    let answer = deletion
+        .poll(objects, alloc, Moment(5), 9)
+        .expect(rt, "memory");
+    deletion_text(rt, alloc, answer)
+}
+
+/// The same of objects that end with it.
+fn deleted_over_once(
+    rt: &impl Abort,
+    alloc: Global,
+    deletion: &mut DeleteAndFinalize<TestMode<DynamicObject>>,
+    objects: ServerObjects<'_>,
+) -> String
+    requires unready { deletion.old.is_over ≡ false }
+{
+    let mut objects = objects;
+    deleted_over(rt, alloc, deletion, &mut objects)
 }
 
 fn deleted(
+    rt: &impl Abort,
     alloc: Global,
     deletion: &mut DeleteAndFinalize<TestMode<DynamicObject>>,
     server: &mut Server,
-) -> Result<String, NoMemory>
+) -> String
     requires unready { deletion.old.is_over ≡ false }
 {
-    let mut objects = server.objects_in(alloc, None)?;
-    deleted_over(alloc, deletion, &mut objects)
-}
-
-/// The same of a deletion that ends with it.
-fn deleted_once(
-    alloc: Global,
-    deletion: DeleteAndFinalize<TestMode<DynamicObject>>,
-    server: &mut Server,
-) -> Result<String, NoMemory>
-    requires unready { deletion.is_over ≡ false }
-{
-    let mut deletion = deletion;
-    deleted(alloc, &mut deletion, server)
+    match server.objects_in(alloc, None) {
+        Ok(objects) => deleted_over_once(rt, alloc, deletion, objects),
+        Err(_) => panic!(rt; "memory"),
+    }
 }
 
 /// The object on the server, and the answer of the poll with how the object stands then.
@@ -301,30 +342,27 @@ const DELETIONS: [(&str, &str); 4] = [
     ),
 ];
 
-fn deleted_on(alloc: Global, server: &mut Server) -> Result<String, Fail> {
-    match uid_one(alloc, "x") {
-        Ok(deletion) => Ok(deleted_once(alloc, deletion, server)?),
-        Err(fault) => Err(fault),
-    }
+fn deleted_on(rt: &impl Abort, alloc: Global, server: &mut Server) -> String {
+    let mut deletion = uid_one(rt, alloc, "x");
+    deleted(rt, alloc, &mut deletion, server)
 }
 
 /// What a deletion comes to, with a server on which nothing is yet.
-fn deletion_of(alloc: Global, server: &mut Server, metadata: &str) -> Result<String, Fail> {
-    put(alloc, server, metadata)?;
-    let answer = deleted_on(alloc, server)?;
-    let left = server_text(alloc, server)?;
-    Ok(format!(in alloc; "{answer}; {left}")?)
+fn deletion_of(rt: &impl Abort, alloc: Global, server: &mut Server, metadata: &str) -> String {
+    put(rt, alloc, server, metadata);
+    let answer = deleted_on(rt, alloc, server);
+    with_left(rt, alloc, answer.as_str(), server)
 }
 
-fn deletion(alloc: Global, metadata: &str) -> Result<String, Fail> {
-    let mut server = server(alloc)?;
-    deletion_of(alloc, &mut server, metadata)
+fn deletion(rt: &impl Abort, alloc: Global, metadata: &str) -> String {
+    let mut server = server(rt, alloc);
+    deletion_of(rt, alloc, &mut server, metadata)
 }
 
 #[test]
-fn deletions_over_a_server(rt: HostRuntime) -> Result<(), Fail> {
+fn deletions_over_a_server(rt: HostRuntime) {
     for (metadata, wanted) in &DELETIONS {
-        is_text(&rt, deletion(rt.alloc(), metadata)?.as_str(), wanted)?;
+        let text = deletion(&rt, rt.alloc(), metadata);
+        is_text(&rt, text.as_str(), wanted);
     }
-    Ok(())
 }

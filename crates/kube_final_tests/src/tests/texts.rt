@@ -1,18 +1,13 @@
 //! Texts of errors.
 
-use super::{Torn, is_text};
-use kube_api::ApiError;
+use super::{Torn, fault, is_text};
 use kube_final::finalizer::{Error, PatchFailed};
 use kube_final::{DeleteFailed, PatchRefusal, delete, wait};
-use kube_meta::{NoMemory, Text};
 use kube_watch::Error as WatcherError;
-use std::alloc::{AllocError, Global};
+use std::alloc::Global;
+use std::panic::Expect;
+use std::process::Abort;
 use std::rt::HostRuntime;
-use std::test::Fail;
-
-fn fault(alloc: Global) -> Result<ApiError, NoMemory> {
-    Ok(ApiError::Transport(Text::new(alloc, "torn")?))
-}
 
 fn refused() -> PatchFailed {
     PatchFailed::Refused(PatchRefusal::TestFailed(0))
@@ -30,66 +25,61 @@ fn finalizer_error(name: &str) -> Error<Torn> {
     }
 }
 
-fn finalizer_text(alloc: Global, name: &str) -> Result<String, AllocError> {
+fn finalizer_text(rt: &impl Abort, alloc: Global, name: &str) -> String {
     let error = finalizer_error(name);
-    format!(in alloc; "{error}")
+    format!(in alloc; "{error}").expect(rt, "memory")
 }
 
 /// Why a patch failed.
-fn patch_failed(alloc: Global, name: &str) -> Result<PatchFailed, NoMemory> {
-    Ok(match name {
+fn patch_failed(rt: &impl Abort, alloc: Global, name: &str) -> PatchFailed {
+    match name {
         "missing object" => PatchFailed::Refused(PatchRefusal::NotFound),
         "test" => PatchFailed::Refused(PatchRefusal::TestFailed(1)),
         "path" => PatchFailed::Refused(PatchRefusal::PathMissing(1)),
         "no object" => PatchFailed::Refused(PatchRefusal::NotAnObject),
-        _ => PatchFailed::Fault(fault(alloc)?),
-    })
-}
-
-fn patch_text(alloc: Global, name: &str) -> Result<String, NoMemory> {
-    match patch_failed(alloc, name) {
-        Ok(error) => Ok(format!(in alloc; "{error}")?),
-        Err(error) => Err(error),
+        _ => PatchFailed::Fault(fault(rt, alloc)),
     }
 }
 
-fn probe_failed(alloc: Global, name: &str) -> Result<wait::Error, NoMemory> {
-    Ok(match name {
+fn patch_text(rt: &impl Abort, alloc: Global, name: &str) -> String {
+    let error = patch_failed(rt, alloc, name);
+    format!(in alloc; "{error}").expect(rt, "memory")
+}
+
+fn probe_failed(rt: &impl Abort, alloc: Global, name: &str) -> wait::Error {
+    match name {
         "no version" => wait::Error::ProbeFailed(WatcherError::NoResourceVersion),
-        _ => wait::Error::ProbeFailed(WatcherError::InitialListFailed(fault(alloc)?)),
-    })
+        _ => wait::Error::ProbeFailed(WatcherError::InitialListFailed(fault(rt, alloc))),
+    }
 }
 
-fn probe_text(alloc: Global, name: &str) -> Result<String, NoMemory> {
-    match probe_failed(alloc, name) {
-        Ok(error) => Ok(format!(in alloc; "{error}")?),
-        Err(error) => Err(error),
-    }
+fn probe_text(rt: &impl Abort, alloc: Global, name: &str) -> String {
+    let error = probe_failed(rt, alloc, name);
+    format!(in alloc; "{error}").expect(rt, "memory")
 }
 
 /// Errors of a deletion.
-fn delete_error(alloc: Global, name: &str) -> Result<delete::Error, NoMemory> {
-    Ok(match name {
+fn delete_error(rt: &impl Abort, alloc: Global, name: &str) -> delete::Error {
+    match name {
         "absent" => delete::Error::Delete(DeleteFailed::NotFound),
-        "torn" => delete::Error::Delete(DeleteFailed::Fault(fault(alloc)?)),
+        "torn" => delete::Error::Delete(DeleteFailed::Fault(fault(rt, alloc))),
         "no uid" => delete::Error::NoUid,
-        _ => delete::Error::Await(probe_failed(alloc, name)?),
-    })
-}
-
-fn delete_text(alloc: Global, name: &str) -> Result<String, NoMemory> {
-    match delete_error(alloc, name) {
-        Ok(error) => Ok(format!(in alloc; "{error}")?),
-        Err(error) => Err(error),
+        _ => delete::Error::Await(probe_failed(rt, alloc, name)),
     }
 }
 
-fn text(alloc: Global, of: &str, name: &str) -> Result<String, NoMemory> {
+fn delete_text(rt: &impl Abort, alloc: Global, name: &str) -> String {
+    let error = delete_error(rt, alloc, name);
+    format!(in alloc; "{error}").expect(rt, "memory")
+}
+
+/// The text of an error.
+fn shown(rt: &impl Abort, alloc: Global, of: &str, name: &str) -> String {
     match of {
-        "finalizer" => Ok(finalizer_text(alloc, name)?),
-        "patch" => patch_text(alloc, name),
-        "wait" => probe_text(alloc, name),
-        _ => delete_text(alloc, name),
+        "finalizer" => finalizer_text(rt, alloc, name),
+        "patch" => patch_text(rt, alloc, name),
+        "wait" => probe_text(rt, alloc, name),
+        _ => delete_text(rt, alloc, name),
     }
 }
 
@@ -131,9 +121,9 @@ const TEXTS: [(&str, &str, &str); 17] = [
 ];
 
 #[test]
-fn texts_of_errors(rt: HostRuntime) -> Result<(), Fail> {
+fn texts_of_errors(rt: HostRuntime) {
     for (of, name, wanted) in &TEXTS {
-        is_text(&rt, text(rt.alloc(), of, name)?.as_str(), wanted)?;
+        let shown = shown(&rt, rt.alloc(), of, name);
+        is_text(&rt, shown.as_str(), wanted);
     }
-    Ok(())
 }

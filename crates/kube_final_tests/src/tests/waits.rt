@@ -1,9 +1,9 @@
 //! Waits over a scripted API.
 
-ghost use Rattle.std.specs.Prelude.{◌≡◌, false, Option, IfOk};
+ghost use Rattle.std.specs.Prelude.{◌≡◌, false, Option};
 ghost use Rattle.kube_meta.specs.declared.dynamic.DynamicObject.{DynamicObject as Object};
 
-use super::{is_text, with_metadata};
+use super::{add, fault, is_text, owned, text, with_metadata};
 use kube_api::{
     ApiError, DeleteAnswer, ObjectApi, Page, Patch, PatchAnswer, ResultPage, Sequence,
     SequenceStep, Status, TestMode, WatchEvent,
@@ -13,123 +13,165 @@ use kube_final::delete;
 use kube_final::delete::DeleteAndFinalize;
 use kube_final::wait::{AwaitCondition, Condition, Error};
 use kube_meta::{DynamicObject, Moment, Next, NoMemory, Polled, Text};
-use std::alloc::{AllocError, Global};
+use std::alloc::Global;
 use std::collections::VecDeque;
+use std::panic::Expect;
+use std::process::Abort;
 use std::rt::HostRuntime;
 use std::sync::Arc;
-use std::test::Fail;
 
 type Listed = Result<Page<DynamicObject>, ApiError>;
 
-/// A page of these objects, each by its uid, and version 1; a fault where it is `fault`.
-fn page(alloc: Global, uids: &[&str]) -> Result<Listed, Fail> {
-    let mut items = Vec::new(alloc);
-    for uid in uids {
-        if *uid == "fault" {
-            return Ok(Err(ApiError::Transport(Text::new(alloc, "torn")?)));
-        }
-        items.push(shared(alloc, uid)?)?;
-    }
-    let page = ResultPage::empty(alloc)
-        .resource_version(alloc, Some("1"))?
-        .items(items);
-    Ok(Ok(page.into_page()))
-}
-
-fn shared(alloc: Global, uid: &str) -> Result<Arc<DynamicObject>, Fail> {
+/// The object of a uid.
+fn shared(rt: &impl Abort, alloc: Global, uid: &str) -> Arc<DynamicObject> {
     let metadata = format!(in alloc;
         "{{\"name\":\"a\",\"uid\":\"{uid}\",\"resourceVersion\":\"2\"}}"
-    )?;
-    let object = with_metadata(alloc, metadata.as_str())?;
-    Ok(Arc::new(alloc, object)?)
+    ).expect(rt, "memory");
+    let object = with_metadata(rt, alloc, metadata.as_str());
+    Arc::new(alloc, object).expect(rt, "memory")
+}
+
+fn objects(rt: &impl Abort, alloc: Global, uids: &[&str]) -> Vec<Arc<DynamicObject>> {
+    let mut objects = Vec::new(alloc);
+    for uid in uids {
+        objects.push(shared(rt, alloc, uid)).expect(rt, "memory");
+    }
+    objects
+}
+
+/// A page of no objects, and version 1.
+fn empty_page(rt: &impl Abort, alloc: Global) -> ResultPage<DynamicObject> {
+    ResultPage::empty(alloc)
+        .resource_version(alloc, Some("1"))
+        .expect(rt, "memory")
+}
+
+/// A page of these objects, each by its uid, and version 1.
+fn page(rt: &impl Abort, alloc: Global, uids: &[&str]) -> Page<DynamicObject> {
+    let objects = objects(rt, alloc, uids);
+    empty_page(rt, alloc).items(objects).into_page()
+}
+
+/// The same; a fault where one is `fault`.
+fn listed(rt: &impl Abort, alloc: Global, uids: &[&str]) -> Listed {
+    if uids.contains(&"fault") {
+        return Err(fault(rt, alloc));
+    }
+    Ok(page(rt, alloc, uids))
+}
+
+/// Tells that the object of a uid is deleted.
+fn deletion(rt: &impl Abort, alloc: Global, uid: &str) -> SequenceStep<DynamicObject> {
+    let object = shared(rt, alloc, uid);
+    let mut events = VecDeque::new(alloc);
+    events
+        .push_back(Ok(WatchEvent::Deleted(object)))
+        .expect(rt, "memory");
+    SequenceStep::List(events)
 }
 
 /// A watch that tells that the object of a uid is deleted, and then waits.
-fn deletion(alloc: Global, uid: &str) -> Result<Sequence<DynamicObject>, Fail> {
-    let mut events = VecDeque::new(alloc);
-    events.push_back(Ok(WatchEvent::Deleted(shared(alloc, uid)?)))?;
-    let steps = vec![in alloc; SequenceStep::List(events), SequenceStep::Wait(1000)]?;
-    Ok(Sequence::new(steps))
+fn watched(rt: &impl Abort, alloc: Global, uid: &str) -> Sequence<DynamicObject> {
+    let mut steps = Vec::new(alloc);
+    steps.push(deletion(rt, alloc, uid)).expect(rt, "memory");
+    steps.push(SequenceStep::Wait(1000)).expect(rt, "memory");
+    Sequence::new(steps)
+}
+
+fn lists(rt: &impl Abort, alloc: Global, uids: &[&str]) -> Vec<Listed> {
+    let mut lists = Vec::new(alloc);
+    lists.push(listed(rt, alloc, uids)).expect(rt, "memory");
+    lists
+}
+
+fn watches(rt: &impl Abort, alloc: Global, uid: &str) -> Vec<Sequence<DynamicObject>> {
+    let mut watches = Vec::new(alloc);
+    watches.push(watched(rt, alloc, uid)).expect(rt, "memory");
+    watches
 }
 
 /// An API whose first list has these objects, and whose watch deletes the object `uid-1`.
-fn api(alloc: Global, uids: &[&str]) -> Result<TestMode<DynamicObject>, Fail> {
-    let lists = vec![in alloc; page(alloc, uids)?]?;
-    let watches = vec![in alloc; deletion(alloc, "uid-1")?]?;
-    Ok(TestMode::new(alloc, lists, watches))
+fn api(rt: &impl Abort, alloc: Global, uids: &[&str]) -> TestMode<DynamicObject> {
+    let lists = lists(rt, alloc, uids);
+    let watches = watches(rt, alloc, "uid-1");
+    TestMode::new(alloc, lists, watches)
+}
+
+fn shown(
+    rt: &impl Abort,
+    alloc: Global,
+    found: &Next<Result<Option<Arc<DynamicObject>>, Error>>,
+) -> String {
+    match found {
+        Next::Item(Ok(Some(_object))) => owned(rt, alloc, "object"),
+        Next::Item(Ok(None)) => owned(rt, alloc, "none"),
+        Next::Item(Err(error)) => format!(in alloc; "{error}").expect(rt, "memory"),
+        Next::NotReady => owned(rt, alloc, "not ready"),
+        Next::Spent => owned(rt, alloc, "spent"),
+        Next::End => owned(rt, alloc, "end"),
+    }
 }
 
 fn found_text(
+    rt: &impl Abort,
     alloc: Global,
     found: Next<Result<Option<Arc<DynamicObject>>, Error>>,
-) -> Result<String, NoMemory> {
-    Ok(match found {
-        Next::Item(Ok(Some(_object))) => String::from_str(alloc, "object")?,
-        Next::Item(Ok(None)) => String::from_str(alloc, "none")?,
-        Next::Item(Err(error)) => format!(in alloc; "{error}")?,
-        Next::NotReady => String::from_str(alloc, "not ready")?,
-        Next::Spent => String::from_str(alloc, "spent")?,
-        Next::End => String::from_str(alloc, "end")?,
-    })
+) -> String {
+    shown(rt, alloc, &found)
 }
 
 /// What one poll of a wait gives.
 fn polled<C: Condition<DynamicObject>>(
+    rt: &impl Abort,
     alloc: Global,
     wait: &mut AwaitCondition<TestMode<DynamicObject>, C>,
     fuel: u32,
-) -> Result<String, NoMemory>
+) -> String
     requires unready { wait.old.is_over ≡ false }
     requires may { (object : Option Object) → C.may wait.old.condition object }
 {
-    match wait.poll(alloc, Moment(0), fuel.max(1)) {
-        Ok(found) => found_text(alloc, found),
-        Err(error) => Err(error),
-    }
+    let found = wait
+        .poll(alloc, Moment(0), fuel.max(1))
+        .expect(rt, "memory");
+    found_text(rt, alloc, found)
 }
 
 /// What one poll of a wait gives, which ends with it.
 fn polled_once<C: Condition<DynamicObject>>(
+    rt: &impl Abort,
     alloc: Global,
     wait: AwaitCondition<TestMode<DynamicObject>, C>,
     fuel: u32,
-) -> Result<String, NoMemory>
+) -> String
     requires unready { wait.is_over ≡ false }
     requires may { (object : Option Object) → C.may wait.condition object }
 {
     let mut wait = wait;
-    polled(alloc, &mut wait, fuel)
+    polled(rt, alloc, &mut wait, fuel)
 }
 
 /// What a wait over an API gives.
 fn awaited<C: Condition<DynamicObject>>(
+    rt: &impl Abort,
     alloc: Global,
     api: TestMode<DynamicObject>,
     condition: C,
     fuel: u32,
-) -> Result<String, NoMemory>
+) -> String
     requires may { (object : Option Object) → C.may condition object }
 {
-    match AwaitCondition::new(alloc, api, "a", condition) {
-        Ok(wait) => polled_once(alloc, wait, fuel),
-        Err(error) => Err(error),
-    }
+    let wait = AwaitCondition::new(alloc, api, "a", condition).expect(rt, "memory");
+    polled_once(rt, alloc, wait, fuel)
 }
 
 /// What a wait for an object gives.
-fn created(alloc: Global, uids: &[&str], fuel: u32) -> Result<String, Fail> {
-    match api(alloc, uids) {
-        Ok(api) => Ok(awaited(alloc, api, is_created(), fuel)?),
-        Err(fault) => Err(fault),
-    }
+fn created(rt: &impl Abort, alloc: Global, uids: &[&str], fuel: u32) -> String {
+    awaited(rt, alloc, api(rt, alloc, uids), is_created(), fuel)
 }
 
 /// What a wait for the end of the object `uid-1` gives.
-fn gone(alloc: Global, uids: &[&str], fuel: u32) -> Result<String, Fail> {
-    match api(alloc, uids) {
-        Ok(api) => Ok(awaited(alloc, api, is_deleted("uid-1"), fuel)?),
-        Err(fault) => Err(fault),
-    }
+fn gone(rt: &impl Abort, alloc: Global, uids: &[&str], fuel: u32) -> String {
+    awaited(rt, alloc, api(rt, alloc, uids), is_deleted("uid-1"), fuel)
 }
 
 /// Objects of the first list, fuel, and what a wait for an object and one for its end come to.
@@ -148,37 +190,34 @@ const WAITS: [(&[&str], u32, &str, &str); 6] = [
 ];
 
 #[test]
-fn waits_for_an_object(rt: HostRuntime) -> Result<(), Fail> {
+fn waits_for_an_object(rt: HostRuntime) {
+    let alloc = rt.alloc();
     for row in &WAITS {
-        is_text(&rt, created(rt.alloc(), row.0, row.1)?.as_str(), row.2)?;
-        is_text(&rt, gone(rt.alloc(), row.0, row.1)?.as_str(), row.3)?;
+        let created = created(&rt, alloc, row.0, row.1);
+        is_text(&rt, created.as_str(), row.2);
+        let gone = gone(&rt, alloc, row.0, row.1);
+        is_text(&rt, gone.as_str(), row.3);
     }
-    Ok(())
 }
 
-/// Answers each deletion alike, and counts its calls.
+/// Answers each deletion alike, and counts its calls. It has what it stops by for want of memory.
 #[derive(Drop)]
-struct Deleter {
+struct Deleter<R> {
+    rt: R,
     answer: &'static str,
     calls: u8,
 }
 
-fn status(alloc: Global, uid: Option<&str>) -> Result<Status, NoMemory> {
-    let reason = Text::new(alloc, "")?;
-    let message = Text::new(alloc, "")?;
-    let uid = match uid {
-        Some(uid) => Some(Text::new(alloc, uid)?),
-        None => None,
-    };
-    Ok(Status {
+fn status(rt: &impl Abort, alloc: Global, uid: Option<Text>) -> Status {
+    Status {
         code: 200,
-        reason,
-        message,
+        reason: text(rt, alloc, ""),
+        message: text(rt, alloc, ""),
         uid,
-    })
+    }
 }
 
-impl ObjectApi for Deleter {
+impl<R: Abort + Copy> ObjectApi for Deleter<R> {
     ghost use Rattle.std.specs.Prelude.{None, ◌^◌, ◌-◌};
 
     type Value = DynamicObject;
@@ -205,125 +244,118 @@ impl ObjectApi for Deleter {
         _name: &str,
         _now: Moment,
     ) -> Result<Polled<DeleteAnswer<DynamicObject>>, NoMemory> {
+        let rt = self.rt;
         self.calls = self.calls.saturating_add(1);
         Ok(match self.answer {
             "later" => Polled::NotReady,
             "absent" => Polled::Ready(DeleteAnswer::NotFound),
-            "fault" => {
-                let text = Text::new(alloc, "torn")?;
-                Polled::Ready(DeleteAnswer::Fault(ApiError::Transport(text)))
+            "fault" => Polled::Ready(DeleteAnswer::Fault(fault(&rt, alloc))),
+            "no uid" => Polled::Ready(DeleteAnswer::Status(status(&rt, alloc, None))),
+            uid => {
+                let uid = Some(text(&rt, alloc, uid));
+                Polled::Ready(DeleteAnswer::Status(status(&rt, alloc, uid)))
             }
-            "no uid" => Polled::Ready(DeleteAnswer::Status(status(alloc, None)?)),
-            uid => Polled::Ready(DeleteAnswer::Status(status(alloc, Some(uid))?)),
         })
     }
 }
 
-fn ended_text(alloc: Global, ended: Result<(), delete::Error>) -> Result<String, AllocError> {
+fn ended_text(rt: &impl Abort, alloc: Global, ended: &Result<(), delete::Error>) -> String {
     match ended {
-        Ok(()) => String::from_str(alloc, "gone"),
-        Err(error) => format!(in alloc; "{error}"),
+        Ok(()) => owned(rt, alloc, "gone"),
+        Err(error) => format!(in alloc; "{error}").expect(rt, "memory"),
+    }
+}
+
+fn deletion_shown(
+    rt: &impl Abort,
+    alloc: Global,
+    answer: &Next<Result<(), delete::Error>>,
+) -> String {
+    match answer {
+        Next::Item(ended) => ended_text(rt, alloc, ended),
+        Next::NotReady => owned(rt, alloc, "not ready"),
+        Next::Spent => owned(rt, alloc, "spent"),
+        Next::End => owned(rt, alloc, "end"),
     }
 }
 
 /// The text of the answer of a poll.
 pub fn deletion_text(
+    rt: &impl Abort,
     alloc: Global,
     answer: Next<Result<(), delete::Error>>,
-) -> Result<String, NoMemory> {
-    Ok(match answer {
-        Next::Item(ended) => ended_text(alloc, ended)?,
-        Next::NotReady => String::from_str(alloc, "not ready")?,
-        Next::Spent => String::from_str(alloc, "spent")?,
-        Next::End => String::from_str(alloc, "end")?,
-    })
+) -> String {
+    deletion_shown(rt, alloc, &answer)
 }
 
 /// A deletion of the object of a name, whose watch tells that `uid-1` goes.
 pub fn uid_one(
+    rt: &impl Abort,
     alloc: Global,
     name: &str,
-) -> Result<DeleteAndFinalize<TestMode<DynamicObject>>, Fail>
-    ensures { IfOk result (λ d. d.is_over ≡ false) }
+) -> DeleteAndFinalize<TestMode<DynamicObject>>
+    ensures { result.is_over ≡ false }
 {
-    match api(alloc, &["uid-1"]) {
-        Ok(api) => opened(alloc, api, name),
-        Err(fault) => Err(fault),
-    }
+    let api = api(rt, alloc, &["uid-1"]);
+    DeleteAndFinalize::new(alloc, api, name).expect(rt, "memory")
 }
 
-fn opened(
-    alloc: Global,
-    api: TestMode<DynamicObject>,
-    name: &str,
-) -> Result<DeleteAndFinalize<TestMode<DynamicObject>>, Fail>
-    ensures { IfOk result (λ d. d.is_over ≡ false) }
-{
-    match DeleteAndFinalize::new(alloc, api, name) {
-        Ok(deletion) => Ok(deletion),
-        Err(error) => Err(Fail::from(error)),
-    }
+/// Adds how a deletion ended.
+fn add_ended(rt: &impl Abort, alloc: Global, text: &mut String, ended: Result<(), delete::Error>) {
+    let ended = ended_text(rt, alloc, &ended);
+    add(rt, text, ended.as_str());
 }
 
 /// Polls with so much fuel each, until one gives an answer.
-fn polls(
+fn polls<R: Abort + Copy>(
+    rt: &R,
     alloc: Global,
     deletion: &mut DeleteAndFinalize<TestMode<DynamicObject>>,
-    objects: &mut Deleter,
+    objects: &mut Deleter<R>,
     fuels: &[u32],
-) -> Result<String, NoMemory>
+    text: &mut String,
+)
     requires unready { deletion.old.is_over ≡ false }
 {
-    let mut text = String::new(alloc);
     for fuel in fuels {
-        match deletion.poll(objects, alloc, Moment(0), (*fuel).max(1)) {
-            Ok(Next::NotReady) => text.push_str("not ready, ")?,
-            Ok(Next::Spent) => text.push_str("spent, ")?,
-            Ok(Next::End) => text.push_str("end, ")?,
-            Ok(Next::Item(ended)) => {
-                text.push_str(ended_text(alloc, ended)?.as_str())?;
-                return Ok(text);
+        let answer = deletion
+            .poll(objects, alloc, Moment(0), (*fuel).max(1))
+            .expect(rt, "memory");
+        match answer {
+            Next::NotReady => add(rt, text, "not ready, "),
+            Next::Spent => add(rt, text, "spent, "),
+            Next::End => add(rt, text, "end, "),
+            Next::Item(ended) => {
+                add_ended(rt, alloc, text, ended);
+                return;
             }
-            Err(error) => return Err(error),
         }
     }
-    Ok(text)
 }
 
 /// What a deletion comes to, and how often it was asked.
-fn come_of(
+fn come_of<R: Abort + Copy>(
+    rt: &R,
     alloc: Global,
     deletion: &mut DeleteAndFinalize<TestMode<DynamicObject>>,
     row: &Row,
-) -> Result<String, NoMemory>
+) -> String
     requires unready { deletion.old.is_over ≡ false }
 {
     let mut objects = Deleter {
+        rt: *rt,
         answer: row.0,
         calls: 0,
     };
-    let text = polls(alloc, deletion, &mut objects, row.1)?;
+    let mut text = String::new(alloc);
+    polls(rt, alloc, deletion, &mut objects, row.1, &mut text);
     let calls = objects.calls;
-    Ok(format!(in alloc; "{text}; {calls}")?)
+    format!(in alloc; "{text}; {calls}").expect(rt, "memory")
 }
 
-/// The same of one that ends with it.
-fn come_of_one(
-    alloc: Global,
-    deletion: DeleteAndFinalize<TestMode<DynamicObject>>,
-    row: &Row,
-) -> Result<String, NoMemory>
-    requires unready { deletion.is_over ≡ false }
-{
-    let mut deletion = deletion;
-    come_of(alloc, &mut deletion, row)
-}
-
-fn deleted(alloc: Global, row: &Row) -> Result<String, Fail> {
-    match uid_one(alloc, "a") {
-        Ok(deletion) => Ok(come_of_one(alloc, deletion, row)?),
-        Err(fault) => Err(fault),
-    }
+fn deleted<R: Abort + Copy>(rt: &R, alloc: Global, row: &Row) -> String {
+    let mut deletion = uid_one(rt, alloc, "a");
+    come_of(rt, alloc, &mut deletion, row)
 }
 
 /// The reply to the deletion, the fuel of each poll, and what comes of it.
@@ -341,9 +373,9 @@ const DELETIONS: [Row; 8] = [
 ];
 
 #[test]
-fn deletes_and_waits(rt: HostRuntime) -> Result<(), Fail> {
+fn deletes_and_waits(rt: HostRuntime) {
     for row in &DELETIONS {
-        is_text(&rt, deleted(rt.alloc(), row)?.as_str(), row.2)?;
+        let deleted = deleted(&rt, rt.alloc(), row);
+        is_text(&rt, deleted.as_str(), row.2);
     }
-    Ok(())
 }

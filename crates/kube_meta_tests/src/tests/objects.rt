@@ -5,8 +5,8 @@ use kube_meta::{
 };
 use serde_json::Value;
 use std::alloc::Global;
+use std::panic::Expect;
 use std::process::Abort;
-use std::test::Fail;
 
 /// Objects, and what is written of each.
 const WRITTEN: [(&str, &str); 31] = [
@@ -226,92 +226,93 @@ const REFUSED: [(&str, &str); 52] = [
 ];
 
 /// What is written of the object that a text is, or its first fault.
-fn answer(alloc: Global, text: &str) -> Result<String, Fail> {
-    match read_object(alloc, Value::from_str(alloc, text)?) {
-        Ok(object) => written(alloc, &object),
-        Err(ObjectFault::Shape(place)) => Ok(format!(in alloc; "shape {place}")?),
-        Err(ObjectFault::Fraction(place)) => Ok(format!(in alloc; "fraction {place}")?),
-        Err(ObjectFault::NoMemory) => Ok(String::from_str(alloc, "no memory")?),
+fn answer(rt: &impl Abort, alloc: Global, text: &str) -> String {
+    let value = Value::from_str(alloc, text).expect(rt, "JSON");
+    match read_object(alloc, value) {
+        Ok(object) => written(rt, alloc, &object),
+        Err(fault) => told(rt, alloc, &fault),
     }
 }
 
-fn written(alloc: Global, object: &DynamicObject) -> Result<String, Fail> {
-    Ok(write_object(alloc, object)?.to_string(alloc)?)
+/// What is told of a fault.
+fn told(rt: &impl Abort, alloc: Global, fault: &ObjectFault) -> String {
+    match fault {
+        ObjectFault::Shape(place) => format!(in alloc; "shape {place}").expect(rt, "memory"),
+        ObjectFault::Fraction(place) => format!(in alloc; "fraction {place}").expect(rt, "memory"),
+        ObjectFault::NoMemory => String::from_str(alloc, "no memory").expect(rt, "memory"),
+    }
+}
+
+fn written(rt: &impl Abort, alloc: Global, object: &DynamicObject) -> String {
+    let value = write_object(alloc, object).expect(rt, "memory");
+    value.to_string(alloc).expect(rt, "memory")
 }
 
 /// A text is answered so.
-fn answers<R: Abort + AllocGlobal>(rt: &R, text: &str, wanted: &str) -> Result<(), Fail> {
-    assert_eq!(rt; answer(rt.alloc(), text)?.as_str(), wanted);
-    Ok(())
-}
-
-/// A text is an object of which this is written, and so is what is written.
-fn writes<R: Abort + AllocGlobal>(rt: &R, text: &str, wanted: &str) -> Result<(), Fail> {
-    answers(rt, text, wanted)?;
-    answers(rt, wanted, wanted)
+fn answers(rt: &impl Abort, alloc: Global, text: &str, wanted: &str) {
+    let answer = answer(rt, alloc, text);
+    assert_eq!(rt; answer.as_str(), wanted);
 }
 
 #[test]
-fn objects_are_written_in_one_form(rt: HostRuntime) -> Result<(), Fail> {
+fn objects_are_written_in_one_form(rt: HostRuntime) {
     for (text, wanted) in WRITTEN {
-        writes(&rt, text, wanted)?;
+        answers(&rt, rt.alloc(), text, wanted);
+        answers(&rt, rt.alloc(), wanted, wanted);
     }
-    Ok(())
 }
 
 #[test]
-fn the_first_fault_is_told_by_its_place(rt: HostRuntime) -> Result<(), Fail> {
+fn the_first_fault_is_told_by_its_place(rt: HostRuntime) {
     for (text, wanted) in REFUSED {
-        answers(&rt, text, wanted)?;
+        answers(&rt, rt.alloc(), text, wanted);
     }
-    Ok(())
 }
 
-/// What is written of an object of this content, with no metadata.
-fn of_content(alloc: Global, content: &str) -> Result<String, Fail> {
+/// What is written of an object of this content, with no metadata, is so.
+fn leaves_out(rt: &impl Abort, alloc: Global, content: &str, wanted: &str) {
     let object = DynamicObject {
         types: None,
         metadata: ObjectMeta::empty(),
-        content: Value::from_str(alloc, content)?,
+        content: Value::from_str(alloc, content).expect(rt, "JSON"),
     };
-    written(alloc, &object)
+    let written = written(rt, alloc, &object);
+    assert_eq!(rt; written.as_str(), wanted);
 }
 
 /// Metadata with an empty name, the generation 0, and empty lists and maps.
-fn empty_metadata(alloc: Global) -> Result<ObjectMeta, Fail> {
-    Ok(ObjectMeta {
-        name: Some(Text::new(alloc, "")?),
+fn empty_metadata(rt: &impl Abort, alloc: Global) -> ObjectMeta {
+    ObjectMeta {
+        name: Some(Text::new(alloc, "").expect(rt, "memory")),
         generation: Some(0),
         labels: Some(TextMap::new(alloc)),
         annotations: Some(TextMap::new(alloc)),
         finalizers: Some(List::new(alloc)),
         owner_references: Some(List::new(alloc)),
         ..ObjectMeta::empty()
-    })
+    }
 }
 
 /// What is written of an object of that metadata alone.
-fn of_empty_metadata(alloc: Global) -> Result<String, Fail> {
-    written(alloc, &DynamicObject::bare(empty_metadata(alloc)?))
+fn of_empty_metadata(rt: &impl Abort, alloc: Global) -> String {
+    let object = DynamicObject::bare(empty_metadata(rt, alloc));
+    written(rt, alloc, &object)
 }
 
-/// What is written of content that names types and metadata, of a content that is a list, and of empty metadata.
-fn is_left_out(alloc: Global) -> Result<bool, Fail> {
-    let named = of_content(alloc, r#"{"apiVersion":1,"kind":2,"metadata":3,"spec":4}"#)?;
-    Ok(named.as_str() == r#"{"metadata":{},"spec":4}"# && list_is_left_out(alloc)?)
-}
-
-fn list_is_left_out(alloc: Global) -> Result<bool, Fail> {
-    Ok(of_content(alloc, "[1]")?.as_str() == r#"{"metadata":{}}"#)
-}
-
+/// Content that names types and metadata, content that is a list, and empty metadata.
 #[test]
-fn what_is_no_content_and_what_is_empty_is_left_out(rt: HostRuntime) -> Result<(), Fail> {
-    assert!(rt; is_left_out(rt.alloc())?);
-    let empty = of_empty_metadata(rt.alloc())?;
+fn what_is_no_content_and_what_is_empty_is_left_out(rt: HostRuntime) {
+    let alloc = rt.alloc();
+    leaves_out(
+        &rt,
+        alloc,
+        r#"{"apiVersion":1,"kind":2,"metadata":3,"spec":4}"#,
+        r#"{"metadata":{},"spec":4}"#,
+    );
+    leaves_out(&rt, alloc, "[1]", r#"{"metadata":{}}"#);
+    let empty = of_empty_metadata(&rt, alloc);
     assert_eq!(rt;
         empty.as_str(),
         r#"{"metadata":{"generation":0,"name":""}}"#
     );
-    Ok(())
 }

@@ -2,7 +2,7 @@
 
 ghost use Rattle.std.specs.Prelude.{[], codes, refl};
 
-use super::{is, named, resource, text};
+use super::{is, maybe_text, named, resource, text};
 use kube_meta::{
     ApiResource, DynamicObject, Extra, Lookup, ObjectMeta, ObjectRef, ObjectReference,
     OwnerReference, PartialObjectMeta, Resource, Text, TypeInfo,
@@ -11,9 +11,9 @@ use std::alloc::Global;
 use std::cmp::Ordering;
 use std::hash::{DefaultHasher, Hash, Hasher};
 use std::marker::PhantomData;
+use std::panic::Expect;
 use std::process::Abort;
 use std::sync::Arc;
-use std::test::Fail;
 
 /// A node, whose type is known.
 #[derive(Drop)]
@@ -65,18 +65,10 @@ fn hash_of<K: Resource>(reference: &ObjectRef<K>) -> u64 {
     state.finish()
 }
 
-fn shown<K: Resource>(alloc: Global, reference: &ObjectRef<K>) -> Result<String, Fail> {
-    Ok(format!(in alloc; "{reference}")?)
-}
-
 /// A reference is shown so.
-fn shows<R: Abort + AllocGlobal, K: Resource>(
-    rt: &R,
-    reference: &ObjectRef<K>,
-    wanted: &str,
-) -> Result<(), Fail> {
-    assert_eq!(rt; shown(rt.alloc(), reference)?.as_str(), wanted);
-    Ok(())
+fn shows<K: Resource>(rt: &impl Abort, alloc: Global, reference: &ObjectRef<K>, wanted: &str) {
+    let shown = format!(in alloc; "{reference}").expect(rt, "memory");
+    assert_eq!(rt; shown.as_str(), wanted);
 }
 
 /// Kinds, groups, names and namespaces, and how the references and the `apiVersion` of their types are shown.
@@ -110,66 +102,85 @@ const SHOWN: [(&str, &str, &str, Option<&str>, &str, &str); 5] = [
 ];
 
 /// A reference is shown so, hashes to this, and is of a type of this `apiVersion`.
-fn is_erased<R: Abort + AllocGlobal>(
-    rt: &R,
+fn is_erased(
+    rt: &impl Abort,
+    alloc: Global,
     reference: &ObjectRef<DynamicObject>,
     hash: u64,
     wanted: &str,
     api_version: &str,
-) -> Result<(), Fail> {
+) {
     assert_eq!(rt; hash_of(reference), hash);
     assert_eq!(rt; reference.dyntype.api_version.as_str(), api_version);
-    shows(rt, reference, wanted)
+    shows(rt, alloc, reference, wanted);
+}
+
+fn erased<K: Resource>(
+    rt: &impl Abort,
+    alloc: Global,
+    reference: ObjectRef<K>,
+) -> ObjectRef<DynamicObject> {
+    reference.erase(alloc).expect(rt, "memory")
 }
 
 /// A reference is shown so, and looks and hashes the same when it is erased.
-fn erases<R: Abort + AllocGlobal, K: Resource>(
-    rt: &R,
+fn erases<K: Resource>(
+    rt: &impl Abort,
+    alloc: Global,
     reference: ObjectRef<K>,
     wanted: &str,
     api_version: &str,
-) -> Result<(), Fail> {
-    shows(rt, &reference, wanted)?;
+) {
+    shows(rt, alloc, &reference, wanted);
     let hash = hash_of(&reference);
-    is_erased(rt, &reference.erase(rt.alloc())?, hash, wanted, api_version)
+    let erased = erased(rt, alloc, reference);
+    is_erased(rt, alloc, &erased, hash, wanted, api_version);
 }
 
 /// The reference of an object.
 fn of_object(
+    rt: &impl Abort,
     alloc: Global,
     kind: &str,
     group: &str,
     name: &str,
     namespace: Option<&str>,
-) -> Result<ObjectRef<DynamicObject>, Fail> {
-    let object = named(alloc, name, namespace)?;
-    Ok(object.to_object_ref(alloc, resource(alloc, kind, group, "things")?)?)
+) -> ObjectRef<DynamicObject> {
+    let object = named(rt, alloc, name, namespace);
+    let resource = resource(rt, alloc, kind, group, "things");
+    object.to_object_ref(alloc, resource).expect(rt, "a name")
 }
 
 #[test]
-fn references_are_shown_and_look_the_same_erased(rt: HostRuntime) -> Result<(), Fail> {
+fn references_are_shown_and_look_the_same_erased(rt: HostRuntime) {
     let alloc = rt.alloc();
     for (kind, group, name, namespace, wanted, api_version) in SHOWN {
-        let reference = of_object(alloc, kind, group, name, namespace)?;
-        erases(&rt, reference, wanted, api_version)?;
+        let reference = of_object(&rt, alloc, kind, group, name, namespace);
+        erases(&rt, alloc, reference, wanted, api_version);
     }
-    erases(
-        &rt,
-        ObjectRef::<Node>::new(alloc, "my-node")?,
-        "Node.v1./my-node",
-        "v1",
-    )
+    let node = ObjectRef::<Node>::new(alloc, "my-node").expect(&rt, "memory");
+    erases(&rt, alloc, node, "Node.v1./my-node", "v1");
 }
 
-/// The reference of a pod.
-fn of_pod(alloc: Global, pod: &Arc<ApiResource>) -> Result<ObjectRef<DynamicObject>, Fail> {
-    let object = named(alloc, "a", None)?;
-    Ok(ObjectRef::from_obj_with(alloc, &object, pod.share(alloc)?)?)
+fn pods(rt: &impl Abort, alloc: Global) -> Arc<ApiResource> {
+    resource(rt, alloc, "Pod", "", "things")
+}
+
+fn shared(rt: &impl Abort, alloc: Global, resource: &Arc<ApiResource>) -> Arc<ApiResource> {
+    resource.share(alloc).expect(rt, "memory")
+}
+
+/// The reference of a pod that is there.
+fn of_pod(rt: &impl Abort, alloc: Global, pods: &Arc<ApiResource>) -> ObjectRef<DynamicObject> {
+    let object = named(rt, alloc, "a", None);
+    let pods = shared(rt, alloc, pods);
+    ObjectRef::from_obj_with(alloc, &object, pods).expect(rt, "a name")
 }
 
 /// The same by its name.
-fn by_name(alloc: Global, pod: &Arc<ApiResource>) -> Result<ObjectRef<DynamicObject>, Fail> {
-    Ok(ObjectRef::new_with(alloc, "a", pod.share(alloc)?)?)
+fn by_name(rt: &impl Abort, alloc: Global, pods: &Arc<ApiResource>) -> ObjectRef<DynamicObject> {
+    let pods = shared(rt, alloc, pods);
+    ObjectRef::new_with(alloc, "a", pods).expect(rt, "memory")
 }
 
 /// Two references are equal and hash the same, and the first alone has a uid.
@@ -184,68 +195,63 @@ fn are_alike<R: Abort>(
     assert!(rt; by_name.extra.uid.is_none());
 }
 
-/// The references of a pod that is there and of one by its name.
-type TwoPods = (ObjectRef<DynamicObject>, ObjectRef<DynamicObject>);
-
-fn pods(alloc: Global) -> Result<TwoPods, Fail> {
-    let pod = resource(alloc, "Pod", "", "things")?;
-    let of_object = of_pod(alloc, &pod)?;
-    Ok((of_object, by_name(alloc, &pod)?))
+#[test]
+fn extra_is_kept_and_not_compared(rt: HostRuntime) {
+    let alloc = rt.alloc();
+    let pods = pods(&rt, alloc);
+    let of_object = of_pod(&rt, alloc, &pods);
+    let by_name = by_name(&rt, alloc, &pods);
+    are_alike(&rt, &of_object, &by_name);
 }
 
-/// The same, of which the first is a copy.
-fn copied_pods(alloc: Global) -> Result<TwoPods, Fail> {
-    let (of_object, by_name) = pods(alloc)?;
-    Ok((of_object.copy(alloc)?, by_name))
-}
-
-/// The same, erased.
-fn erased_pods(alloc: Global) -> Result<TwoPods, Fail> {
-    let (of_object, by_name) = pods(alloc)?;
-    let of_object = of_object.erase(alloc)?;
-    Ok((of_object, by_name.erase(alloc)?))
+/// A copy of the reference of a pod that is there.
+fn copied_pod(rt: &impl Abort, alloc: Global, pods: &Arc<ApiResource>) -> ObjectRef<DynamicObject> {
+    let of_object = of_pod(rt, alloc, pods);
+    of_object.copy(alloc).expect(rt, "memory")
 }
 
 #[test]
-fn extra_is_kept_and_not_compared(rt: HostRuntime) -> Result<(), Fail> {
-    let (of_object, by_name) = pods(rt.alloc())?;
-    are_alike(&rt, &of_object, &by_name);
-    Ok(())
+fn copies_keep_extra(rt: HostRuntime) {
+    let alloc = rt.alloc();
+    let pods = pods(&rt, alloc);
+    let copy = copied_pod(&rt, alloc, &pods);
+    let by_name = by_name(&rt, alloc, &pods);
+    are_alike(&rt, &copy, &by_name);
 }
 
 #[test]
-fn copies_keep_extra(rt: HostRuntime) -> Result<(), Fail> {
-    let (of_object, by_name) = copied_pods(rt.alloc())?;
+fn erased_references_keep_extra(rt: HostRuntime) {
+    let alloc = rt.alloc();
+    let pods = pods(&rt, alloc);
+    let of_object = erased(&rt, alloc, of_pod(&rt, alloc, &pods));
+    let by_name = erased(&rt, alloc, by_name(&rt, alloc, &pods));
     are_alike(&rt, &of_object, &by_name);
-    Ok(())
-}
-
-#[test]
-fn erased_references_keep_extra(rt: HostRuntime) -> Result<(), Fail> {
-    let (of_object, by_name) = erased_pods(rt.alloc())?;
-    are_alike(&rt, &of_object, &by_name);
-    Ok(())
 }
 
 /// Whether the reference of a pod is that of an object of this type, name and namespace.
-fn is_pod(alloc: Global, kind: &str, namespace: Option<&str>) -> Result<bool, Fail> {
-    let pod = of_object(alloc, "Pod", "", "a", None)?;
-    Ok(pod == of_object(alloc, kind, "", "a", namespace)?)
+fn is_pod(rt: &impl Abort, alloc: Global, kind: &str, namespace: Option<&str>) -> bool {
+    let pod = of_object(rt, alloc, "Pod", "", "a", None);
+    let other = of_object(rt, alloc, kind, "", "a", namespace);
+    pod == other
 }
 
 /// Whether it is that of a pod by name in the namespace `ns`.
-fn is_within(alloc: Global) -> Result<bool, Fail> {
-    let (of_object, by_name) = pods(alloc)?;
-    Ok(of_object == by_name.within(alloc, "ns")?)
+fn is_within(rt: &impl Abort, alloc: Global) -> bool {
+    let pods = pods(rt, alloc);
+    let of_object = of_pod(rt, alloc, &pods);
+    let within = by_name(rt, alloc, &pods)
+        .within(alloc, "ns")
+        .expect(rt, "memory");
+    of_object == within
 }
 
 #[test]
-fn namespaces_and_types_are_compared(rt: HostRuntime) -> Result<(), Fail> {
-    assert!(rt; is_pod(rt.alloc(), "Pod", None)?);
-    assert!(rt; !is_pod(rt.alloc(), "Node", None)?);
-    assert!(rt; !is_pod(rt.alloc(), "Pod", Some("ns"))?);
-    assert!(rt; !is_within(rt.alloc())?);
-    Ok(())
+fn namespaces_and_types_are_compared(rt: HostRuntime) {
+    let alloc = rt.alloc();
+    assert!(rt; is_pod(&rt, alloc, "Pod", None));
+    assert!(rt; !is_pod(&rt, alloc, "Node", None));
+    assert!(rt; !is_pod(&rt, alloc, "Pod", Some("ns")));
+    assert!(rt; !is_within(&rt, alloc));
 }
 
 /// Namespaces and names in their order.
@@ -259,150 +265,144 @@ const IN_ORDER: [(Option<&str>, &str); 7] = [
     (Some("é"), "a"),
 ];
 
-/// The reference of a pod.
-fn pod_of(
-    alloc: Global,
-    name: &str,
-    namespace: Option<&str>,
-) -> Result<ObjectRef<DynamicObject>, Fail> {
-    of_object(alloc, "Pod", "", name, namespace)
-}
-
-/// How two of them are to each other.
+/// How the references of two pods are to each other.
 fn order(
+    rt: &impl Abort,
     alloc: Global,
     a: (Option<&str>, &str),
     b: (Option<&str>, &str),
-) -> Result<Ordering, Fail> {
+) -> Ordering {
     let (a_namespace, a_name) = a;
     let (b_namespace, b_name) = b;
-    let a = pod_of(alloc, a_name, a_namespace)?;
-    let b = pod_of(alloc, b_name, b_namespace)?;
-    Ok(a.cmp_by_name(&b))
+    let a = of_object(rt, alloc, "Pod", "", a_name, a_namespace);
+    let b = of_object(rt, alloc, "Pod", "", b_name, b_namespace);
+    a.cmp_by_name(&b)
 }
 
 #[test]
-fn none_comes_first_and_then_bytes_decide(rt: HostRuntime) -> Result<(), Fail> {
+fn none_comes_first_and_then_bytes_decide(rt: HostRuntime) {
     for i in 0..IN_ORDER.len() {
         for j in 0..IN_ORDER.len() {
-            let found = order(rt.alloc(), IN_ORDER[i], IN_ORDER[j])?;
+            let found = order(&rt, rt.alloc(), IN_ORDER[i], IN_ORDER[j]);
             assert_eq!(rt; found, i.cmp(&j), "{i} {j}");
         }
     }
-    Ok(())
 }
 
-fn deployments(alloc: Global) -> Result<Arc<ApiResource>, Fail> {
-    resource(alloc, "Deployment", "apps", "deployments")
+fn deployments(rt: &impl Abort, alloc: Global) -> Arc<ApiResource> {
+    resource(rt, alloc, "Deployment", "apps", "deployments")
 }
 
-fn owner(alloc: Global, api_version: &str, kind: &str) -> Result<OwnerReference, Fail> {
-    Ok(OwnerReference {
-        api_version: text(alloc, api_version)?,
-        kind: text(alloc, kind)?,
-        name: text(alloc, "n")?,
-        uid: text(alloc, "u")?,
-    })
+fn owner(rt: &impl Abort, alloc: Global, api_version: &str, kind: &str) -> OwnerReference {
+    OwnerReference {
+        api_version: text(rt, alloc, api_version),
+        kind: text(rt, alloc, kind),
+        name: text(rt, alloc, "n"),
+        uid: text(rt, alloc, "u"),
+    }
 }
 
 /// The reference to an owner is shown so and has its uid alone.
-fn is_owner<R: Abort + AllocGlobal, K: Resource>(
-    rt: &R,
+fn is_owner<K: Resource>(
+    rt: &impl Abort,
+    alloc: Global,
     reference: &Option<ObjectRef<K>>,
     wanted: &str,
-) -> Result<(), Fail> {
+) {
     match reference {
         Some(reference) => {
             assert!(rt; is(&reference.extra.uid, "u"));
             assert!(rt; reference.extra.resource_version.is_none());
-            shows(rt, reference, wanted)
+            shows(rt, alloc, reference, wanted);
         }
-        None => {
-            assert_eq!(rt; "", wanted);
-            Ok(())
-        }
+        None => assert_eq!(rt; "", wanted),
     }
 }
 
 /// The reference of an object in this namespace to an owner of this type is shown so, or there is none.
-fn owns<R: Abort + AllocGlobal, K: Resource>(
+fn owns<R: Abort, K: Resource>(
     rt: &R,
+    alloc: Global,
     t: K::DynamicType,
     namespace: Option<&str>,
     api_version: &str,
     kind: &str,
     wanted: &str,
-) -> Result<(), Fail> {
-    let owner = owner(rt.alloc(), api_version, kind)?;
-    let found = ObjectRef::<K>::from_owner_ref(rt.alloc(), namespace, &owner, t)?;
-    is_owner(rt, &found, wanted)
+) {
+    let owner = owner(rt, alloc, api_version, kind);
+    let found = ObjectRef::<K>::from_owner_ref(alloc, namespace, &owner, t).expect(rt, "memory");
+    is_owner(rt, alloc, &found, wanted);
 }
 
 #[test]
-fn owners_of_the_type_alone(rt: HostRuntime) -> Result<(), Fail> {
-    owns::<HostRuntime, Node>(&rt, (), Some("ns"), "v1", "Node", "Node.v1./n.ns")?;
-    owns::<HostRuntime, Node>(&rt, (), None, "v1", "Pod", "")?;
-    owns::<HostRuntime, Node>(&rt, (), None, "v2", "Node", "")?;
-    let deployment = deployments(rt.alloc())?;
+fn owners_of_the_type_alone(rt: HostRuntime) {
+    let alloc = rt.alloc();
+    owns::<HostRuntime, Node>(&rt, alloc, (), Some("ns"), "v1", "Node", "Node.v1./n.ns");
+    owns::<HostRuntime, Node>(&rt, alloc, (), None, "v1", "Pod", "");
+    owns::<HostRuntime, Node>(&rt, alloc, (), None, "v2", "Node", "");
+    let deployment = deployments(&rt, alloc);
     owns::<HostRuntime, DynamicObject>(
         &rt,
+        alloc,
         deployment,
         None,
         "apps/v1",
         "Deployment",
         "Deployment.v1.apps/n",
-    )
+    );
 }
 
-/// Metadata of this version, with the name `n` or none.
-fn metadata(alloc: Global, is_named: bool) -> Result<ObjectMeta, Fail> {
-    let name = if is_named {
-        Some(text(alloc, "n")?)
-    } else {
-        None
-    };
-    Ok(ObjectMeta {
-        name,
-        resource_version: Some(text(alloc, "7")?),
+/// Metadata of the version 7, with the name `n` or none.
+fn metadata(rt: &impl Abort, alloc: Global, is_named: bool) -> ObjectMeta {
+    let name = if is_named { Some("n") } else { None };
+    ObjectMeta {
+        name: maybe_text(rt, alloc, name),
+        resource_version: Some(text(rt, alloc, "7")),
         ..ObjectMeta::empty()
-    })
+    }
 }
 
 /// A node with the name `n` or none.
-fn a_node(alloc: Global, is_named: bool) -> Result<Node, Fail> {
-    Ok(Node {
-        metadata: metadata(alloc, is_named)?,
-    })
+fn a_node(rt: &impl Abort, alloc: Global, is_named: bool) -> Node {
+    Node {
+        metadata: metadata(rt, alloc, is_named),
+    }
 }
 
 /// A node that was given the name `n`.
-fn renamed_node(alloc: Global) -> Result<Node, Fail> {
-    let mut node = a_node(alloc, false)?;
-    node.meta_mut().name = Some(text(alloc, "n")?);
-    Ok(node)
+fn renamed_node(rt: &impl Abort, alloc: Global) -> Node {
+    let mut node = a_node(rt, alloc, false);
+    node.meta_mut().name = Some(text(rt, alloc, "n"));
+    node
 }
 
 fn has_reference(alloc: Global, node: &Node) -> bool {
     ObjectRef::from_obj(alloc, node).is_ok()
 }
 
+/// Whether a node without a name has a reference.
+fn unnamed_has_reference(rt: &impl Abort, alloc: Global) -> bool {
+    let node = a_node(rt, alloc, false);
+    has_reference(alloc, &node)
+}
+
 /// Whether a node that was named has a reference, and that name.
-fn naming_helps(alloc: Global) -> Result<bool, Fail> {
-    let node = renamed_node(alloc)?;
-    Ok(has_reference(alloc, &node) && Lookup::name(&node) == Some("n"))
+fn naming_helps(rt: &impl Abort, alloc: Global) -> bool {
+    let node = renamed_node(rt, alloc);
+    has_reference(alloc, &node) && Lookup::name(&node) == Some("n")
 }
 
 #[test]
-fn nodes_want_a_name(rt: HostRuntime) -> Result<(), Fail> {
-    assert!(rt; !has_reference(rt.alloc(), &a_node(rt.alloc(), false)?));
-    assert!(rt; naming_helps(rt.alloc())?);
-    Ok(())
+fn nodes_want_a_name(rt: HostRuntime) {
+    assert!(rt; !unnamed_has_reference(&rt, rt.alloc()));
+    assert!(rt; naming_helps(&rt, rt.alloc()));
 }
 
 /// The reference of a node, taken for that of a deployment.
-fn taken_for_deployment(alloc: Global) -> Result<ObjectRef<DynamicObject>, Fail> {
-    let reference = ObjectRef::from_obj(alloc, &a_node(alloc, true)?)?;
-    Ok(reference.into_kind_unchecked::<DynamicObject>(deployments(alloc)?))
+fn taken_for_deployment(rt: &impl Abort, alloc: Global) -> ObjectRef<DynamicObject> {
+    let node = a_node(rt, alloc, true);
+    let reference = ObjectRef::from_obj(alloc, &node).expect(rt, "a name");
+    reference.into_kind_unchecked::<DynamicObject>(deployments(rt, alloc))
 }
 
 /// Whether a reference of the API names the version 7 of the deployment `n`, and no more.
@@ -417,40 +417,54 @@ fn names_deployment(reference: &ObjectReference) -> bool {
 }
 
 /// Whether that reference becomes such a one.
-fn becomes_deployment(alloc: Global) -> Result<bool, Fail> {
-    let reference = taken_for_deployment(alloc)?.into_reference(alloc)?;
-    Ok(names_deployment(&reference))
+fn becomes_deployment(rt: &impl Abort, alloc: Global) -> bool {
+    let reference = taken_for_deployment(rt, alloc);
+    let reference = reference.into_reference(alloc).expect(rt, "memory");
+    names_deployment(&reference)
 }
 
 #[test]
-fn references_become_others(rt: HostRuntime) -> Result<(), Fail> {
-    assert!(rt; becomes_deployment(rt.alloc())?);
-    shows(
-        &rt,
-        &taken_for_deployment(rt.alloc())?,
-        "Deployment.v1.apps/n",
-    )
+fn references_become_others(rt: HostRuntime) {
+    let alloc = rt.alloc();
+    assert!(rt; becomes_deployment(&rt, alloc));
+    let reference = taken_for_deployment(&rt, alloc);
+    shows(&rt, alloc, &reference, "Deployment.v1.apps/n");
 }
 
-/// The reference of an object of which the metadata alone is there.
-fn of_metadata_alone(alloc: Global) -> Result<ObjectRef<PartialObjectMeta<DynamicObject>>, Fail> {
-    let object: PartialObjectMeta<DynamicObject> = PartialObjectMeta {
+/// An object of which the metadata alone is there.
+fn metadata_alone(rt: &impl Abort, alloc: Global) -> PartialObjectMeta<DynamicObject> {
+    PartialObjectMeta {
         types: None,
-        metadata: metadata(alloc, true)?,
+        metadata: metadata(rt, alloc, true),
         of: PhantomData,
-    };
-    Ok(object.to_object_ref(alloc, deployments(alloc)?)?)
+    }
 }
 
-/// Whether the `apiVersion` of deployments, and that of nodes, are so.
-fn has_versions(alloc: Global, deployment: &str, node: &str) -> Result<bool, Fail> {
-    let resource = deployments(alloc)?;
-    let version = <PartialObjectMeta<DynamicObject> as Lookup>::api_version(alloc, &resource)?;
-    Ok(version.as_str() == deployment && version_of_nodes(alloc)?.as_str() == node)
+/// Its reference.
+fn of_metadata_alone(
+    rt: &impl Abort,
+    alloc: Global,
+) -> ObjectRef<PartialObjectMeta<DynamicObject>> {
+    let object = metadata_alone(rt, alloc);
+    let deployments = deployments(rt, alloc);
+    object
+        .to_object_ref(alloc, deployments)
+        .expect(rt, "a name")
 }
 
-fn version_of_nodes(alloc: Global) -> Result<String, Fail> {
-    Ok(<Node as Lookup>::api_version(alloc, &())?)
+/// Whether the `apiVersion` of deployments is so.
+fn has_version(rt: &impl Abort, alloc: Global, wanted: &str) -> bool {
+    let resource = deployments(rt, alloc);
+    let version = <PartialObjectMeta<DynamicObject> as Lookup>::api_version(
+        alloc, &resource,
+    ).expect(rt, "memory");
+    version.as_str() == wanted
+}
+
+/// Whether that of nodes is so.
+fn nodes_have_version(rt: &impl Abort, alloc: Global, wanted: &str) -> bool {
+    let version = <Node as Lookup>::api_version(alloc, &()).expect(rt, "memory");
+    version.as_str() == wanted
 }
 
 /// Whether there is no extra by default.
@@ -460,8 +474,11 @@ fn extra_is_empty() -> bool {
 }
 
 #[test]
-fn metadata_alone_is_an_object(rt: HostRuntime) -> Result<(), Fail> {
+fn metadata_alone_is_an_object(rt: HostRuntime) {
+    let alloc = rt.alloc();
     assert!(rt; extra_is_empty());
-    assert!(rt; has_versions(rt.alloc(), "apps/v1", "v1")?);
-    shows(&rt, &of_metadata_alone(rt.alloc())?, "Deployment.v1.apps/n")
+    assert!(rt; has_version(&rt, alloc, "apps/v1"));
+    assert!(rt; nodes_have_version(&rt, alloc, "v1"));
+    let reference = of_metadata_alone(&rt, alloc);
+    shows(&rt, alloc, &reference, "Deployment.v1.apps/n");
 }

@@ -7,7 +7,7 @@ use Rattle.kube_history.specs.CoreWorld.{core_world}
 use Rattle.kube_turn.specs.Views.{exchange_of}
 use Rattle.kube_asks.specs.Asking.{Asking, AskStands, IsNextAsked, IsPolledAt, SourcesStand, with_asked}
 use Rattle.kube_feed.specs.Asked.{MayAsk, IsOneAsk}
-use Rattle.kube_feed.proofs.Asking.{none-is, asked-once, ended-next, lost-after}
+use Rattle.kube_feed.proofs.Asking.{none-is, asked-once, ended-after, ended-next}
 use Rattle.kube_feed.proofs.sources.ask_one.Goals as goal
 
 pub returns-in_default-clause-asked : goal.returns-in_default-clause-asked
@@ -45,5 +45,5 @@ returns-in_err-exchange-2-clause-ended g c =
     rw (p.1, p.2) (λ w h t qs xs at may.
     let next = subst (λ o. IsNextAsked w t.budget (exchanges h) (dated t.at xs) c.args.now.0 (option_map f o) × AskStands w (g.R.RootSource.stands c.next.new.self.root) (g.S.RelatedSet.stands c.next.new.self.related) (length (g.S.RelatedSet.feeds c.args.asks.now.related)) t.budget (exchanges h) (with_asked (dated t.at xs) c.args.now.0 (option_map f o)) c.next.new.self.kept) c.in-Some.is (e.next w t.budget (exchanges h) (dated t.at xs) may.world may.asks_stand) in
     let polled = subst (λ o. IfSome o (λ x. (ds : List (Dated _)) → SourcesStand (g.R.RootSource.stands c.args.asks.now.root) (g.S.RelatedSet.stands c.args.asks.now.related) (length (g.S.RelatedSet.feeds c.args.asks.now.related)) ds → IsPolledAt g.R.RootSource.polls g.S.RelatedSet.polls ds c.args.now.0 (f x) c.args.asks.now.root c.args.asks.now.related c.next.new.self.root c.next.new.self.related x.source)) c.in-Some.is e.polled in
-    lost-after g.R.RootSource g.S.RelatedSet g.B.Backoff g.R.Object.Resource w h t qs xs c.args.asks.now c.args.pending.now may c.next.new.self c.args.now.0 at (f c.in-Some.exchange)
-    next polled e.kind e.feed e.feeds)
+    ended-after g.R.RootSource g.S.RelatedSet g.B.Backoff g.R.Object.Resource w h t qs xs c.args.asks.now c.args.pending.now may c.next.new.self c.args.now.0 at (f c.in-Some.exchange)
+    next polled e.kind e.feed e.feeds c.in_err-exchange-2.ensures.brings)

@@ -10,7 +10,7 @@ use Rattle.kube_turn.specs.Views.{exchange_of}
 use Rattle.kube_core.specs.Pendings.{Stands}
 use Rattle.kube_feed.specs.Reads.{AreListed, IsLater}
 use Rattle.kube_feed.specs.Requests.{bulk_requests, name_requests}
-use Rattle.kube_feed.proofs.Asking.{asked-lost, asked-none}
+use Rattle.kube_feed.proofs.Asking.{ended-at-once}
 use Rattle.kube_feed.proofs.Going.{asked-now, may-first, of-type, waits-first}
 use Rattle.kube_feed.proofs.Reading.{later-none}
 use Rattle.kube_feed.proofs.turn.ask_where.Goals as goal
@@ -51,8 +51,7 @@ returns-in_err-request_first-clause-ended g c =
     rw (p.1, p.2) (
       c.if-not-goes_on.false,
       λ w h t qs at reload on may.
-          asked-lost g.R.RootSource g.S.RelatedSet g.B.Backoff g.R.Object.Resource w h t qs c.args.asks.now [] c.args.asks.now c.args.parts.now.pending
-          (asked-none g.R.RootSource g.S.RelatedSet g.B.Backoff g.R.Object.Resource w h t qs c.args.asks.now c.args.parts.now.pending may.asks),
+          ended-at-once g.R.RootSource g.S.RelatedSet g.B.Backoff g.R.Object.Resource w h t qs c.args.asks.now c.args.parts.now.pending may.asks,
     )
 
 pub returns-in_err-exchanges-clause-ended : goal.returns-in_err-exchanges-clause-ended

@@ -46,6 +46,6 @@ returns-in_err-exchange-2-clause-left g c =
     let next = subst (λ o. IsNextAsked w t.budget (exchanges h) (dated t.at xs) c.args.now.0 (option_map f o) × AskStands w (g.R.RootSource.stands c.next.new.self.root) (g.S.RelatedSet.stands c.next.new.self.related) (length (g.S.RelatedSet.feeds c.args.asks.now.related)) t.budget (exchanges h) (with_asked (dated t.at xs) c.args.now.0 (option_map f o)) c.next.new.self.kept) c.in-Some.is (e.next w t.budget (exchanges h) (dated t.at xs) may.world may.asks_stand) in
     let polled = subst (λ o. IfSome o (λ x. (ds : List (Dated _)) → SourcesStand (g.R.RootSource.stands c.args.asks.now.root) (g.S.RelatedSet.stands c.args.asks.now.related) (length (g.S.RelatedSet.feeds c.args.asks.now.related)) ds → IsPolledAt g.R.RootSource.polls g.S.RelatedSet.polls ds c.args.now.0 (f x) c.args.asks.now.root c.args.asks.now.related c.next.new.self.root c.next.new.self.related x.source)) c.in-Some.is e.polled in
     lost-given g.R.RootSource g.S.RelatedSet g.B.Backoff g.R.Object.Resource w h t xs es c.args.asks.now c.args.core.now may c.next.new.self c.args.now.0 at (f c.in-Some.exchange)
-    next polled e.kind e.feed e.feeds c.give.new.core
+    next polled e.kind e.feed e.feeds c.in_err-exchange-2.ensures.brings c.give.new.core
     (subst (λ (q : Parts g.row.R-Object.Denot g.row.R-Object-DynamicType.Denot). StandsFor g.R.Object.Resource.type_of g.R.Object.Resource.meta_of (core_world w) es q) (sym c.in_err-exchange-2.ensures.err)
     (stands-with-room g.R.Object.Resource.type_of g.R.Object.Resource.meta_of (core_world w) es c.args.core.now c.give.new.core.pending.schedule.spare may.core_stands)))

@@ -9,7 +9,7 @@ use Rattle.kube_reflect.specs.Writers.{Writing}
 use Rattle.kube_core.specs.Cores.{StandsFor}
 use Rattle.kube_turn.specs.Views.{exchange_of}
 use Rattle.kube_step.specs.Turns.{SomeAsked, SomeRequested, requests_first}
-use Rattle.kube_step.proofs.Asking.{asked-none, ended-lost, may-requested}
+use Rattle.kube_step.proofs.Asking.{ended-at-once, may-requested}
 use Rattle.kube_step.proofs.turn.ask_where.Goals as goal
 
 requests-are : {O : Type 0} (at n : ℕ) (a b : Bool) (rs qs : List Reference) → at ≡ n → a ≡ b → rs ≡ qs → requests_first {O = O} n b qs ≡ requests_first at a rs
@@ -38,7 +38,7 @@ returns-in_err-request_first-clause-ended g c =
     rw (p.1, p.2) (
       c.if-not-goes_on.false,
       λ w h t es at reload on may.
-          ended-lost g.R.RootSource g.S.RelatedSet g.B.Backoff g.R.Object.Resource w h t es c.args.asks.now [] c.args.asks.now c.args.core.now (asked-none g.R.RootSource g.S.RelatedSet g.B.Backoff g.R.Object.Resource w h t es c.args.asks.now c.args.core.now may)
+          ended-at-once g.R.RootSource g.S.RelatedSet g.B.Backoff g.R.Object.Resource w h t es c.args.asks.now c.args.core.now may
           c.request_first.new.core.writer.kept (ap (λ (z : Writing _). z.kept) c.in_err-request_first.ensures.writer),
     )
 

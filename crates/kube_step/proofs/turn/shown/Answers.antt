@@ -9,7 +9,7 @@ objects-keyed : {O : Type 0} (key : O → Reference) (os : List O) → map (λ (
 objects-keyed key [] = refl
 objects-keyed key (o ∷ os) = ap (λ ps. o ∷ ps) (objects-keyed key os)
 
-pub returns : goal.returns
-returns g c world es s =
+pub returns-clause-shown : goal.returns-clause-shown
+returns-clause-shown g c world es s =
     ap Some (ap (map arc_value) c.from.ensures ∙ (c.in_ok-state.ensures ∙ (ap (map (λ (p : Reference × _). p.1)) (c.cache.ensures.stands world es s) ∙ objects-keyed world.key (cache_of world es))))
     ∙ ap (λ b. if b then Some (cache_of world es) else None) (sym c.if-not-show.false)

@@ -3,13 +3,20 @@ use Rattle.kube_model.specs.World.{feed_of, is_watched}
 use Rattle.kube_turn.specs.Views.{exchange_of}
 use Rattle.kube_watch.specs.Polls.{dated_now}
 use Rattle.kube_asks.specs.Kept.{AskKept, noted, is_root_queue, spent_at, total}
-use Rattle.kube_asks.specs.Asking.{Asking, SourcesStand, IsWorldOf, IsPolledAt, IsBrokenAt, InItsPoll, AfterItsPoll, IfUnnamed}
+use Rattle.kube_asks.specs.Asking.{Asking, SourcesStand, IsWorldOf, IsPolledAt, IsBrokenAt, IfUnnamed}
 use Rattle.std.proofs.lemmas.Result.{err_from_is_err_and}
 use Rattle.kube_asks.specs.declared.asks.AskFault.{AskFault}
 use Rattle.kube_asks.specs.declared.asks.AskFault.TheVariants.{NoMemory, Unnamed, Spent}
 use Rattle.kube_asks.proofs.Nexts.{next-is, next-made}
-use Rattle.kube_asks.proofs.Pushes.{total-spent, left-of}
+use Rattle.kube_asks.proofs.Pushes.{total-spent, left-of, left-within}
 use Rattle.kube_asks.proofs.asks.Asks.next.Goals as goal
+
+pub note-requires-clause-budget : goal.note-requires-clause-budget
+note-requires-clause-budget g c =
+    let k = c.args.self.now.kept in
+    let s = c.in-Some.source in
+    let left : c.poll.new.self.kept.left ≡ k.left = ap (λ (q : AskKept g.row.B.Denot). q.left) (c.in_ok-exchange.ensures.kept ∙ ap (λ (a : Asking g.row.R.Denot g.row.S.Denot g.row.B.Denot). a.kept) c.self.view_is) in
+    subst (λ xs. s < length xs) (sym left) (left-within k.left s (left-of (nat_lt 0 (slice_index k.left s)) _ c.in-Some.ensures.may))
 
 pub returns-in_default-clause-next : goal.returns-in_default-clause-next
 returns-in_default-clause-next g c w budget before mine world h =
@@ -29,12 +36,12 @@ returns-clause-next g c w budget before mine world h =
     let feed : g.R.RootSource.feed c.poll.new.self.root ≡ g.R.RootSource.feed c.args.self.now.root =
     c.in_ok-exchange.ensures.feed ∙ ap (λ (a : Asking g.row.R.Denot g.row.S.Denot g.row.B.Denot). g.R.RootSource.feed a.root) c.self.view_is in
     let kept : c.poll.new.self.kept ≡ c.args.self.now.kept = c.in_ok-exchange.ensures.kept ∙ ap (λ (a : Asking g.row.R.Denot g.row.S.Denot g.row.B.Denot). a.kept) c.self.view_is in
-    let root : c.poll.new.self.root ≡ c.self-2.inside.root = sym (ap (λ (a : Asking g.row.R.Denot g.row.S.Denot g.row.B.Denot). a.root) c.self-2.view_is ∙ c.in_ok-note.ensures.root) in
-    let related : c.poll.new.self.related ≡ c.self-2.inside.related = sym (ap (λ (a : Asking g.row.R.Denot g.row.S.Denot g.row.B.Denot). a.related) c.self-2.view_is ∙ c.in_ok-note.ensures.related) in
+    let root : c.poll.new.self.root ≡ c.self-2.inside.root = sym (ap (λ (a : Asking g.row.R.Denot g.row.S.Denot g.row.B.Denot). a.root) c.self-2.view_is ∙ c.note.ensures.root) in
+    let related : c.poll.new.self.related ≡ c.self-2.inside.related = sym (ap (λ (a : Asking g.row.R.Denot g.row.S.Denot g.row.B.Denot). a.related) c.self-2.view_is ∙ c.note.ensures.related) in
     next-made w _ _ _ _ _ _ _ world (g.R.RootSource.stands c.self-2.inside.root) (g.S.RelatedSet.stands c.self-2.inside.related) _ budget before mine _ _ at x h.kept (sym c.is_held.ensures ∙ c.if-is_held.false)
     (sym c.next_source.ensures.found ∙ (c.in-Some.is ∙ ap Some (sym from)))
     (subst (λ s. s < length (g.S.RelatedSet.feeds c.args.self.now.related) + 1) (sym from) c.in-Some.ensures.within)
-    (ap (λ (a : Asking g.row.R.Denot g.row.S.Denot g.row.B.Denot). a.kept) c.self-2.view_is ∙ (c.in_ok-note.ensures.kept
+    (ap (λ (a : Asking g.row.R.Denot g.row.S.Denot g.row.B.Denot). a.kept) c.self-2.view_is ∙ (c.note.ensures.kept
     ∙ (ap (λ f. noted g.B.Backoff.delay g.B.Backoff.delayed g.B.Backoff.restarted (is_root_queue f c.in-Some.source) c.poll.new.self.kept at c.in-Some.source x) feed
     ∙ (ap (λ k. noted g.B.Backoff.delay g.B.Backoff.delayed g.B.Backoff.restarted (is_root_queue (g.R.RootSource.feed c.args.self.now.root) c.in-Some.source) k at c.in-Some.source x) kept
     ∙ ap (λ s. noted g.B.Backoff.delay g.B.Backoff.delayed g.B.Backoff.restarted (is_root_queue (g.R.RootSource.feed c.args.self.now.root) s) c.args.self.now.kept at s x) (sym from))))) (
@@ -51,7 +58,7 @@ returns-clause-uses_up g c =
     let k = c.args.self.now.kept in
     let s = c.in-Some.source in
     let left : c.self-2.inside.left.items ≡ spent_at k.left s =
-    ap (λ (a : Asking g.row.R.Denot g.row.S.Denot g.row.B.Denot). a.kept.left) c.self-2.view_is ∙ (ap (λ (q : AskKept g.row.B.Denot). q.left) c.in_ok-note.ensures.kept
+    ap (λ (a : Asking g.row.R.Denot g.row.S.Denot g.row.B.Denot). a.kept.left) c.self-2.view_is ∙ (ap (λ (q : AskKept g.row.B.Denot). q.left) c.note.ensures.kept
     ∙ ap (λ (q : AskKept g.row.B.Denot). spent_at q.left s) (c.in_ok-exchange.ensures.kept ∙ ap (λ (a : Asking g.row.R.Denot g.row.S.Denot g.row.B.Denot). a.kept) c.self.view_is)) in
     subst (λ xs. total xs < total k.left) (sym left) (total-spent k.left s (left-of (nat_lt 0 (slice_index k.left s)) _ c.in-Some.ensures.may))
 
@@ -60,8 +67,8 @@ returns-clause-polled g c ds h =
     let x = exchange_of g.R.Object.Resource.type_of c.in_ok-exchange.exchange in
     let from : x.source ≡ c.in-Some.source = c.in_ok-exchange.ensures.source in
     let sources' = subst (λ (a : Asking g.row.R.Denot g.row.S.Denot g.row.B.Denot). SourcesStand (g.R.RootSource.stands a.root) (g.S.RelatedSet.stands a.related) (length (g.S.RelatedSet.feeds a.related)) ds) (sym c.self.view_is) h in
-    let root : c.poll.new.self.root ≡ c.self-2.inside.root = sym (ap (λ (a : Asking g.row.R.Denot g.row.S.Denot g.row.B.Denot). a.root) c.self-2.view_is ∙ c.in_ok-note.ensures.root) in
-    let related : c.poll.new.self.related ≡ c.self-2.inside.related = sym (ap (λ (a : Asking g.row.R.Denot g.row.S.Denot g.row.B.Denot). a.related) c.self-2.view_is ∙ c.in_ok-note.ensures.related) in
+    let root : c.poll.new.self.root ≡ c.self-2.inside.root = sym (ap (λ (a : Asking g.row.R.Denot g.row.S.Denot g.row.B.Denot). a.root) c.self-2.view_is ∙ c.note.ensures.root) in
+    let related : c.poll.new.self.related ≡ c.self-2.inside.related = sym (ap (λ (a : Asking g.row.R.Denot g.row.S.Denot g.row.B.Denot). a.related) c.self-2.view_is ∙ c.note.ensures.related) in
     subst (λ s. IsPolledAt g.R.RootSource.polls g.S.RelatedSet.polls ds c.args.now.0 x c.args.self.now.root c.args.self.now.related c.self-2.inside.root c.self-2.inside.related s) (sym from)
     (subst (λ r. IsPolledAt g.R.RootSource.polls g.S.RelatedSet.polls ds c.args.now.0 x c.args.self.now.root c.args.self.now.related r c.self-2.inside.related c.in-Some.source) root
     (subst (λ r. IsPolledAt g.R.RootSource.polls g.S.RelatedSet.polls ds c.args.now.0 x c.args.self.now.root c.args.self.now.related c.poll.new.self.root r c.in-Some.source) related
@@ -90,24 +97,8 @@ returns-in_err-exchange-clause-lost g c =
     let p = err_from_is_err_and c.from_residual.result c.from_residual.ensures.1 in
     rw (p.1, p.2) (λ e. (
       c.in-Some.source,
-      InItsPoll (subst (λ (a : Asking g.row.R.Denot g.row.S.Denot g.row.B.Denot). IsBrokenAt g.R.RootSource.loses g.S.RelatedSet.loses c.args.now.0 a.root a.related c.poll.new.self.root c.poll.new.self.related c.in-Some.source)
-          c.self.view_is (c.in_err-exchange.ensures.lost e)),
-      λ w budget before mine world h.
-          next-is w _ _ _ _ _ _ _ world budget before mine _ c.args.now.0 h.kept (sym c.is_held.ensures ∙ c.if-is_held.false) ∙ (sym c.next_source.ensures.found ∙ c.in-Some.is),
-    ))
-
-pub returns-in_err-note-clause-lost : goal.returns-in_err-note-clause-lost
-returns-in_err-note-clause-lost g c =
-    let p = err_from_is_err_and c.from_residual-in_err-note.result c.from_residual-in_err-note.ensures.1 in
-    let x = exchange_of g.R.Object.Resource.type_of c.in_ok-exchange.exchange in
-    rw (p.1, p.2) (λ e. (
-      c.in-Some.source,
-      AfterItsPoll x (λ ds h.
-          let sources' = subst (λ (a : Asking g.row.R.Denot g.row.S.Denot g.row.B.Denot). SourcesStand (g.R.RootSource.stands a.root) (g.S.RelatedSet.stands a.related) (length (g.S.RelatedSet.feeds a.related)) ds) (sym c.self.view_is) h in
-          subst (λ r. IsPolledAt g.R.RootSource.polls g.S.RelatedSet.polls ds c.args.now.0 x c.args.self.now.root c.args.self.now.related r c.note.new.self.related c.in-Some.source) (sym c.in_err-note.ensures.root)
-          (subst (λ r. IsPolledAt g.R.RootSource.polls g.S.RelatedSet.polls ds c.args.now.0 x c.args.self.now.root c.args.self.now.related c.poll.new.self.root r c.in-Some.source) (sym c.in_err-note.ensures.related)
-          (subst (λ (a : Asking g.row.R.Denot g.row.S.Denot g.row.B.Denot). IsPolledAt g.R.RootSource.polls g.S.RelatedSet.polls ds c.args.now.0 x a.root a.related c.poll.new.self.root c.poll.new.self.related c.in-Some.source) c.self.view_is
-          (c.in_ok-exchange.ensures.polled ds sources')))),
+      subst (λ (a : Asking g.row.R.Denot g.row.S.Denot g.row.B.Denot). IsBrokenAt g.R.RootSource.loses g.S.RelatedSet.loses c.args.now.0 a.root a.related c.poll.new.self.root c.poll.new.self.related c.in-Some.source)
+          c.self.view_is (c.in_err-exchange.ensures.lost e),
       λ w budget before mine world h.
           next-is w _ _ _ _ _ _ _ world budget before mine _ c.args.now.0 h.kept (sym c.is_held.ensures ∙ c.if-is_held.false) ∙ (sym c.next_source.ensures.found ∙ c.in-Some.is),
     ))

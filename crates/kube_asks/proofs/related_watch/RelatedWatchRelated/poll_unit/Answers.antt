@@ -1,4 +1,4 @@
-use Rattle.std.proofs.Common.{◌≡◌, Option, Some, None, Result, Ok, Err, OnOk, inr, List, map, [], ◌∷◌, refl, sym, ap, subst, ◌∙◌}
+use Rattle.std.proofs.Common.{◌≡◌, true, Option, Some, None, Result, Ok, Err, OnOk, OnErr, IsErrOf, inr, List, map, [], ◌∷◌, refl, sym, ap, subst, ◌∙◌}
 use Rattle.std.specs.List.{flat_map}
 use Rattle.std.specs.Arc.{arc_value}
 use Rattle.std.proofs.lemmas.List.{map-append}
@@ -10,7 +10,8 @@ use Rattle.kube_model.specs.Recorded.{raw_call}
 use Rattle.kube_model.specs.Shapes.{shape, dated_shapes}
 use Rattle.kube_turn.specs.Views.{message_of, exchange_of}
 use Rattle.kube_watch.specs.Agrees.{objects_of}
-use Rattle.kube_watch.specs.Calls.{IsAskedOnce, version_of}
+use Rattle.kube_watch.proofs.Brings.{brought}
+use Rattle.kube_watch.specs.Calls.{IsAskedOnce, brings_raw, version_of}
 use Rattle.kube_watch.specs.Polls.{Api, dated_now}
 use Rattle.kube_watch.specs.Stands.{StandsFor, exchanges_in, settings_in, api_of}
 use Rattle.kube_watch.specs.Units.{events_of}
@@ -20,6 +21,7 @@ use Rattle.kube_asks.specs.Asking.{of_source}
 use Rattle.kube_asks.specs.Sources.{IsRelatedNext, fault_answered}
 use Rattle.kube_asks.specs.Mapped.{MappedWatching, RelatedStands, IsMappedPoll, IsRelatedBroken, IsRelatedLost}
 use Rattle.kube_asks.proofs.Bools.{ok2, ok3-on}
+use Rattle.kube_asks.proofs.Brought.{some-brings}
 use Rattle.kube_asks.proofs.Names.{rose-came}
 use Rattle.kube_asks.proofs.RootFits.{named-now, unnamed-now, owed-form}
 use Rattle.kube_asks.proofs.RelatedFits.{next-too, recorded-too, objects-same, owed-same}
@@ -119,17 +121,25 @@ returns-clause-unnamed g c fault =
           (c.map_unit-answer.ensures.unnamed fault);
     })
 
+-- what is said of an error is said of this one
+of-err : {T P : Type 0} {f : StreamFault} (r : Result T StreamFault) → OnErr r P → IsErrOf r f → P
+of-err (Ok value) p e = absurd (cc)
+of-err (Err fault) p e = p
+
 pub returns-clause-lost : goal.returns-clause-lost
 returns-clause-lost g c fault =
     let inside = c.self.inside in
     let settings = settings_in inside.watcher in
     let after : MappedWatching g.row.A.Denot g.row.A-Value.Denot g.row.M.Denot =
     record { watcher = c.poll_unit.new.self; kind = g.A.Value.Resource.type_of inside.dyntype; mapper = inside.mapper; fault = c.fault_in-self-inside.result } in
+    let u = c.in_ok-unit.unit in
     let e = c.in_ok-unit.ensures in
     subst (λ (a : MappedWatching g.row.A.Denot g.row.A-Value.Denot g.row.M.Denot). IsRelatedLost g.row.K.Denot g.A.ApiMode.talk a after) c.self.view_is
     (λ own h. inr (
       e.talk.0,
       subst (λ k. raw_call settings k ≡ Some e.talk.0.call) (e.owed (dated_shapes own) h.0 ∙ owed-same g.row.A-Value.Denot settings own) e.talk.1.call,
+      subst (λ k. brings_raw e.talk.0.answer k ≡ true) (e.owed (dated_shapes own) h.0 ∙ owed-same g.row.A-Value.Denot settings own)
+          (brought (version_of g.A.Value.Resource.meta_of) e.talk.0 u.answer u.call e.talk.1.answer (some-brings u (of-err _ c.map_unit-answer.ensures.some fault) e.quiet)),
       e.talk.2,
     ))
 

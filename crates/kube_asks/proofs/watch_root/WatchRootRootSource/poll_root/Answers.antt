@@ -1,11 +1,12 @@
-use Rattle.std.proofs.Common.{◌≡◌, Some, None, inr, map, [], ◌∷◌, ◌++◌, refl, sym, ap, subst, ◌∙◌}
+use Rattle.std.proofs.Common.{◌≡◌, true, Some, None, inr, map, [], ◌∷◌, ◌++◌, refl, sym, ap, subst, ◌∙◌}
 use Rattle.std.specs.List.{fold, flat_map}
 use Rattle.std.specs.Arc.{arc_value}
 use Rattle.kube_model.specs.World.{Watched}
 use Rattle.kube_model.specs.Recorded.{raw_call}
 use Rattle.kube_turn.specs.Views.{message_of, exchange_of}
 use Rattle.kube_watch.specs.Agrees.{objects_of}
-use Rattle.kube_watch.specs.Calls.{version_of}
+use Rattle.kube_watch.proofs.Brings.{brought}
+use Rattle.kube_watch.specs.Calls.{brings_raw, version_of}
 use Rattle.kube_watch.specs.Configs.{settings_of}
 use Rattle.kube_watch.specs.Polls.{Api, dated_now}
 use Rattle.kube_watch.specs.Stands.{exchanges_in, settings_in}
@@ -15,6 +16,7 @@ use Rattle.kube_asks.specs.Asking.{of_source}
 use Rattle.kube_asks.specs.Sources.{IsRootNext}
 use Rattle.kube_asks.specs.Noting.{noted, after_event, updated_of}
 use Rattle.kube_asks.specs.Roots.{RootWatching, RootStands, IsRootPoll, IsRootBroken, IsRootLost, has_name}
+use Rattle.kube_asks.proofs.Brought.{some-brings}
 use Rattle.kube_asks.proofs.Names.{rose-came}
 use Rattle.kube_asks.proofs.RootFits.{next-now, stands-now, named-now, unnamed-now, requests-are, owed-form}
 use Rattle.kube_asks.proofs.Notes.{same-fault}
@@ -115,9 +117,15 @@ returns-in-Err-clause-lost g c fault =
     let inside = c.self.inside in
     let settings = settings_in inside.watcher in
     let after : RootWatching g.row.A.Denot g.row.A-Value.Denot = record { watcher = c.poll_unit.new.self; kind = g.A.Value.Resource.type_of inside.dyntype; listing = []; fault = Some c.in-Err.fault } in
+    let u = c.in_ok-unit.unit in
     let e = c.in_ok-unit.ensures in
     subst (λ (a : RootWatching g.row.A.Denot g.row.A-Value.Denot). IsRootLost meta g.A.ApiMode.talk a after) c.self.view_is
-    (λ own h. inr (e.talk.0, subst (λ k. raw_call settings k ≡ Some e.talk.0.call) (e.owed own h.watcher) e.talk.1.call, e.talk.2))
+    (λ own h. inr (
+      e.talk.0,
+      subst (λ k. raw_call settings k ≡ Some e.talk.0.call) (e.owed own h.watcher) e.talk.1.call,
+      subst (λ k. brings_raw e.talk.0.answer k ≡ true) (e.owed own h.watcher) (brought (version_of meta) e.talk.0 u.answer u.call e.talk.1.answer (some-brings u c.in-Err.ensures.some e.quiet)),
+      e.talk.2,
+    ))
 
 pub returns-in_err-unit-clause-lost : goal.returns-in_err-unit-clause-lost
 returns-in_err-unit-clause-lost g c fault =

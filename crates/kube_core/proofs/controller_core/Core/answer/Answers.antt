@@ -25,11 +25,11 @@ returns-clause-stands g c core es s may =
     let own = root_answers es in
     let rest = c.request_now.ensures.rest in
     let stored = c.in_ok-store.ensures.rest in
-    let same = c.in_ok-reserve.ensures.same in
+    let same = c.in_ok-requests.ensures.same in
     let reserved =
     subst (λ p. Stands type_of core p qs rs) (sym (ap (λ p. p.pending) stored))
-    (with-places type_of core c.self.inside.pending c.reserve.new.self qs rs (ap (λ q. q.limit) same) (ap (λ q. q.schedule) same) (ap (λ q. q.running) same) z.pending) in
-    let messages = c.in_ok-requests.ensures ∙ ap (map (message_of type_of)) c.as_slice.ensures in
+    (with-places type_of core c.self.inside.pending c.reserve_copies.new.self qs rs (ap (λ q. q.limit) same) (ap (λ q. q.schedule) same) (ap (λ q. q.running) same) z.pending) in
+    let messages = c.in_ok-requests.ensures.messages ∙ ap (map (message_of type_of)) c.as_slice.ensures in
     answered-core type_of meta core es _ c.request_now.new.self z c.args.now x m may
     (ap (λ p. p.writer.kind) rest ∙ c.in_ok-store.ensures.kind)
     (subst (λ k. IsLeftBy core.key (own ++ of_root x) k) (sym (ap (λ p. p.writer.kept) rest))
