@@ -370,6 +370,20 @@ impl<R: RootSource, S: RelatedSet<R::Object>, B: Backoff> Asks<R, S, B> {
         }
     }
 
+    /// Whether a source is to be asked at this moment: nothing holds the asks, and there is one that may be asked.
+    fn has_next(&self, now: Moment) -> bool
+        requires few { length (S.feeds self.now.related) + 1 < 2 ^ 32 }
+        ensures { (w : World R.Object B) (budget : List ℕ) (before mine : List (Dated R.Object))
+            → IsWorldOf w (R.kind self.now.root) R.Object.meta_of (R.feed self.now.root) (S.feeds self.now.related) B.delay B.delayed B.restarted
+            → AskStands w (R.stands self.now.root) (S.stands self.now.related) (length (S.feeds self.now.related)) budget before mine self.now.kept
+            → result ≡ is_some (next_asked w budget before mine now.0) }
+    {
+        if self.is_held(now) {
+            return false;
+        }
+        self.next_source().is_some()
+    }
+
     /// Polls a source. The exchange has whatever number the source gives it.
     fn poll_source(
         &mut self,
@@ -533,18 +547,42 @@ impl<R: RootSource, S: RelatedSet<R::Object>, B: Backoff> Asks<R, S, B> {
         Ok(Some(exchange))
     }
 
-    /// Whether `next` would ask a source at this moment: nothing holds the asks, and there is one that may be asked.
-    pub fn has_next(&self, now: Moment) -> bool
+    /// Whether a list has a place for the exchange that `next` makes at this moment, if there was no fault. One is made where the
+    /// list is full and a source is to be asked, so that no memory is taken for an exchange that isn't made.
+    ///
+    /// # Errors
+    ///
+    /// `NoMemory` where a source is to be asked, and there is none for the place of its exchange.
+    pub fn make_place(
+        &self,
+        all: &mut Vec<SourceExchange<R::Object>>,
+        now: Moment,
+    ) -> Result<bool, NoMemory>
         requires few { length (S.feeds self.now.related) + 1 < 2 ^ 32 }
-        ensures { (w : World R.Object B) (budget : List ℕ) (before mine : List (Dated R.Object))
+        ensures items { all.new.items ≡ all.old.items }
+        ensures place { IfOk result (λ has. has ≡ true → length all.new.items < vec_capacity all.new) }
+        ensures same { IfOk result (λ has. has ≡ false → all.new ≡ all.old) }
+        ensures done { IfOk result (λ has. has ≡ false → (w : World R.Object B) (budget : List ℕ) (before mine : List (Dated R.Object))
             → IsWorldOf w (R.kind self.now.root) R.Object.meta_of (R.feed self.now.root) (S.feeds self.now.related) B.delay B.delayed B.restarted
             → AskStands w (R.stands self.now.root) (S.stands self.now.related) (length (S.feeds self.now.related)) budget before mine self.now.kept
-            → result ≡ is_some (next_asked w budget before mine now.0) }
+            → next_asked w budget before mine now.0 ≡ None) }
+        ensures full { length all.old.items ≡ vec_capacity all.old → (w : World R.Object B) (budget : List ℕ) (before mine : List (Dated R.Object))
+            → IsWorldOf w (R.kind self.now.root) R.Object.meta_of (R.feed self.now.root) (S.feeds self.now.related) B.delay B.delayed B.restarted
+            → AskStands w (R.stands self.now.root) (S.stands self.now.related) (length (S.feeds self.now.related)) budget before mine self.now.kept
+            → next_asked w budget before mine now.0 ≡ None → result ≡ Ok false }
+        ensures left { OnErr result ((w : World R.Object B) (budget : List ℕ) (before mine : List (Dated R.Object))
+            → IsWorldOf w (R.kind self.now.root) R.Object.meta_of (R.feed self.now.root) (S.feeds self.now.related) B.delay B.delayed B.restarted
+            → AskStands w (R.stands self.now.root) (S.stands self.now.related) (length (S.feeds self.now.related)) budget before mine self.now.kept
+            → is_some (next_asked w budget before mine now.0) ≡ true) }
     {
-        if self.is_held(now) {
-            return false;
+        if all.len() < all.capacity() {
+            return Ok(true);
         }
-        self.next_source().is_some()
+        if !self.has_next(now) {
+            return Ok(false);
+        }
+        all.reserve(1)?;
+        Ok(true)
     }
 
     /// Begins a turn with a budget: at most so many exchanges of each source, the root first; a missing one is 0.
@@ -555,7 +593,7 @@ impl<R: RootSource, S: RelatedSet<R::Object>, B: Backoff> Asks<R, S, B> {
     /// # Errors
     ///
     /// `NoMemory` where there is none for those marks; no turn has begun then, and all is as before.
-    pub fn begin(&mut self, _alloc: Global, budget: Vec<u32>) -> Result<(), NoMemory>
+    pub fn begin(&mut self, budget: Vec<u32>) -> Result<(), NoMemory>
         ensures stands { OnOk result ((w : World R.Object B) (last : List ℕ) (before mine : List (Dated R.Object))
             → AskStands w (R.stands self.old.root) (S.stands self.old.related) (length (S.feeds self.old.related)) last before mine self.old.kept
             → AskStands w (R.stands self.new.root) (S.stands self.new.related) (length (S.feeds self.old.related)) budget.items (before ++ mine) [] self.new.kept) }

@@ -4,5 +4,6 @@ pub mod Firsts
 pub mod PendingSteps
 pub mod CoreSteps
 pub mod Requesting
+pub mod StableSorts
 pub mod StoredSteps
 pub mod TakenSteps

@@ -1,5 +1,5 @@
 -- A take with what is stored for it.
-use Rattle.std.proofs.Common.{◌≡◌, Bool, true, false, cond, List, [], ◌∷◌, Option, Some, None, Result, Ok, Err, OnErr, is_some, option_map, refl, ap, ◌∙◌}
+use Rattle.std.proofs.Common.{◌≡◌, Bool, true, false, cond, List, [], ◌∷◌, Option, Some, None, is_some, option_map, refl, ap, ◌∙◌}
 use Rattle.std.specs.Option.{option_or}
 use Rattle.kube_meta.specs.Reference.{Reference, same_reference, without_namespace}
 use Rattle.kube_model.specs.History.{Message}
@@ -8,10 +8,6 @@ use Rattle.kube_reflect.specs.Cached.{keyed}
 use Rattle.kube_reflect.specs.Exchanged.{all_keyed}
 use Rattle.kube_reflect.specs.Reads.{object_at}
 use Rattle.kube_core.specs.Cores.{looked_up}
-
-pub on-err : {T E : Type 0} (r : Result T E) (P : Type 0) → P → OnErr r P
-on-err (Ok t) P p = tt
-on-err (Err e) P p = p
 
 pub some-mapped : {A B : Type 0} (f : A → B) (o : Option A) → is_some o ≡ true → is_some (option_map f o) ≡ true
 some-mapped f None e = absurd (cc)

@@ -1,10 +1,9 @@
 //! Requests that are made together: those of an exchange, and those of a reload.
 
-ghost use Rattle.std.specs.Prelude.{◌≡◌, ◌+◌, ◌≤◌, List, IfOk, OnOk, map, length};
-ghost use Rattle.std.specs.List.{prefix_len};
+ghost use Rattle.std.specs.Prelude.{◌≡◌, ◌+◌, ◌≤◌, List, IfOk, map, length};
 ghost use Rattle.kube_meta.specs.Keys.{reference_of};
 ghost use Rattle.kube_meta.specs.Reference.{reference_before};
-ghost use Rattle.kube_model.specs.Queue.{QueueEvent, insert_by, sorted_by};
+ghost use Rattle.kube_model.specs.Queue.{QueueEvent, sorted_by};
 ghost use Rattle.kube_model.specs.History.{Message};
 ghost use Rattle.kube_model.specs.Requests.{requested_at};
 ghost use Rattle.kube_model.specs.Takes.{Running};
@@ -41,37 +40,12 @@ pub fn copy_requests<K: Resource>(
     Ok(copies)
 }
 
-/// How many references come before another, of those that are in order.
-fn count_before<K: Resource>(keys: &[ObjectRef<K>], key: &ObjectRef<K>) -> usize
-    ensures count { result ≡ prefix_len (λ other. reference_before (reference_of K.type_of other) (reference_of K.type_of key.now)) keys.now }
-    ensures within { result ≤ length keys.now }
-{
-    keys.iter()
-        .take_while(|other| other.cmp_by_name(key).is_lt())
-        .count()
-}
-
-/// Puts a reference into its place among others that are in order, before its equals.
-fn insert_key<K: Resource>(keys: &mut Vec<ObjectRef<K>>, key: ObjectRef<K>) -> Result<(), NoMemory>
-    ensures { OnOk result (map (reference_of K.type_of) keys.new.items ≡ insert_by reference_before (reference_of K.type_of key) (map (reference_of K.type_of) keys.old.items)) }
-{
-    let place = count_before(keys, &key);
-    keys.insert(place, key)?;
-    Ok(())
-}
-
-/// The references by namespace, none first, and then by name.
-fn sort_keys<K: Resource>(
-    alloc: Global,
-    keys: Vec<ObjectRef<K>>,
-) -> Result<Vec<ObjectRef<K>>, NoMemory>
+/// The references by namespace, none first, and then by name; those that tie stay in their order.
+fn sort_keys<K: Resource>(keys: Vec<ObjectRef<K>>) -> Result<Vec<ObjectRef<K>>, NoMemory>
     ensures { IfOk result (λ v. map (reference_of K.type_of) v.items ≡ sorted_by reference_before (map (reference_of K.type_of) keys.items)) }
 {
-    let mut left = keys;
-    let mut sorted = Vec::new(alloc);
-    while let Some(key) = left.pop() {
-        insert_key(&mut sorted, key)?;
-    }
+    let mut sorted = keys;
+    sorted.sort_by(|a, b| a.cmp_by_name(b))?;
     Ok(sorted)
 }
 
@@ -103,7 +77,7 @@ pub fn requests_in_bulk<K: Resource>(
 ) -> Result<Vec<ReconcileRequest<K>>, NoMemory>
     ensures { IfOk result (λ v. map (message_of K.type_of) v.items ≡ map in_bulk (sorted_by reference_before (map (reference_of K.type_of) keys.items))) }
 {
-    request_keys(alloc, sort_keys(alloc, keys)?)
+    request_keys(alloc, sort_keys(keys)?)
 }
 
 /// A request for each stored object, by namespace, none first, and then by name.

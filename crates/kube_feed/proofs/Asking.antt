@@ -25,7 +25,7 @@ use Rattle.kube_asks.specs.declared.set.RelatedSet as related_set
 use Rattle.kube_step.specs.Asked.{AllStand, AreCutOff, BringsNothing, IsLostNext, IsUnnamedNext, LastBrought, NotAsked, AskedOnce, SourceLeft}
 use Rattle.kube_step.specs.Calls.{ArePolled}
 use Rattle.kube_step.specs.Controllers.{IsWorldOfAsks, AsksStand}
-use Rattle.kube_step.proofs.Asking.{polled-append, source-is}
+use Rattle.kube_step.proofs.Asking.{polled-append, some-source, source-is}
 use Rattle.kube_step.proofs.Trails.{next-append, named-append}
 use Rattle.kube_feed.specs.Asked.{MayAsk, IsOneAsk, AreAsked, AreEndedBy}
 
@@ -81,6 +81,9 @@ module _ {R S B O D : Type 0} (root : root_source.Ghosts R O D) (related : relat
 
     pub none-is : next_asked w t.budget (exchanges h) (dated t.at xs) at ≡ None → next_source w h t xs ≡ None
     none-is e = source-is w h t xs may.is_open ∙ (ap (next_asked w t.budget (exchanges h) (dated t.at xs)) now ∙ e)
+
+    pub left-is : is_some (next_asked w t.budget (exchanges h) (dated t.at xs) at) ≡ true → is_some (next_source w h t xs) ≡ true
+    left-is e = ap is_some (source-is w h t xs may.is_open ∙ ap (next_asked w t.budget (exchanges h) (dated t.at xs)) now) ∙ e
 
     same-world : root.kind a'.root ≡ root.kind a.root → root.feed a'.root ≡ root.feed a.root → related.feeds a'.related ≡ related.feeds a.related → IsWorldOfAsks root related delays object w a'
     same-world kind feed feeds =
@@ -211,10 +214,6 @@ module _ {R S B O D : Type 0} (root : root_source.Ghosts R O D) (related : relat
     stand = k.may.asks_stand.sources;
     rest = NotAsked refl refl;
   }
-
-  some-source : (o : Option ℕ) → is_some o ≡ true → (source : ℕ) × (o ≡ Some source)
-  some-source None e = absurd (cc)
-  some-source (Some source) e = (source, refl)
 
   -- a source was left to ask
   pub ended-lost : (a : Asking R S B) (xs : List (Exchange O)) (b : Asking R S B) (p' : Pending O D) → AreAsked root related delays object w h t qs a xs b p'

@@ -1,6 +1,6 @@
 //! The asks of a turn.
 
-ghost use Rattle.std.specs.Prelude.{◌≡◌, ◌<◌, ◌+◌, ◌^◌, ◌∷◌, [], List, length, map, option_map, is_some, true, IfOk, IfErr, IfSome, OnOk, OnErr, None};
+ghost use Rattle.std.specs.Prelude.{◌≡◌, ◌<◌, ◌+◌, ◌^◌, ◌∷◌, [], List, length, map, option_map, IfOk, IfErr, IfSome, OnOk, OnErr, None};
 ghost use Rattle.kube_model.specs.World.{World};
 ghost use Rattle.kube_model.specs.History.{Exchange, Message, Step, Turn};
 ghost use Rattle.kube_model.specs.Queue.{QueueEvent};
@@ -68,25 +68,6 @@ fn ask_one<R: RootSource, S: RelatedSet<R::Object>, B: Backoff>(
     Ok(Some(exchange))
 }
 
-/// All that were made, where no source is left to ask; there is no memory for one more.
-fn end<R: RootSource, S: RelatedSet<R::Object>, B: Backoff>(
-    asks: &Asks<R, S, B>,
-    all: Vec<SourceExchange<R::Object>>,
-    now: Moment,
-) -> Result<List<SourceExchange<R::Object>>, AskFault>
-    requires few { length (S.feeds asks.now.related) + 1 < 2 ^ 32 }
-    ensures all { IfOk result (λ xs. xs ≡ all.items) }
-    ensures done { OnOk result ((w : World R.Object B) (h : List (Step R.Object)) (t : Turn) (qs : List (QueueEvent Message)) (xs : List (Exchange R.Object)) (pending : Parts R.Object R.Object.DynamicType) → t.at ≡ now.0
-        → MayAsk R.RootSource S.RelatedSet B.Backoff R.Object.Resource w h t qs xs asks.now pending → next_source w h t xs ≡ None) }
-    ensures left { IfErr result (λ f. (f ≡ AskFault.NoMemory) × ((w : World R.Object B) (h : List (Step R.Object)) (t : Turn) (qs : List (QueueEvent Message)) (xs : List (Exchange R.Object)) (pending : Parts R.Object R.Object.DynamicType) → t.at ≡ now.0
-        → MayAsk R.RootSource S.RelatedSet B.Backoff R.Object.Resource w h t qs xs asks.now pending → is_some (next_source w h t xs) ≡ true)) }
-{
-    if asks.has_next(now) {
-        return Err(AskFault::NoMemory);
-    }
-    Ok(List::from(all))
-}
-
 /// Makes the exchanges of a turn, until none is left to make, and requests what each requests.
 ///
 /// # Errors
@@ -116,9 +97,10 @@ pub fn ask_all<R: RootSource, S: RelatedSet<R::Object>, B: Backoff>(
 {
     let mut all = Vec::new(alloc);
     loop {
-        let Ok(()) = all.reserve(1) else {
-            return end(asks, all, now);
-        };
+        let has_place = asks.make_place(&mut all, now)?;
+        if !has_place {
+            return Ok(List::from(all));
+        }
         match ask_one(asks, pending, alloc, now)? {
             Some(exchange) => all.push_reserved(exchange),
             None => return Ok(List::from(all)),

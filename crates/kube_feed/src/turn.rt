@@ -328,7 +328,7 @@ where
     } = turn;
     let closed = close(parts, shutdown);
     let room = asks.room_for_stops(alloc)?;
-    asks.begin(alloc, Vec::from(budget))?;
+    asks.begin(Vec::from(budget))?;
     let finished = finish_all(
         &mut parts.pending,
         closed,

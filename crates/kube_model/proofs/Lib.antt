@@ -16,3 +16,4 @@ pub mod Fronts
 pub mod SameExchanges
 pub mod OneTrace
 pub mod Rooms
+pub mod Results

@@ -284,8 +284,11 @@ impl<K: Resource> Writer<K> {
     ///
     /// `Apply` puts its object into the cache in the place of the one under an equal reference, or last; `Delete` removes
     /// it; `Init` begins a list; `InitApply` puts its object into that list; `InitDone` puts the list in place of the
-    /// cache, also where no `Init` came. `Unnamed` where the object of the event has no name. After that, and after want
-    /// of memory, the writer is as before.
+    /// cache, also where no `Init` came.
+    ///
+    /// # Errors
+    ///
+    /// `Unnamed` where the object of the event has no name. After that, and after want of memory, the writer is as before.
     pub fn apply_watcher_event(
         &mut self,
         alloc: Global,

@@ -1,12 +1,13 @@
 //! Standard input and standard output as a source and a sink.
 
-ghost use Rattle.std.specs.Prelude.{◌≡◌, ◌<◌, IfOk, None, length};
+ghost use Rattle.std.specs.Prelude.{◌≡◌, ◌≢◌, ◌<◌, IfOk, IfErr, None, length};
 ghost use Rattle.std.specs.Io.{ReadsAtMost, WritesAtMost};
+ghost use Rattle.std.specs.IoError.{error_kind};
 
 use crate::source::Source;
 use kube_text::failed::Failed;
 use kube_text::sink::Sink;
-use std::io::{ErrorKind, Read, Stdin, Stdout, Write};
+use std::io::{Error, ErrorKind, Read, Stdin, Stdout, Write};
 
 /// Standard input. It doesn't tell what is left. A read that a signal interrupted is tried again.
 #[derive(Drop)]
@@ -30,7 +31,7 @@ impl Source for StandardInput {
     fn read(&mut self, buf: &mut [u8]) -> Result<usize, Failed> {
         match read_again(&mut self.stdin, buf) {
             Ok(count) => Ok(count),
-            Err(Failed) => {
+            Err(_) => {
                 self.faults = self.faults.saturating_add(1);
                 Err(Failed)
             }
@@ -42,18 +43,19 @@ impl Source for StandardInput {
 ///
 /// # Errors
 ///
-/// `Failed` where a read ended with any other error.
-pub fn read_again<R: Read>(input: &mut R, buf: &mut [u8]) -> Result<usize, Failed>
-    ensures { ReadsAtMost result buf.new }
+/// That of a read that ended with any other one; one of kind `Other` after 2^64 - 1 reads that were all interrupted.
+pub fn read_again<R: Read>(input: &mut R, buf: &mut [u8]) -> Result<usize, Error>
+    ensures bound { ReadsAtMost result buf.new }
+    ensures retried { IfErr result (λ e. error_kind e ≢ ErrorKind.Interrupted) }
 {
     for _ in 0..u64::MAX {
         match input.read(buf) {
             Ok(count) => return Ok(count),
             Err(error) if error.kind() == ErrorKind::Interrupted => {}
-            Err(_) => return Err(Failed),
+            Err(error) => return Err(error),
         }
     }
-    Err(Failed)
+    Err(Error::from(ErrorKind::Other))
 }
 
 /// Standard output. It doesn't tell what was written. A write that a signal interrupted is tried again.
@@ -78,7 +80,7 @@ impl Sink for StandardOutput {
     fn write(&mut self, bytes: &[u8]) -> Result<usize, Failed> {
         match write_again(&mut self.stdout, bytes) {
             Ok(count) => Ok(count),
-            Err(Failed) => {
+            Err(_) => {
                 self.faults = self.faults.saturating_add(1);
                 Err(Failed)
             }
@@ -90,17 +92,20 @@ impl Sink for StandardOutput {
 ///
 /// # Errors
 ///
-/// `Failed` where a write ended with any other error, and where it moved no byte though there are some.
-pub fn write_again<W: Write>(output: &mut W, bytes: &[u8]) -> Result<usize, Failed>
+/// That of a write that ended with any other one; `WriteZero` where it moved no byte though there are some; one of kind `Other`
+/// after 2^64 - 1 writes that were all interrupted.
+pub fn write_again<W: Write>(output: &mut W, bytes: &[u8]) -> Result<usize, Error>
     ensures bound { WritesAtMost result bytes.now }
+    ensures retried { IfErr result (λ e. error_kind e ≢ ErrorKind.Interrupted) }
     ensures some { IfOk result (λ n. 0 < length bytes.now → 0 < n) }
 {
     for _ in 0..u64::MAX {
         match output.write(bytes) {
             Ok(count) if count > 0 || bytes.is_empty() => return Ok(count),
+            Ok(_) => return Err(Error::from(ErrorKind::WriteZero)),
             Err(error) if error.kind() == ErrorKind::Interrupted => {}
-            _ => return Err(Failed),
+            Err(error) => return Err(error),
         }
     }
-    Err(Failed)
+    Err(Error::from(ErrorKind::Other))
 }

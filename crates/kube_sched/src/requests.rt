@@ -14,7 +14,11 @@ pub trait Requests<T>: Drop {
     /// What it answered so far, where it tells that.
     ghost told: { Self → Option (List (Next (ScheduleRequest T))) };
 
-    /// The next request. Want of memory takes nothing from what was answered.
+    /// The next request.
+    ///
+    /// # Errors
+    ///
+    /// `NoMemory`. It takes nothing from what was answered.
     fn poll_request(
         &mut self,
         alloc: Global,

@@ -29,7 +29,7 @@ use Rattle.kube_asks.specs.declared.asks.AskFault.{AskFault}
 use Rattle.kube_asks.specs.declared.asks.AskFault.TheVariants as faults
 use Rattle.kube_asks.specs.declared.root.RootSource as root_source
 use Rattle.kube_asks.specs.declared.set.RelatedSet as related_set
-use Rattle.kube_step.specs.Asked.{AllStand, MayAsk, IsOneAsk, AreAsked, AreCutOff, AreEndedBy, AreGivenUntil, AreGivenOrLost, BringsNothing, IsCutInAsks, IsLeftOrLost, IsLostNext, IsUnnamedNext, AllGiven, AllStored, LastBrought, LastLost, LastNotGiven, NotAsked, AskedOnce, SourceLeft}
+use Rattle.kube_step.specs.Asked.{AllStand, MayAsk, IsOneAsk, AreAsked, AreCutOff, AreEndedBy, AreGivenUntil, AreGivenOrLost, BringsNothing, IsLeftOrLost, IsLostNext, IsUnnamedNext, AllGiven, AllStored, LastBrought, LastLost, LastNotGiven, NotAsked, AskedOnce, SourceLeft}
 use Rattle.kube_step.specs.Calls.{ArePolled}
 use Rattle.kube_step.specs.Controllers.{IsWorldOfAsks, AsksStand}
 use Rattle.kube_step.specs.Turns.{requests_first, AmongTakes, BeforeTakes, IsEndedBy}
@@ -94,6 +94,11 @@ source-is w h t xs o = go (is_shut h) (asks_shutdown t.shutdown) o
     go true b e = absurd (cc)
     go false true e = absurd (cc)
     go false false e = refl
+
+-- a source that is there
+pub some-source : (o : Option ℕ) → is_some o ≡ true → (source : ℕ) × (o ≡ Some source)
+some-source None e = absurd (cc)
+some-source (Some source) e = (source, refl)
 
 module _ {R S B O D : Type 0} (root : root_source.Ghosts R O D) (related : related_set.Ghosts S O D) (delays : backoff.Ghosts B) (object : resource.Ghosts O D) (w : World O B) (h : List (Step O)) (t : Turn) where
   -- what is kept is what was asked so far left
@@ -180,6 +185,9 @@ module _ {R S B O D : Type 0} (root : root_source.Ghosts R O D) (related : relat
 
     pub none-is : next_asked w t.budget (exchanges h) (dated t.at xs) at ≡ None → next_source w h t xs ≡ None
     none-is e = source-is w h t xs may.is_open ∙ (ap (next_asked w t.budget (exchanges h) (dated t.at xs)) now ∙ e)
+
+    pub left-is : is_some (next_asked w t.budget (exchanges h) (dated t.at xs) at) ≡ true → is_some (next_source w h t xs) ≡ true
+    left-is e = ap is_some (source-is w h t xs may.is_open ∙ ap (next_asked w t.budget (exchanges h) (dated t.at xs)) now) ∙ e
 
     same-world : root.kind a'.root ≡ root.kind a.root → root.feed a'.root ≡ root.feed a.root → related.feeds a'.related ≡ related.feeds a.related → IsWorldOfAsks root related delays object w a'
     same-world kind feed feeds =
@@ -323,10 +331,6 @@ module _ {R S B O D : Type 0} (root : root_source.Ghosts R O D) (related : relat
     stand = k.may.asks_stand.sources;
     rest = NotAsked refl refl;
   }
-
-  some-source : (o : Option ℕ) → is_some o ≡ true → (source : ℕ) × (o ≡ Some source)
-  some-source None e = absurd (cc)
-  some-source (Some source) e = (source, refl)
 
   -- what decides was given all of it then, and a source was left to ask
   pub given-lost : (es : List (CoreEvent O)) (a : Asking R S B) (xs : List (Exchange O)) (b : Asking R S B) (core' : Parts O D) → AreAsked root related delays object w h t es a xs b core'

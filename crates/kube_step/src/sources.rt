@@ -1,6 +1,6 @@
 //! The asks of a turn.
 
-ghost use Rattle.std.specs.Prelude.{◌≡◌, ◌<◌, ◌≤◌, ◌+◌, ◌^◌, ◌++◌, ◌∷◌, [], List, length, map, option_map, is_some, true, IfOk, IfErr, IfSome, OnOk, OnErr, None};
+ghost use Rattle.std.specs.Prelude.{◌≡◌, ◌<◌, ◌≤◌, ◌+◌, ◌^◌, ◌++◌, ◌∷◌, [], List, length, map, option_map, IfOk, IfErr, IfSome, OnOk, OnErr, None};
 ghost use Rattle.kube_model.specs.World.{World};
 ghost use Rattle.kube_model.specs.History.{Exchange, Step, Turn};
 ghost use Rattle.kube_model.specs.Turns.{next_source};
@@ -69,25 +69,6 @@ fn ask_one<R: RootSource, S: RelatedSet<R::Object>, B: Backoff>(
     Ok(Some(exchange))
 }
 
-/// All that were made, where no source is left to ask; there is no memory for one more.
-fn end<R: RootSource, S: RelatedSet<R::Object>, B: Backoff>(
-    asks: &Asks<R, S, B>,
-    all: Vec<SourceExchange<R::Object>>,
-    now: Moment,
-) -> Result<List<SourceExchange<R::Object>>, AskFault>
-    requires few { length (S.feeds asks.now.related) + 1 < 2 ^ 32 }
-    ensures all { IfOk result (λ xs. xs ≡ all.items) }
-    ensures done { OnOk result ((w : World R.Object B) (h : List (Step R.Object)) (t : Turn) (xs : List (Exchange R.Object)) (es : List (CoreEvent R.Object)) (core : Parts R.Object R.Object.DynamicType) → t.at ≡ now.0
-        → MayAsk R.RootSource S.RelatedSet B.Backoff R.Object.Resource w h t xs es asks.now core → next_source w h t xs ≡ None) }
-    ensures left { IfErr result (λ f. (f ≡ AskFault.NoMemory) × ((w : World R.Object B) (h : List (Step R.Object)) (t : Turn) (xs : List (Exchange R.Object)) (es : List (CoreEvent R.Object)) (core : Parts R.Object R.Object.DynamicType) → t.at ≡ now.0
-        → MayAsk R.RootSource S.RelatedSet B.Backoff R.Object.Resource w h t xs es asks.now core → is_some (next_source w h t xs) ≡ true)) }
-{
-    if asks.has_next(now) {
-        return Err(AskFault::NoMemory);
-    }
-    Ok(List::from(all))
-}
-
 /// Makes the exchanges of a turn, until none is left to make, and gives each to what decides.
 ///
 /// # Errors
@@ -123,9 +104,10 @@ pub fn ask_all<R: RootSource, S: RelatedSet<R::Object>, B: Backoff>(
 {
     let mut all = Vec::new(alloc);
     loop {
-        let Ok(()) = all.reserve(1) else {
-            return end(asks, all, now);
-        };
+        let has_place = asks.make_place(&mut all, now)?;
+        if !has_place {
+            return Ok(List::from(all));
+        }
         match ask_one(asks, core, alloc, now)? {
             Some(exchange) => all.push_reserved(exchange),
             None => return Ok(List::from(all)),

@@ -281,7 +281,7 @@ where
     } = turn;
     let closed = close(core, shutdown);
     let room = asks.room_for_stops(alloc)?;
-    asks.begin(alloc, Vec::from(budget))?;
+    asks.begin(Vec::from(budget))?;
     let finished = finish_all(core, error_policy, context, alloc, finishes, at)?;
     let exchanges = ask_where(!closed, asks, core, alloc, reload, on, at)?;
     let stops = asks.stops_in(room, closed);

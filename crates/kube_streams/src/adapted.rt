@@ -5,6 +5,7 @@ ghost use Rattle.kube_watch.specs.Asking.{Said};
 ghost use Rattle.kube_streams.specs.Adapts.{Asked, Comes, IsTaken};
 
 use kube_meta::{Moment, Next, NoMemory};
+use kube_watch::stream::fault_of;
 use kube_watch::{Error, Event, EventStream, StreamFault};
 use std::alloc::Global;
 use std::collections::VecDeque;
@@ -203,9 +204,7 @@ impl<S: EventStream, J: Drop, T: Adapt<S::Item, J>> EventStream for Adapted<S, T
             return Ok(Next::Item(first));
         }
         let answer = self.ask(alloc, now, fuel);
-        if let Err(fault) = &answer {
-            self.fault = Some(*fault);
-        }
+        self.fault = fault_of(&answer);
         answer
     }
 }

@@ -6,7 +6,7 @@ ghost use Rattle.kube_watch.specs.Asking.{Said, fault_in};
 
 use crate::backoff::Backoff;
 use kube_meta::{Moment, Next};
-use kube_watch::stream::ask;
+use kube_watch::stream::{ask, fault_of};
 use kube_watch::{Error, EventStream, StreamFault};
 use std::alloc::Global;
 use std::marker::Model;
@@ -62,7 +62,7 @@ impl<S: EventStream, B: Backoff> StreamBackoff<S, B> {
         ensures fault { self.new.fault ≡ fault_in answer.now }
     {
         self.state = State::Awake;
-        self.fault = None;
+        self.fault = fault_of(answer);
         match answer {
             Ok(Next::Item(Err(_))) => {
                 self.state = match self.backoff.next(now) {
@@ -71,8 +71,7 @@ impl<S: EventStream, B: Backoff> StreamBackoff<S, B> {
                 };
             }
             Ok(Next::Item(Ok(_))) | Ok(Next::End) => self.backoff.reset(),
-            Ok(Next::NotReady) | Ok(Next::Spent) => {}
-            Err(fault) => self.fault = Some(*fault),
+            Ok(Next::NotReady) | Ok(Next::Spent) | Err(_) => {}
         }
     }
 

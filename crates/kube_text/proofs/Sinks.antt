@@ -1,5 +1,5 @@
 -- Bytes that went to a sink one piece after another.
-use Rattle.std.proofs.Common.{◌≡◌, ℕ, ◌+◌, ◌-◌, ◌≤◌, Result, Ok, Err, OnErr, append-nil, List, [], ◌++◌, Option, Some, None, refl, sym, append_assoc, arith, take, drop, length, length-drop}
+use Rattle.std.proofs.Common.{◌≡◌, ℕ, ◌+◌, ◌-◌, ◌≤◌, append-nil, List, [], ◌++◌, Option, Some, None, refl, sym, append_assoc, arith, take, drop, length, length-drop}
 use Rattle.std.proofs.lemmas.List.{take_all}
 use Rattle.std.proofs.Math.Seq.{take-add}
 use Rattle.std.specs.Io.KnownBytes.{Appends, Keeps}
@@ -34,7 +34,3 @@ still_written None b c xs h k = tt
 still_written (Some a) None c xs h k = absurd h
 still_written (Some a) (Some b) None xs h k = absurd k
 still_written (Some a) (Some b) (Some c) xs h k = rw (k, h) refl
-
-pub on_err : {T E : Type 0} (r : Result T E) (P : Type 0) → P → OnErr r P
-on_err (Ok x) P p = tt
-on_err (Err e) P p = p

@@ -1,11 +1,11 @@
 -- What one call to an API answered, as it is recorded. V is the type of objects, and version gives the version of one.
-use Rattle.std.specs.Prelude.{◌≡◌, ◌⊎◌, ℕ, Bool, true, false, List, map, Option, Some}
+use Rattle.std.specs.Prelude.{◌≡◌, ◌⊎◌, ℕ, Bool, true, false, List, map, Option, Some, None}
 use Rattle.std.specs.Arc.{arc_value}
 use Rattle.kube_model.specs.declared.call.Answer.{Answer}
 use Rattle.kube_model.specs.declared.call.Answer.TheVariants.{Opened, Fault, End, NotReady, Idle, Spent}
 use Rattle.kube_model.specs.declared.call.Call.{Call}
 use Rattle.kube_model.specs.declared.call.Call.TheVariants.{Watch}
-use Rattle.kube_model.specs.Raw.{Raw, RawAnswer, Waits, Opens, Ends, grown}
+use Rattle.kube_model.specs.Raw.{Raw, RawAnswer, grown}
 use Rattle.kube_model.specs.Recorded.{raw_call, answer_of, items_of, IsAnsweredBy}
 use Rattle.kube_model.specs.World.{Settings}
 use Rattle.kube_meta.specs.declared.metadata.ObjectMeta.{ObjectMeta}
@@ -37,13 +37,9 @@ brings Opened (Watch version initial) = initial
 brings Opened call = false
 brings answer call = true
 
--- the same of an answer as it came
+-- the same of an answer as it came: the versions of its objects play no part
 abbrev pub brings_raw : {V : Type 0} → RawAnswer V → Call → Bool
-brings_raw Waits call = false
-brings_raw Ends call = false
-brings_raw Opens (Watch version initial) = initial
-brings_raw Opens call = false
-brings_raw answer call = true
+brings_raw raw = brings (answer_of (λ o. None) raw)
 
 -- the talk is as it was, or longer by this one call, whose answer brings something
 abbrev pub IsAskedOnce : {V : Type 0} → Settings → Call → Option (List (Raw V)) → Option (List (Raw V)) → Type 0

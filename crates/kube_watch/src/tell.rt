@@ -154,6 +154,8 @@ fn watch_events<V: Drop>(
 }
 
 /// What a call with its answer tells of the objects that came.
+///
+/// Errors: `NoMemory`, only where the answer brings something.
 pub fn events_of<V: Drop>(
     alloc: Global,
     initial: bool,

@@ -234,7 +234,17 @@ fn add_line(rt: &impl Abort, lines: &mut String, line: &str) {
     lines.push_str("\n").expect(rt, "memory");
 }
 
-/// Whether a source is asked next.
+/// Whether a source is asked next: then an empty list gets a place.
+fn has_next<R: Abort + Copy, B: Backoff>(
+    rt: &R,
+    alloc: Global,
+    asks: &Three<R, B>,
+    at: u64,
+) -> bool {
+    let mut empty = Vec::new(alloc);
+    asks.make_place(&mut empty, Moment(at)).expect(rt, "memory")
+}
+
 fn next_word(has_next: bool) -> &'static str {
     if has_next { "next:" } else { "no next:" }
 }
@@ -247,7 +257,7 @@ fn add_ask<R: Abort + Copy, B: Backoff>(
     at: u64,
     lines: &mut String,
 ) {
-    add_line(rt, lines, next_word(asks.has_next(Moment(at))));
+    add_line(rt, lines, next_word(has_next(rt, alloc, asks, at)));
     let asked = ask(rt, alloc, asks, at);
     add_line(rt, lines, asked.as_str());
 }
@@ -260,7 +270,7 @@ fn add_turn<R: Abort + Copy, B: Backoff>(
     turn: &Turn,
     lines: &mut String,
 ) {
-    asks.begin(alloc, budget(rt, alloc, turn.budget))
+    asks.begin(budget(rt, alloc, turn.budget))
         .expect(rt, "memory");
     for _wanted in turn.asked {
         add_ask(rt, alloc, asks, turn.at, lines);
@@ -556,8 +566,7 @@ const FAILING: &[Reply] = &[Reply::NotReady, Reply::Fault];
 
 /// What an ask gives, and a second one after the API of the root was lent and given other replies.
 fn lent<R: Abort + Copy>(rt: &R, alloc: Global, asks: &mut Three<R, StopBackoff>) -> String {
-    asks.begin(alloc, budget(rt, alloc, &[9]))
-        .expect(rt, "memory");
+    asks.begin(budget(rt, alloc, &[9])).expect(rt, "memory");
     let first = ask(rt, alloc, asks, 0);
     asks.root_api().replies = FAILING;
     let second = ask(rt, alloc, asks, 0);
@@ -597,7 +606,7 @@ fn listed<R: Abort + Copy>(rt: &R, alloc: Global) -> RelatedList<Ticks<R>>
 fn list_asked<R: Abort + Copy>(rt: &R, alloc: Global, asks: &mut Listed<R>) -> String
     requires { length asks.old.related.items.items ≡ 2 }
 {
-    asks.begin(alloc, budget(rt, alloc, &[0, 1, 1]))
+    asks.begin(budget(rt, alloc, &[0, 1, 1]))
         .expect(rt, "memory");
     let first = asked_once(rt, alloc, asks.next(alloc, Moment(0)));
     let second = asked_once(rt, alloc, asks.next(alloc, Moment(0)));

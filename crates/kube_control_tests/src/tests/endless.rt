@@ -1,8 +1,8 @@
 //! An API whose list never ends.
 
-use super::script::{PLAIN, kind, objects, one_turn, page, run, watching};
+use super::script::{PLAIN, kind, objects, one_turn, run, watching};
 use super::shown::{add_line, told_once};
-use kube_api::{ApiError, ApiMode, ListParams, Page, WatchEvent, WatchParams};
+use kube_api::{ApiError, ApiMode, ListParams, Page, ResultPage, WatchEvent, WatchParams};
 use kube_control::{Controller, DefaultBackoff, NoRelated, WatchRoot};
 use kube_meta::{DynamicObject, Moment, NoMemory, Polled};
 use kube_step::Recorder;
@@ -32,7 +32,12 @@ impl<R: Abort + Copy> ApiMode for Endless<R> {
         _now: Moment,
     ) -> Result<Polled<Result<Page<DynamicObject>, ApiError>>, NoMemory> {
         let objects = objects(&self.rt, alloc, &[("a", "1")]);
-        Ok(Polled::Ready(Ok(page(&self.rt, alloc, objects, "t", ""))))
+        let page = ResultPage::empty(alloc)
+            .continue_token(alloc, Some("t"))
+            .expect(&self.rt, "memory")
+            .items(objects)
+            .into_page();
+        Ok(Polled::Ready(Ok(page)))
     }
 
     fn watch(

@@ -270,6 +270,23 @@ const ROWS: &[Row] = &[
         ],
         false,
     ),
+    (
+        "a list that is complete replaces what was stored",
+        0,
+        &[
+            Given::Told(Apply(Named("a"))),
+            Given::Told(Init),
+            Given::Told(InitApply(Named("b"))),
+            Given::Told(InitDone),
+        ],
+        &[
+            ("Apply(a)", &[("a", "")]),
+            ("Init", &[("a", "")]),
+            ("InitApply(b)", &[("a", "")]),
+            ("InitDone", &[("b", "")]),
+        ],
+        true,
+    ),
 ];
 
 /// Checks what each poll gives, and what is then stored.

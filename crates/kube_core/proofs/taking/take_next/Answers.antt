@@ -1,8 +1,9 @@
 use Rattle.std.proofs.Common.{None, Some, option_map, sym, ap, ◌∙◌}
 use Rattle.std.specs.Arc.{arc_value}
 use Rattle.std.proofs.lemmas.Result.{IfOk-weaker, err_from_is_err_and}
+use Rattle.kube_model.proofs.Results.{on_err}
 use Rattle.kube_history.specs.CoreEvents.{next_candidate}
-use Rattle.kube_core.proofs.TakenSteps.{none-looked, one-looked, on-err, some-found}
+use Rattle.kube_core.proofs.TakenSteps.{none-looked, one-looked, some-found}
 use Rattle.kube_core.proofs.taking.take_next.Goals as goal
 
 pub returns-in_default-clause-first : goal.returns-in_default-clause-first
@@ -31,7 +32,7 @@ returns-in_err-found-clause-wanted g c =
 
 pub returns-clause-wanted : goal.returns-clause-wanted
 returns-clause-wanted g c =
-    on-err c.take_found.result _
+    on_err c.take_found.result _
     (λ core store qs rs s e.
     some-found core.key store (Some (arc_value c.in-Some-found.object)) (next_candidate core qs rs)
     (ap (λ o. Some (option_map arc_value o)) (sym c.in-Some-found.is) ∙ (ap (option_map (option_map arc_value)) (sym c.in-Some.is) ∙ c.in_ok-found.ensures.found core store qs rs s e)))

@@ -8,8 +8,8 @@ use Rattle.kube_feed.specs.Asked.{AreAsked, MayAsk}
 use Rattle.kube_feed.proofs.sources.ask_all.Given as goal
 
 -- as far as the loop has come
-abbrev pub invariant-loop-asks : goal.invariant-loop-asks
-invariant-loop-asks g l =
+abbrev pub invariant-loop-all : goal.invariant-loop-all
+invariant-loop-all g l =
     record {
       few : length (g.S.RelatedSet.feeds l.asks.related) + 1 < 2 ^ 32;
       root : g.R.RootSource.can_poll l.asks.root;
@@ -22,5 +22,5 @@ invariant-loop-asks g l =
     }
 
 -- each exchange uses up one of a budget
-abbrev pub decreases-loop-asks : goal.decreases-loop-asks
-decreases-loop-asks g l = total l.asks.kept.left
+abbrev pub decreases-loop-all : goal.decreases-loop-all
+decreases-loop-all g l = total l.asks.kept.left

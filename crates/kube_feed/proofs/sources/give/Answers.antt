@@ -1,5 +1,6 @@
-use Rattle.std.proofs.Common.{◌≡◌, List, [], ◌∷◌, Result, Ok, Err, OnErr, map, sym, ap, refl, subst, ◌∙◌, append-nil}
+use Rattle.std.proofs.Common.{◌≡◌, List, [], ◌∷◌, map, sym, ap, refl, subst, ◌∙◌, append-nil}
 use Rattle.kube_model.specs.Requests.{requested_at}
+use Rattle.kube_model.proofs.Results.{on_err}
 use Rattle.kube_history.specs.TurnCalls.{with_requests}
 use Rattle.kube_core.proofs.PendingSteps.{with-places}
 use Rattle.kube_core.specs.Pendings.{Stands}
@@ -15,15 +16,10 @@ returns-clause-stands g c core qs rs s =
     (c.in_ok-requests.ensures.messages ∙ (ap (map (message_of type_of)) c.as_slice.ensures ∙ sym (append-nil (map (message_of type_of) c.args.exchange.requests))))
     (c.request_each.ensures.stands core qs rs (with-places type_of core c.args.pending.now c.reserve_copies.new.self qs rs (ap (λ q. q.limit) same) (ap (λ q. q.schedule) same) (ap (λ q. q.running) same) s))
 
--- what holds, holds if there is an error
-on-any : {T E P : Type 0} (r : Result T E) → P → OnErr r P
-on-any (Ok value) p = tt
-on-any (Err error) p = p
-
 none-of : {A B : Type 0} (f : A → B) (xs : List A) → map f xs ≡ [] → xs ≡ []
 none-of f [] e = refl
 none-of f (x ∷ xs) e = absurd (cc)
 
 pub returns-in_err-requests-clause-brings : goal.returns-in_err-requests-clause-brings
 returns-in_err-requests-clause-brings g c =
-    on-any c.from_residual.result (λ n. c.in_err-requests.ensures.some (c.as_slice.ensures ∙ none-of (message_of g.K.Resource.type_of) c.args.exchange.requests n.0))
+    on_err c.from_residual.result _ (λ n. c.in_err-requests.ensures.some (c.as_slice.ensures ∙ none-of (message_of g.K.Resource.type_of) c.args.exchange.requests n.0))

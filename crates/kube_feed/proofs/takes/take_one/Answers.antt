@@ -1,8 +1,10 @@
-use Rattle.std.proofs.Common.{Result, Ok, Err, IfOk, OnErr, Some, None, is_some, option_map, ap, subst}
+use Rattle.std.proofs.Common.{Some, None, is_some, option_map, ap, subst}
 use Rattle.std.proofs.lemmas.Result.{err_from_is_err_and}
 use Rattle.std.specs.Arc.{arc_value}
+use Rattle.kube_model.proofs.Results.{on_err}
 use Rattle.kube_turn.specs.Views.{taken_of}
 use Rattle.kube_feed.specs.Takes.{IsLookedUp}
+use Rattle.kube_feed.proofs.Going.{both}
 use Rattle.kube_feed.proofs.Taking.{took-found}
 use Rattle.kube_feed.proofs.takes.take_one.Goals as goal
 
@@ -16,10 +18,6 @@ returns-in_default-found-clause-took g c core qs rs s =
     let k = subst (λ o. IsLookedUp g.K.Resource core qs rs (option_map (option_map arc_value) o) c.args.reader.now c.next_object.new.reader) c.in-Some.is (c.in_ok-found.ensures.looked_up core qs rs s) in
     let l = subst (λ o. IsLookedUp g.K.Resource core qs rs (Some (option_map arc_value o)) c.args.reader.now c.next_object.new.reader) c.in_default-found.is k in
     took-found g.K.Resource core qs rs c.args.reader.now None (taken_of g.K.Resource.type_of c.take_missing.result) c.take_missing.new.pending c.next_object.new.reader l (c.take_missing.ensures.first core qs rs s) (c.take_missing.ensures.stands core qs rs s)
-
-both : {T E : Type 0} (r : Result T E) (P Q S : T → Type 0) → ((x : T) → P x → Q x → S x) → IfOk r P → IfOk r Q → IfOk r S
-both (Ok x) P Q S f p q = f x p q
-both (Err e) P Q S f p q = tt
 
 pub returns-clause-took : goal.returns-clause-took
 returns-clause-took g c =
@@ -35,13 +33,9 @@ returns-in_err-found-clause-wanted g c =
     let p = err_from_is_err_and c.from_residual.result c.from_residual.ensures.1 in
     rw p.1 (λ core qs rs s. c.in_err-found.ensures.wanted core qs rs s)
 
-on-err : {T E : Type 0} (r : Result T E) (P : Type 0) → P → OnErr r P
-on-err (Ok t) P p = tt
-on-err (Err e) P p = p
-
 pub returns-clause-wanted : goal.returns-clause-wanted
 returns-clause-wanted g c =
-    on-err c.take_found.result _
+    on_err c.take_found.result _
     (λ core qs rs s.
     let k = subst (λ o. IsLookedUp g.K.Resource core qs rs (option_map (option_map arc_value) o) c.args.reader.now c.next_object.new.reader) c.in-Some.is (c.in_ok-found.ensures.looked_up core qs rs s) in
     ap is_some k.1)

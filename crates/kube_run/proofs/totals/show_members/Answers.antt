@@ -2,7 +2,7 @@ use Rattle.std.proofs.Common.{codes, ◌∙◌}
 use Rattle.serde_json.specs.Data.{Members}
 use Rattle.kube_run.specs.Summary.{count_member}
 use Rattle.kube_text.proofs.Fronts.{later_shown}
-use Rattle.kube_text.proofs.Sinks.{on_err}
+use Rattle.kube_model.proofs.Results.{on_err}
 use Rattle.kube_run.proofs.totals.show_members.Goals as goal
 
 pub returns-clause-members : goal.returns-clause-members

@@ -2,7 +2,7 @@ use Rattle.std.proofs.Common.{arith}
 use Rattle.kube_text.specs.Part.{AppendsPart}
 use Rattle.kube_text.specs.TraceText.{lines_text}
 use Rattle.kube_text.specs.TraceView.{seen_records}
-use Rattle.kube_text.proofs.Sinks.{on_err}
+use Rattle.kube_model.proofs.Results.{on_err}
 use Rattle.kube_run.proofs.Records.{next_record, one_more, part_written}
 use Rattle.kube_run.proofs.trace.write_records.Goals as goal
 

@@ -3,7 +3,8 @@ use Rattle.kube_text.specs.Refusals.{refusal_text}
 use Rattle.kube_text.specs.Part.{AppendsPart}
 use Rattle.kube_text.specs.TraceText.{lines_text}
 use Rattle.kube_text.specs.TraceView.{seen_records}
-use Rattle.kube_text.proofs.Sinks.{both_written, on_err}
+use Rattle.kube_model.proofs.Results.{on_err}
+use Rattle.kube_text.proofs.Sinks.{both_written}
 use Rattle.kube_run.proofs.trace.write_refused.Goals as goal
 
 pub returns-in_err-write_records-clause-part : goal.returns-in_err-write_records-clause-part

@@ -1,30 +1,19 @@
-use Rattle.std.proofs.Common.{◌≡◌, ◌++◌, ◌∷◌, ◌+◌, ◌<◌, ◌^◌, [], List, None, Result, Ok, Err, IfOk, IfErr, OnOk, map, length, refl, sym, ap, subst, ◌∙◌}
+use Rattle.std.proofs.Common.{◌≡◌, ◌++◌, ◌∷◌, ◌+◌, ◌<◌, ◌^◌, [], List, None, map, length, refl, sym, ap, subst, ◌∙◌}
 use Rattle.std.proofs.lemmas.List.{map-append}
 use Rattle.std.proofs.lemmas.Result.{err_from_is_err_and}
 use Rattle.std.specs.Option.{option_map}
 use Rattle.kube_history.specs.CoreEvents.{Answered}
+use Rattle.kube_model.specs.History.{dated, exchanges}
 use Rattle.kube_model.specs.Turns.{next_source}
 use Rattle.kube_turn.specs.Views.{exchange_of}
-use Rattle.kube_asks.specs.declared.asks.AskFault.{AskFault}
-use Rattle.kube_asks.specs.declared.asks.AskFault.TheVariants as faults
 use Rattle.kube_step.specs.Asked.{AreAsked, IsAsked}
-use Rattle.kube_step.proofs.Asking.{asked-push, asked-end, ended-lost, ended-until, given-lost, given-more}
+use Rattle.kube_step.proofs.Asking.{asked-push, asked-end, ended-lost, ended-until, given-lost, given-more, left-is, none-is}
 use Rattle.kube_step.proofs.sources.ask_all.Goals as goal
 
--- what is said of an answer that came
-ok-both : {T E D : Type 0} {P Q : T → Type 0} (r : Result T E) → ((x : T) → P x → D → Q x) → IfOk r P → OnOk r D → IfOk r Q
-ok-both (Ok x) f p d = f x p d
-ok-both (Err e) f p d = tt
-
--- what is said of want of memory
-no-memory : {T : Type 0} (r : Result T AskFault) (Q : AskFault → Type 0) (P : Type 0) → (P → Q faults.NoMemory) → IfErr r (λ f. (f ≡ faults.NoMemory) × P) → IfErr r Q
-no-memory (Ok x) Q P h e = tt
-no-memory (Err f) Q P h e = subst Q (sym e.0) (h e.1)
-
-pub loop-asks-preserved : goal.loop-asks-preserved
-loop-asks-preserved g c =
+pub loop-all-preserved : goal.loop-all-preserved
+loop-all-preserved g c =
     let e = c.in_ok-exchange.ensures in
-    let i = c.loop-asks.invariant in
+    let i = c.loop-all.invariant in
     let f = exchange_of g.R.Object.Resource.type_of in
     record {
       few = subst (λ (z : List _). length z + 1 < 2 ^ 32) (sym e.feeds) i.few;
@@ -35,69 +24,73 @@ loop-asks-preserved g c =
       handles = record { book = e.handles.book ∙ i.handles.book; readers = e.handles.readers ∙ i.handles.readers; shown = e.handles.shown ∙ i.handles.shown };
       asked = λ w h t es at may.
           let k = i.asked w h t es at may in
-          let xs = map f c.loop-asks.all.items in
-          let one = subst (λ o. IsAsked g.R.RootSource g.S.RelatedSet g.B.Backoff g.R.Object.Resource w h t xs (es ++ map (Answered t.at) xs) c.loop-asks.asks (option_map f o) c.ask_one.new.asks c.ask_one.new.core) c.in-Some.is
+          let xs = map f c.loop-all.all.items in
+          let one = subst (λ o. IsAsked g.R.RootSource g.S.RelatedSet g.B.Backoff g.R.Object.Resource w h t xs (es ++ map (Answered t.at) xs) c.loop-all.asks (option_map f o) c.ask_one.new.asks c.ask_one.new.core) c.in-Some.is
           (e.asked w h t xs (es ++ map (Answered t.at) xs) at k.may) in
           subst (λ ys. AreAsked g.R.RootSource g.S.RelatedSet g.B.Backoff g.R.Object.Resource w h t es c.args.asks.now ys c.ask_one.new.asks c.ask_one.new.core)
-          (sym (ap (map f) (c.push_reserved.ensures.items ∙ ap (λ zs. zs ++ c.in-Some.exchange ∷ []) c.reserve.ensures.items) ∙ map-append f c.loop-asks.all.items (c.in-Some.exchange ∷ [])))
-          (asked-push g.R.RootSource g.S.RelatedSet g.B.Backoff g.R.Object.Resource w h t es c.args.asks.now xs c.loop-asks.asks c.loop-asks.core (f c.in-Some.exchange) c.ask_one.new.asks c.ask_one.new.core k one);
+          (sym (ap (map f) (c.push_reserved.ensures.items ∙ ap (λ zs. zs ++ c.in-Some.exchange ∷ []) c.make_place.ensures.items) ∙ map-append f c.loop-all.all.items (c.in-Some.exchange ∷ [])))
+          (asked-push g.R.RootSource g.S.RelatedSet g.B.Backoff g.R.Object.Resource w h t es c.args.asks.now xs c.loop-all.asks c.loop-all.core (f c.in-Some.exchange) c.ask_one.new.asks c.ask_one.new.core k one);
     }
 
 pub returns-in-None-clause-asked : goal.returns-in-None-clause-asked
 returns-in-None-clause-asked g c w h t es at may =
     let f = exchange_of g.R.Object.Resource.type_of in
-    let k = c.loop-asks.invariant.asked w h t es at may in
-    let xs = map f c.loop-asks.all.items in
-    let one = subst (λ o. IsAsked g.R.RootSource g.S.RelatedSet g.B.Backoff g.R.Object.Resource w h t xs (es ++ map (Answered t.at) xs) c.loop-asks.asks (option_map f o) c.ask_one.new.asks c.ask_one.new.core) c.in-None.is
+    let k = c.loop-all.invariant.asked w h t es at may in
+    let xs = map f c.loop-all.all.items in
+    let one = subst (λ o. IsAsked g.R.RootSource g.S.RelatedSet g.B.Backoff g.R.Object.Resource w h t xs (es ++ map (Answered t.at) xs) c.loop-all.asks (option_map f o) c.ask_one.new.asks c.ask_one.new.core) c.in-None.is
     (c.in_ok-exchange.ensures.asked w h t xs (es ++ map (Answered t.at) xs) at k.may) in
-    subst (λ ys. AreAsked g.R.RootSource g.S.RelatedSet g.B.Backoff g.R.Object.Resource w h t es c.args.asks.now (map f ys) c.ask_one.new.asks c.ask_one.new.core × (next_source w h t (map f ys) ≡ None)) (sym (c.from.ensures ∙ c.reserve.ensures.items))
-    (asked-end g.R.RootSource g.S.RelatedSet g.B.Backoff g.R.Object.Resource w h t es c.args.asks.now xs c.loop-asks.asks c.loop-asks.core c.ask_one.new.asks c.ask_one.new.core k one.1 one.2 one.3, one.0)
+    subst (λ ys. AreAsked g.R.RootSource g.S.RelatedSet g.B.Backoff g.R.Object.Resource w h t es c.args.asks.now (map f ys) c.ask_one.new.asks c.ask_one.new.core × (next_source w h t (map f ys) ≡ None)) (sym (c.from-in-None.ensures ∙ c.make_place.ensures.items))
+    (asked-end g.R.RootSource g.S.RelatedSet g.B.Backoff g.R.Object.Resource w h t es c.args.asks.now xs c.loop-all.asks c.loop-all.core c.ask_one.new.asks c.ask_one.new.core k one.1 one.2 one.3, one.0)
 
 pub returns-in_err-exchange-clause-ended : goal.returns-in_err-exchange-clause-ended
 returns-in_err-exchange-clause-ended g c =
-    let p = err_from_is_err_and c.from_residual.result c.from_residual.ensures.1 in
+    let p = err_from_is_err_and c.from_residual-in_err-exchange.result c.from_residual-in_err-exchange.ensures.1 in
     rw (p.1, p.2) (λ w h t es at may.
-    let k = c.loop-asks.invariant.asked w h t es at may in
-    let xs = map (exchange_of g.R.Object.Resource.type_of) c.loop-asks.all.items in
+    let k = c.loop-all.invariant.asked w h t es at may in
+    let xs = map (exchange_of g.R.Object.Resource.type_of) c.loop-all.all.items in
     ended-until g.R.RootSource g.S.RelatedSet g.B.Backoff g.R.Object.Resource w h t c.in_err-exchange.field-0.0 es [] c.args.asks.now.root c.args.asks.now.related c.ask_one.new.asks.root c.ask_one.new.asks.related c.ask_one.new.core may.answers
-    (given-more g.R.RootSource g.S.RelatedSet g.B.Backoff g.R.Object.Resource w h t c.in_err-exchange.field-0.0 es c.args.asks.now xs c.loop-asks.asks c.loop-asks.core c.ask_one.new.asks.root c.ask_one.new.asks.related k c.ask_one.new.core
+    (given-more g.R.RootSource g.S.RelatedSet g.B.Backoff g.R.Object.Resource w h t c.in_err-exchange.field-0.0 es c.args.asks.now xs c.loop-all.asks c.loop-all.core c.ask_one.new.asks.root c.ask_one.new.asks.related k c.ask_one.new.core
     (c.in_err-exchange.ensures.left w h t xs (es ++ map (Answered t.at) xs) at k.may)))
 
 pub returns-in_err-exchange-clause-left : goal.returns-in_err-exchange-clause-left
 returns-in_err-exchange-clause-left g c =
-    let p = err_from_is_err_and c.from_residual.result c.from_residual.ensures.1 in
+    let p = err_from_is_err_and c.from_residual-in_err-exchange.result c.from_residual-in_err-exchange.ensures.1 in
     rw (p.1, p.2) (λ w h t es at may.
-    let k = c.loop-asks.invariant.asked w h t es at may in
-    let xs = map (exchange_of g.R.Object.Resource.type_of) c.loop-asks.all.items in
-    given-more g.R.RootSource g.S.RelatedSet g.B.Backoff g.R.Object.Resource w h t c.in_err-exchange.field-0.0 es c.args.asks.now xs c.loop-asks.asks c.loop-asks.core c.ask_one.new.asks.root c.ask_one.new.asks.related k c.ask_one.new.core
+    let k = c.loop-all.invariant.asked w h t es at may in
+    let xs = map (exchange_of g.R.Object.Resource.type_of) c.loop-all.all.items in
+    given-more g.R.RootSource g.S.RelatedSet g.B.Backoff g.R.Object.Resource w h t c.in_err-exchange.field-0.0 es c.args.asks.now xs c.loop-all.asks c.loop-all.core c.ask_one.new.asks.root c.ask_one.new.asks.related k c.ask_one.new.core
     (c.in_err-exchange.ensures.left w h t xs (es ++ map (Answered t.at) xs) at k.may))
 
 -- all that were made, where none is left to make
-pub returns-in_default-clause-asked : goal.returns-in_default-clause-asked
-returns-in_default-clause-asked g c =
+pub returns-then-not-has_place-clause-asked : goal.returns-then-not-has_place-clause-asked
+returns-then-not-has_place-clause-asked g c w h t es at may =
     let f = exchange_of g.R.Object.Resource.type_of in
-    ok-both c.end.result
-    (λ ys is done w h t es at may.
-    let k = c.loop-asks.invariant.asked w h t es at may in
-    let xs = map f c.loop-asks.all.items in
-    subst (λ zs. AreAsked g.R.RootSource g.S.RelatedSet g.B.Backoff g.R.Object.Resource w h t es c.args.asks.now (map f zs) c.loop-asks.asks c.loop-asks.core × (next_source w h t (map f zs) ≡ None)) (sym (is ∙ c.reserve.ensures.items))
-    (k, done w h t xs (es ++ map (Answered t.at) xs) c.loop-asks.core at k.may))
-    c.end.ensures.all c.end.ensures.done
+    let k = c.loop-all.invariant.asked w h t es at may in
+    let xs = map f c.loop-all.all.items in
+    subst (λ zs. AreAsked g.R.RootSource g.S.RelatedSet g.B.Backoff g.R.Object.Resource w h t es c.args.asks.now (map f zs) c.loop-all.asks c.loop-all.core × (next_source w h t (map f zs) ≡ None)) (sym (c.from.ensures ∙ c.make_place.ensures.items)) (
+      k,
+      none-is g.R.RootSource g.S.RelatedSet g.B.Backoff g.R.Object.Resource w h t xs (es ++ map (Answered t.at) xs) c.loop-all.asks c.loop-all.core k.may c.loop-all.asks c.args.now.0 at
+          (c.in_ok-has_place.ensures.done c.if-not-has_place.true w t.budget (exchanges h) (dated t.at xs) k.may.world k.may.asks_stand),
+    )
 
-pub returns-in_default-clause-ended : goal.returns-in_default-clause-ended
-returns-in_default-clause-ended g c =
-    no-memory c.end.result _ _
-    (λ left w h t es at may.
-    let k = c.loop-asks.invariant.asked w h t es at may in
-    let xs = map (exchange_of g.R.Object.Resource.type_of) c.loop-asks.all.items in
-    ended-lost g.R.RootSource g.S.RelatedSet g.B.Backoff g.R.Object.Resource w h t es c.args.asks.now xs c.loop-asks.asks c.loop-asks.core k (left w h t xs (es ++ map (Answered t.at) xs) c.loop-asks.core at k.may) c.loop-asks.core.writer.kept refl)
-    c.end.ensures.left
+-- a source was left to ask
+pub returns-in_err-has_place-clause-ended : goal.returns-in_err-has_place-clause-ended
+returns-in_err-has_place-clause-ended g c =
+    let p = err_from_is_err_and c.from_residual.result c.from_residual.ensures.1 in
+    rw (p.1, p.2) (λ w h t es at may.
+    let k = c.loop-all.invariant.asked w h t es at may in
+    let xs = map (exchange_of g.R.Object.Resource.type_of) c.loop-all.all.items in
+    ended-lost g.R.RootSource g.S.RelatedSet g.B.Backoff g.R.Object.Resource w h t es c.args.asks.now xs c.loop-all.asks c.loop-all.core k
+    (left-is g.R.RootSource g.S.RelatedSet g.B.Backoff g.R.Object.Resource w h t xs (es ++ map (Answered t.at) xs) c.loop-all.asks c.loop-all.core k.may c.loop-all.asks c.args.now.0 at
+    (c.in_err-has_place.ensures.left w t.budget (exchanges h) (dated t.at xs) k.may.world k.may.asks_stand))
+    c.loop-all.core.writer.kept refl)
 
-pub returns-in_default-clause-left : goal.returns-in_default-clause-left
-returns-in_default-clause-left g c =
-    no-memory c.end.result _ _
-    (λ left w h t es at may.
-    let k = c.loop-asks.invariant.asked w h t es at may in
-    let xs = map (exchange_of g.R.Object.Resource.type_of) c.loop-asks.all.items in
-    given-lost g.R.RootSource g.S.RelatedSet g.B.Backoff g.R.Object.Resource w h t es c.args.asks.now xs c.loop-asks.asks c.loop-asks.core k (left w h t xs (es ++ map (Answered t.at) xs) c.loop-asks.core at k.may))
-    c.end.ensures.left
+pub returns-in_err-has_place-clause-left : goal.returns-in_err-has_place-clause-left
+returns-in_err-has_place-clause-left g c =
+    let p = err_from_is_err_and c.from_residual.result c.from_residual.ensures.1 in
+    rw (p.1, p.2) (λ w h t es at may.
+    let k = c.loop-all.invariant.asked w h t es at may in
+    let xs = map (exchange_of g.R.Object.Resource.type_of) c.loop-all.all.items in
+    given-lost g.R.RootSource g.S.RelatedSet g.B.Backoff g.R.Object.Resource w h t es c.args.asks.now xs c.loop-all.asks c.loop-all.core k
+    (left-is g.R.RootSource g.S.RelatedSet g.B.Backoff g.R.Object.Resource w h t xs (es ++ map (Answered t.at) xs) c.loop-all.asks c.loop-all.core k.may c.loop-all.asks c.args.now.0 at
+    (c.in_err-has_place.ensures.left w t.budget (exchanges h) (dated t.at xs) k.may.world k.may.asks_stand)))

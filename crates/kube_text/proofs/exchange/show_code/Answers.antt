@@ -1,4 +1,4 @@
-use Rattle.kube_text.proofs.Sinks.{on_err}
+use Rattle.kube_model.proofs.Results.{on_err}
 use Rattle.kube_text.proofs.exchange.show_code.Goals as goal
 
 pub returns-in_err-member-in-ErrorItem-clause-front : goal.returns-in_err-member-in-ErrorItem-clause-front

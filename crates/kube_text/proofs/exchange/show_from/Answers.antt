@@ -2,7 +2,7 @@ use Rattle.std.proofs.Common.{sym}
 use Rattle.serde_json.specs.Data.{string}
 use Rattle.kube_text.proofs.Fronts.{later_shown}
 use Rattle.kube_text.proofs.Shown.{same_option}
-use Rattle.kube_text.proofs.Sinks.{on_err}
+use Rattle.kube_model.proofs.Results.{on_err}
 use Rattle.kube_text.proofs.exchange.show_from.Goals as goal
 
 pub returns-in_err-member-in-List-clause-front : goal.returns-in_err-member-in-List-clause-front

@@ -8,7 +8,7 @@ use Rattle.kube_text.specs.TraceText.{request_data, code_members, error_members,
 use Rattle.kube_turn.specs.Views.{exchange_of}
 use Rattle.kube_object.specs.Named.{named_type}
 use Rattle.kube_text.proofs.Fronts.{later_shown}
-use Rattle.kube_text.proofs.Sinks.{on_err}
+use Rattle.kube_model.proofs.Results.{on_err}
 use Rattle.kube_text.proofs.exchange.show_members.Goals as goal
 
 -- the members from one on, with the rest behind them

@@ -1,5 +1,5 @@
 use Rattle.std.proofs.Common.{sym}
-use Rattle.kube_text.proofs.Sinks.{on_err}
+use Rattle.kube_model.proofs.Results.{on_err}
 use Rattle.kube_text.proofs.exchange.show_text.Goals as goal
 
 pub returns-in_err-text_member-clause-front : goal.returns-in_err-text_member-clause-front

@@ -2,7 +2,7 @@ use Rattle.std.proofs.Common.{sym, ◌≡◌, codes, option_map, arith}
 use Rattle.serde_json.specs.Data.{string, member}
 use Rattle.kube_text.proofs.Fronts.{later_shown}
 use Rattle.kube_text.proofs.Shown.{same_option}
-use Rattle.kube_text.proofs.Sinks.{on_err}
+use Rattle.kube_model.proofs.Results.{on_err}
 use Rattle.kube_text.specs.TraceText.{text_or_null, version_members}
 use Rattle.kube_text.proofs.exchange.show_version.Goals as goal
 

@@ -8,7 +8,7 @@ use Rattle.kube_text.specs.Fields.{meta_members, sorted_fields}
 use Rattle.kube_text.specs.Shown.{member_if, member_tokens, array_of}
 use Rattle.kube_text.proofs.Fronts.{later_shown}
 use Rattle.kube_text.proofs.Shown.{same_option}
-use Rattle.kube_text.proofs.Sinks.{on_err}
+use Rattle.kube_model.proofs.Results.{on_err}
 use Rattle.kube_text.proofs.metadata.show_members.Goals as goal
 
 same : {A : Type 0} (xs : List A) → map (λ x. x) xs ≡ xs

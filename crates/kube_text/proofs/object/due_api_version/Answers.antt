@@ -6,7 +6,7 @@ use Rattle.kube_text.specs.Shown.{member_tokens, member_if}
 use Rattle.kube_text.specs.declared.object.Next.TheVariants as nexts
 use Rattle.kube_text.proofs.Fields.{front}
 use Rattle.kube_text.proofs.Fronts.{later_shown, members_more, more_yet}
-use Rattle.kube_text.proofs.Sinks.{on_err}
+use Rattle.kube_model.proofs.Results.{on_err}
 use Rattle.kube_text.proofs.object.due_api_version.Goals as goal
 
 pub returns-clause-members : goal.returns-clause-members

@@ -1,4 +1,4 @@
-use Rattle.kube_text.proofs.Sinks.{on_err}
+use Rattle.kube_model.proofs.Results.{on_err}
 use Rattle.kube_text.proofs.object.show_api_version.Goals as goal
 
 pub returns-in_ok-member-in-Some-clause-members : goal.returns-in_ok-member-in-Some-clause-members

@@ -10,7 +10,7 @@ use Rattle.kube_text.specs.Shown.{member_tokens}
 use Rattle.kube_text.proofs.Content.{Entry, kept_entry, sorted_rest, dropped_entry}
 use Rattle.kube_text.proofs.Numbers.{neither}
 use Rattle.kube_text.proofs.Fronts.{due_shown, more_yet}
-use Rattle.kube_text.proofs.Sinks.{on_err}
+use Rattle.kube_model.proofs.Results.{on_err}
 use Rattle.kube_text.proofs.object.show_content_members.Goals as goal
 
 pub loop-name-preserved-then-not-is_named : goal.loop-name-preserved-then-not-is_named

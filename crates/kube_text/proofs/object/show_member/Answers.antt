@@ -7,7 +7,7 @@ use Rattle.kube_text.specs.Shown.{member_tokens}
 use Rattle.kube_text.proofs.Fields.{past}
 use Rattle.kube_text.proofs.Shown.{member_shown}
 use Rattle.kube_text.proofs.Fronts.{due_shown, none_shown, value_front}
-use Rattle.kube_text.proofs.Sinks.{on_err}
+use Rattle.kube_model.proofs.Results.{on_err}
 use Rattle.kube_text.proofs.object.show_member.Goals as goal
 
 pub returns-clause-members : goal.returns-clause-members

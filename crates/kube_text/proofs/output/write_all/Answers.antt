@@ -1,5 +1,6 @@
 use Rattle.std.proofs.Common.{arith, sym, take, drop, take-append-drop}
-use Rattle.kube_text.proofs.Sinks.{written_then, within, still_written, on_err}
+use Rattle.kube_model.proofs.Results.{on_err}
+use Rattle.kube_text.proofs.Sinks.{written_then, within, still_written}
 use Rattle.kube_text.specs.Part.{AppendsPart}
 use Rattle.kube_text.proofs.output.write_all.Goals as goal
 

@@ -4,7 +4,7 @@ use Rattle.serde_json.specs.Written.{items_text}
 use Rattle.kube_text.specs.Part.{AppendsPart}
 use Rattle.kube_text.specs.Pieces.{Holds}
 use Rattle.kube_text.proofs.Lines.{front, next_due}
-use Rattle.kube_text.proofs.Sinks.{on_err}
+use Rattle.kube_model.proofs.Results.{on_err}
 use Rattle.kube_text.proofs.pieces.write_items.Goals as goal
 
 pub returns-in_err-line-clause-part : goal.returns-in_err-line-clause-part

@@ -3,7 +3,7 @@ use Rattle.serde_json.specs.Data.{number, unsigned}
 use Rattle.kube_text.specs.TraceText.{finish_members}
 use Rattle.kube_text.proofs.Fronts.{later_shown}
 use Rattle.kube_text.proofs.Shown.{same_option}
-use Rattle.kube_text.proofs.Sinks.{on_err}
+use Rattle.kube_model.proofs.Results.{on_err}
 use Rattle.kube_text.proofs.record.show_finish.Goals as goal
 
 pub returns-in_err-show_outcome-clause-front : goal.returns-in_err-show_outcome-clause-front

@@ -1,5 +1,5 @@
 use Rattle.kube_text.proofs.Fronts.{none_shown, value_front}
-use Rattle.kube_text.proofs.Sinks.{on_err}
+use Rattle.kube_model.proofs.Results.{on_err}
 use Rattle.kube_text.proofs.record.show_outcome.Goals as goal
 
 pub returns-in_err-null-in-Ok-clause-front : goal.returns-in_err-null-in-Ok-clause-front

@@ -5,7 +5,7 @@ use Rattle.kube_text.specs.Part.{AppendsPart}
 use Rattle.kube_text.specs.Shown.{array_of, member_if}
 use Rattle.kube_text.specs.TraceText.{Line, finish_data, stop_data, taken_data, line_members}
 use Rattle.kube_text.specs.TraceView.{seen_record}
-use Rattle.kube_text.proofs.Sinks.{on_err}
+use Rattle.kube_model.proofs.Results.{on_err}
 use Rattle.kube_text.proofs.record.write_members.Goals as goal
 
 -- the members from one on, with the rest behind them

@@ -6,7 +6,7 @@ use Rattle.kube_text.specs.Part.{AppendsPart}
 use Rattle.kube_text.specs.TraceText.{line_data, line_members, line_text}
 use Rattle.kube_text.specs.TraceView.{seen_record}
 use Rattle.kube_text.proofs.Lines.{begun, front, gone_too, more, part_gone, whole_gone}
-use Rattle.kube_text.proofs.Sinks.{on_err}
+use Rattle.kube_model.proofs.Results.{on_err}
 use Rattle.kube_text.proofs.record.write_record.Goals as goal
 
 pub returns-in_err-line-2-clause-part : goal.returns-in_err-line-2-clause-part

@@ -1,4 +1,4 @@
-use Rattle.kube_text.proofs.Sinks.{on_err}
+use Rattle.kube_model.proofs.Results.{on_err}
 use Rattle.kube_text.proofs.refusal.show_members.Goals as goal
 
 pub returns-in_ok-show_script-in-TooLong-clause-members : goal.returns-in_ok-show_script-in-TooLong-clause-members

@@ -1,7 +1,7 @@
 use Rattle.std.proofs.Common.{◌∙◌, codes}
 use Rattle.serde_json.specs.Data.{member, number, unsigned}
 use Rattle.kube_text.proofs.Fronts.{later_shown}
-use Rattle.kube_text.proofs.Sinks.{on_err}
+use Rattle.kube_model.proofs.Results.{on_err}
 use Rattle.kube_text.proofs.refusal.show_unnamed.Goals as goal
 
 pub returns-clause-members : goal.returns-clause-members

@@ -1,5 +1,5 @@
 use Rattle.kube_text.proofs.Fronts.{value_front}
-use Rattle.kube_text.proofs.Sinks.{on_err}
+use Rattle.kube_model.proofs.Results.{on_err}
 use Rattle.kube_text.proofs.show.member.Goals as goal
 
 pub returns-in_err-show-clause-front : goal.returns-in_err-show-clause-front

@@ -1,5 +1,5 @@
 use Rattle.kube_text.proofs.Fronts.{value_front, none_shown}
-use Rattle.kube_text.proofs.Sinks.{on_err}
+use Rattle.kube_model.proofs.Results.{on_err}
 use Rattle.kube_text.proofs.show.text_member.Goals as goal
 
 pub returns-in_err-string-clause-front : goal.returns-in_err-string-clause-front

@@ -9,7 +9,7 @@ use Rattle.kube_meta.specs.Writing.{object_data}
 use Rattle.kube_text.specs.TraceText.{reference_data, reason_data, taken_members, taken_with}
 use Rattle.kube_text.specs.TraceView.{seen_reference}
 use Rattle.kube_text.proofs.Fronts.{later_shown}
-use Rattle.kube_text.proofs.Sinks.{on_err}
+use Rattle.kube_model.proofs.Results.{on_err}
 use Rattle.kube_text.proofs.taken.show_members.Goals as goal
 
 is_some-option_map : {A B : Type 0} (f : A → B) (o : Option A) → is_some (option_map f o) ≡ is_some o

@@ -6,7 +6,7 @@ use Rattle.kube_model.specs.ReasonView.{reason_of}
 use Rattle.kube_text.specs.TraceView.{seen_reference}
 use Rattle.kube_text.proofs.Shown.{object_shown}
 use Rattle.kube_text.proofs.Fronts.{object_front, end_front}
-use Rattle.kube_text.proofs.Sinks.{on_err}
+use Rattle.kube_model.proofs.Results.{on_err}
 use Rattle.kube_text.proofs.taken.show_message.Goals as goal
 
 pub returns-clause-tokens : goal.returns-clause-tokens

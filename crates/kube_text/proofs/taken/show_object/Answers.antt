@@ -1,4 +1,4 @@
-use Rattle.kube_text.proofs.Sinks.{on_err}
+use Rattle.kube_model.proofs.Results.{on_err}
 use Rattle.kube_text.proofs.taken.show_object.Goals as goal
 
 pub returns-in_err-member-in-Some-clause-front : goal.returns-in_err-member-in-Some-clause-front

@@ -8,7 +8,7 @@ use Rattle.kube_text.specs.Part.{AppendsPart}
 use Rattle.kube_text.specs.Pieces.{Holds}
 use Rattle.kube_text.specs.TraceText.{taken_data}
 use Rattle.kube_text.proofs.Lines.{front}
-use Rattle.kube_text.proofs.Sinks.{on_err}
+use Rattle.kube_model.proofs.Results.{on_err}
 use Rattle.kube_text.proofs.Takes.{next_take}
 use Rattle.kube_text.proofs.taken.write_taken.Goals as goal
 

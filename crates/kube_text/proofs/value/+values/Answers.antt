@@ -4,7 +4,7 @@ use Rattle.serde_json.specs.View.{view, items_view, members_view}
 use Rattle.kube_text.specs.Shown.{items_left, member_tokens}
 use Rattle.kube_text.proofs.Fronts.{due_shown, left_front, none_shown, value_front}
 use Rattle.kube_text.proofs.Lines.{next_of}
-use Rattle.kube_text.proofs.Sinks.{on_err}
+use Rattle.kube_model.proofs.Results.{on_err}
 use Rattle.kube_text.proofs.value.+values.Goals as goal
 
 pub show_items-returns-in_err-show_value-clause-front : goal.show_items-returns-in_err-show_value-clause-front

@@ -1,23 +1,19 @@
 use Rattle.std.proofs.Common.{◌≡◌, true, List, Option, Some, inr, subst}
-use Rattle.std.specs.Prelude.{Result, Ok, Err, OnErr}
+use Rattle.std.specs.Prelude.{Result, OnErr}
 use Rattle.kube_model.specs.declared.call.Call.{Call}
 use Rattle.kube_model.specs.Raw.{Raw, grown}
 use Rattle.kube_model.specs.Recorded.{raw_call}
 use Rattle.kube_model.specs.World.{Settings}
+use Rattle.kube_model.proofs.Results.{on_err}
 use Rattle.kube_watch.specs.Calls.{IsAskedOnce, brings_raw, version_of}
 use Rattle.kube_watch.specs.Configs.{settings_of}
 use Rattle.kube_watch.proofs.Brings.{brought}
 use Rattle.kube_watch.proofs.watching.make_exchange.Goals as goal
 
--- what holds, holds if there is an error
-on_any : {T E P : Type 0} (r : Result T E) → P → OnErr r P
-on_any (Ok value) p = tt
-on_any (Err error) p = p
-
 -- the call was made, and is all that the talk grew by; its answer brings something
 once-made : {V T E : Type 0} (settings : Settings) (asked owed : Call) (old new : Option (List (Raw V))) (raw : Raw V) → raw_call settings asked ≡ Some raw.call → brings_raw raw.answer asked ≡ true → new ≡ grown old raw
     → asked ≡ owed → (r : Result T E) → OnErr r (IsAskedOnce settings owed old new)
-once-made settings asked owed old new raw call brings grows is r = on_any r (subst (λ k. IsAskedOnce settings k old new) is (inr (raw, call, brings, grows)))
+once-made settings asked owed old new raw call brings grows is r = on_err r _ (subst (λ k. IsAskedOnce settings k old new) is (inr (raw, call, brings, grows)))
 
 pub returns-in_err-error-clause-lost : goal.returns-in_err-error-clause-lost
 returns-in_err-error-clause-lost g c =

@@ -4,7 +4,7 @@ use Rattle.kube_turn.specs.Views.{exchange_of}
 use Rattle.kube_object.specs.Named.{named_type}
 use Rattle.kube_text.proofs.Shown.{object_shown}
 use Rattle.kube_text.proofs.Fronts.{object_front, end_front}
-use Rattle.kube_text.proofs.Sinks.{on_err}
+use Rattle.kube_model.proofs.Results.{on_err}
 use Rattle.kube_text.proofs.exchange.SourceExchangeScriptObjectShow.show.Goals as goal
 
 pub returns-clause-tokens : goal.returns-clause-tokens

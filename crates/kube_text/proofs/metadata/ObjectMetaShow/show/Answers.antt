@@ -5,7 +5,7 @@ use Rattle.kube_text.specs.Shown.{tokens_of}
 use Rattle.kube_text.proofs.Fields.{meta_in_order}
 use Rattle.kube_text.proofs.Shown.{object_shown}
 use Rattle.kube_text.proofs.Fronts.{object_front, end_front}
-use Rattle.kube_text.proofs.Sinks.{on_err}
+use Rattle.kube_model.proofs.Results.{on_err}
 use Rattle.kube_text.proofs.metadata.ObjectMetaShow.show.Goals as goal
 
 pub returns-clause-tokens : goal.returns-clause-tokens

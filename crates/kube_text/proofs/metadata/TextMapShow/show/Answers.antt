@@ -1,5 +1,5 @@
 use Rattle.kube_text.proofs.Fronts.{due_shown, none_shown, object_front, value_front}
-use Rattle.kube_text.proofs.Sinks.{on_err}
+use Rattle.kube_model.proofs.Results.{on_err}
 use Rattle.std.proofs.Common.{◌≡◌, ◌++◌, ◌∙◌, ap, sym}
 use Rattle.serde_json.specs.Data.{member, string}
 use Rattle.kube_meta.specs.Pairs.{pairs_of}

@@ -8,7 +8,7 @@ use Rattle.kube_text.specs.declared.object.Next.TheVariants as nexts
 use Rattle.kube_text.proofs.Fields.{object_as_fields}
 use Rattle.kube_text.proofs.Shown.{object_shown}
 use Rattle.kube_text.proofs.Fronts.{due_shown, none_shown, object_front}
-use Rattle.kube_text.proofs.Sinks.{on_err}
+use Rattle.kube_model.proofs.Results.{on_err}
 use Rattle.kube_text.proofs.object.ScriptObjectShow.show.Goals as goal
 
 pub returns-clause-tokens : goal.returns-clause-tokens

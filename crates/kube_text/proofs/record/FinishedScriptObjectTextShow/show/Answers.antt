@@ -3,7 +3,7 @@ use Rattle.kube_text.specs.TraceText.{finish_data, finish_members}
 use Rattle.kube_text.specs.TraceView.{seen_finish}
 use Rattle.kube_text.proofs.Shown.{object_shown}
 use Rattle.kube_text.proofs.Fronts.{object_front, end_front}
-use Rattle.kube_text.proofs.Sinks.{on_err}
+use Rattle.kube_model.proofs.Results.{on_err}
 use Rattle.kube_text.proofs.record.FinishedScriptObjectTextShow.show.Goals as goal
 
 pub returns-clause-tokens : goal.returns-clause-tokens

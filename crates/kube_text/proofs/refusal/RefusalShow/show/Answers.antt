@@ -2,7 +2,7 @@ use Rattle.serde_json.specs.Data.{no_members}
 use Rattle.kube_text.specs.Refusals.{refusal_data, refusal_members}
 use Rattle.kube_text.proofs.Shown.{object_shown}
 use Rattle.kube_text.proofs.Fronts.{object_front, end_front}
-use Rattle.kube_text.proofs.Sinks.{on_err}
+use Rattle.kube_model.proofs.Results.{on_err}
 use Rattle.kube_text.proofs.refusal.RefusalShow.show.Goals as goal
 
 pub returns-clause-tokens : goal.returns-clause-tokens

@@ -2,7 +2,7 @@ use Rattle.std.proofs.Common.{◌++◌, ◌<◌, ◌∙◌, arith, ap, length, m
 use Rattle.kube_text.specs.Shown.{item_tokens}
 use Rattle.kube_text.proofs.Fronts.{due_shown, item_front, list_front, none_shown}
 use Rattle.kube_text.proofs.Lines.{next_of}
-use Rattle.kube_text.proofs.Sinks.{on_err}
+use Rattle.kube_model.proofs.Results.{on_err}
 use Rattle.kube_text.proofs.show.ListShow.show.Goals as goal
 
 pub returns-in_err-show-clause-front : goal.returns-in_err-show-clause-front

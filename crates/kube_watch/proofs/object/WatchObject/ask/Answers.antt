@@ -1,6 +1,6 @@
 use Rattle.std.proofs.Common.{◌≡◌, arith}
+use Rattle.kube_model.proofs.Results.{on_err}
 use Rattle.kube_watch.specs.Objects.{found_of}
-use Rattle.std.specs.Prelude.{Result, Ok, Err, OnErr}
 use Rattle.kube_watch.proofs.Objects.{none-made, one-more, ended-found, ended-unready, went-on, ended-spent, lost-quiet}
 use Rattle.kube_watch.proofs.object.WatchObject.ask.Goals as goal
 
@@ -32,12 +32,7 @@ returns-clause-asked g c none =
     let all : c.loop-asked._asked ≡ c.args.fuel = (let a = c.loop-asked.auto._asked-end in let b = c.loop-asked-test.false in omega arith) in
     ended-spent _ c.args.now.0 c.loop-asked._asked c.args.fuel c.args.self.now c.loop-asked.self (c.loop-asked.invariant none) all none
 
--- what holds, holds if there is an error
-on_any : {T E P : Type 0} (r : Result T E) → P → OnErr r P
-on_any (Ok value) p = tt
-on_any (Err error) p = p
-
 pub returns-in_err-ready-clause-lost : goal.returns-in_err-ready-clause-lost
 returns-in_err-ready-clause-lost g c none =
-    on_any c.from_residual.result
+    on_err c.from_residual.result _
     (lost-quiet _ c.args.now.0 c.loop-asked._asked c.args.fuel c.args.self.now c.loop-asked.self _ c.fill.new.self c.self.view_is (c.loop-asked.invariant none) c.loop-asked-test.true c.in_err-ready.ensures.lost)

@@ -1,5 +1,5 @@
 use Rattle.std.proofs.Common.{◌≡◌, false, sym, subst, arith}
-use Rattle.std.specs.Prelude.{Result, Ok, Err, OnErr}
+use Rattle.kube_model.proofs.Results.{on_err}
 use Rattle.kube_watch.specs.Stands.{is_spent}
 use Rattle.kube_watch.specs.Watching.{told_of}
 use Rattle.kube_watch.proofs.Polls.{none-made, one-more, ended-told, ended-unready, went-on, ended-spent, lost-quiet}
@@ -36,14 +36,9 @@ loop-asked-preserved g c =
 pub returns-clause-unspent : goal.returns-clause-unspent
 returns-clause-unspent g c unspent = c.loop-asked.invariant.unspent unspent
 
--- what holds, holds if there is an error
-on_any : {T E P : Type 0} (r : Result T E) → P → OnErr r P
-on_any (Ok value) p = tt
-on_any (Err error) p = p
-
 pub returns-in_err-ready-clause-lost : goal.returns-in_err-ready-clause-lost
 returns-in_err-ready-clause-lost g c none =
-    on_any c.from_residual.result
+    on_err c.from_residual.result _
     (lost-quiet _ c.args.now.0 c.loop-asked._asked c.args.fuel c.args.self.now c.loop-asked.self c.fill.new.self (c.loop-asked.invariant.quiet none) c.loop-asked-test.true none c.in_err-ready.ensures.lost)
 
 pub returns-clause-asked : goal.returns-clause-asked

@@ -1,8 +1,8 @@
 use Rattle.std.proofs.Common.{◌≡◌, true, Some, [], ◌∙◌, ap, inr, map, subst}
-use Rattle.std.specs.Prelude.{Result, Ok, Err, OnErr}
 use Rattle.std.specs.Arc.{arc_value}
 use Rattle.kube_model.specs.Owed.{seen}
 use Rattle.kube_model.specs.Recorded.{raw_call}
+use Rattle.kube_model.proofs.Results.{on_err}
 use Rattle.kube_watch.specs.Calls.{brings_raw, version_of}
 use Rattle.kube_watch.specs.Stands.{exchanges_in, settings_in}
 use Rattle.kube_watch.specs.Table.{Row, table}
@@ -29,11 +29,6 @@ returns-clause-quiet g c h =
     let settings = settings_in c.args.self.now in
     c.in_ok-events.ensures.told settings [] ∙ tells-nothing settings [] u.initial u.call u.answer _ h
 
--- what holds, holds if there is an error
-on_any : {T E P : Type 0} (r : Result T E) → P → OnErr r P
-on_any (Ok value) p = tt
-on_any (Err error) p = p
-
 -- the call was made, and is all that the talk grew by; its answer brings something
 pub returns-in_err-events-clause-lost : goal.returns-in_err-events-clause-lost
 returns-in_err-events-clause-lost g c =
@@ -41,7 +36,7 @@ returns-in_err-events-clause-lost g c =
     let e = c.in_ok-initial.ensures in
     let settings = settings_in c.args.self.now in
     let talk = g.A.ApiMode.talk in
-    on_any c.from_residual-in_err-events.result
+    on_err c.from_residual-in_err-events.result _
     (λ ds h. inr (
       e.talk.0,
       subst (λ k. raw_call settings k ≡ Some e.talk.0.call) (e.owed ds h) e.talk.1.call,
