@@ -32,6 +32,23 @@ def load_rt():
     return made
 
 
+def remember_stamps(rtlib):
+    """Has each crate's stamp reckoned once for as long as its files stay as they are: rtlib reckons those of all crates below anew each time."""
+    reckon, known = rtlib.Crate.stamp, {}
+
+    def looks(crate):
+        files = [os.stat(it) for it in rtlib.files_of(crate.folder)]
+        return tuple((it.st_ino, it.st_mtime_ns, it.st_size) for it in files)
+
+    def stamp(crate):
+        key = crate.name, tuple(looks(it) for it in [crate, *crate.below()])
+        if key not in known:
+            known[key] = reckon(crate)
+        return known[key]
+
+    rtlib.Crate.stamp = stamp
+
+
 def text_of(path):
     if not os.path.isfile(path):
         return None
@@ -96,6 +113,7 @@ def main():
     sys.argv = ['rt', 'version']
     rt = load_rt()
     rt.rtlib.stop = rt.stop
+    remember_stamps(rt.rtlib)
     rt.Crate.cuts_libraries, rt.rtlib.Crate = True, rt.Crate
     rt.rtlib.guarded()
     rt.Crate.allowed = rt.handles_of(os.getcwd())
