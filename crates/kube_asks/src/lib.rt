@@ -15,7 +15,7 @@ pub mod sets;
 pub mod watch_root;
 
 pub use asks::{AskFault, Asks};
-pub use kube_streams::Backoff;
+pub use kube_backoff::Backoff;
 pub use kube_turn::{ReconcileRequest, SourceExchange};
 pub use kube_watch::StreamFault;
 pub use mapper::{ByFunction, ByLabel, Mapper, Owners};

@@ -14,7 +14,7 @@ use Rattle.kube_model.specs.Asks.{has_run_dry, in_turn}
 use Rattle.kube_history.specs.CoreWorld.{CoreWorld, core_world}
 use Rattle.kube_history.specs.CoreEvents.{CoreEvent, running_of}
 use Rattle.kube_history.specs.Agrees.{Agrees}
-use Rattle.kube_streams.specs.declared.backoff.Backoff as backoff
+use Rattle.kube_backoff.specs.declared.backoff.Backoff as backoff
 use Rattle.kube_reflect.specs.Exchanged.{IsLeftBy}
 use Rattle.kube_core.specs.Cores.{IsOfType, Parts, StandsFor as CoreStands}
 use Rattle.kube_core.specs.Pendings.{Stands}

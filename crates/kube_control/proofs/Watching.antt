@@ -5,7 +5,7 @@ use Rattle.kube_meta.specs.declared.resource.Resource as resource
 use Rattle.kube_model.specs.World.{World, Settings, Streamed, Watched}
 use Rattle.kube_model.specs.History.{Dated, Exchange, Step}
 use Rattle.kube_model.specs.Named.{AreNamed}
-use Rattle.kube_streams.specs.declared.backoff.Backoff as backoff
+use Rattle.kube_backoff.specs.declared.backoff.Backoff as backoff
 use Rattle.kube_watch.specs.Stands.{exchanges_in}
 use Rattle.kube_asks.specs.declared.root.RootSource as root_source
 use Rattle.kube_asks.specs.declared.set.RelatedSet as related_set

@@ -5,7 +5,7 @@ use Rattle.kube_meta.specs.declared.resource.Resource as resource
 use Rattle.kube_model.specs.World.{World}
 use Rattle.kube_model.specs.History.{Step}
 use Rattle.kube_model.specs.Traces.{has_ended, last_moment}
-use Rattle.kube_streams.specs.declared.backoff.Backoff as backoff
+use Rattle.kube_backoff.specs.declared.backoff.Backoff as backoff
 use Rattle.kube_core.specs.Cores.{Parts}
 use Rattle.kube_asks.specs.Asking.{Asking}
 use Rattle.kube_asks.specs.declared.root.RootSource as root_source

@@ -9,7 +9,7 @@ use Rattle.kube_model.specs.Named.{RootIsNamed, EachIsNamed, AreNamedTurns}
 use Rattle.kube_model.specs.Raw.{grown_by}
 use Rattle.kube_model.specs.Takes.{running}
 use Rattle.kube_model.specs.Traces.{IsRecord, IsTrace, IsValid, has_ended, last_moment, step, steps, unread}
-use Rattle.kube_streams.specs.declared.backoff.Backoff as backoff
+use Rattle.kube_backoff.specs.declared.backoff.Backoff as backoff
 use Rattle.kube_reflect.specs.Cached.{Kept}
 use Rattle.kube_reflect.specs.Exchanged.{IsLeftBy}
 use Rattle.kube_asks.specs.declared.asks.AskFault.{AskFault}

@@ -12,6 +12,7 @@ pub use kube_asks::{
     AskFault, Asks, Backoff, Beside, ByFunction, ByLabel, Mapper, NoRelated, One, Owners, Related,
     RelatedList, RelatedSet, RelatedWatch, RootSource, WatchRoot,
 };
+pub use kube_backoff::DefaultBackoff;
 pub use kube_core::Core;
 pub use kube_fed::RelatedStream;
 pub use kube_meta::Action;
@@ -20,7 +21,6 @@ pub use kube_model::error::{RunnerError, WriterDropped};
 pub use kube_model::reason::ReconcileReason;
 pub use kube_model::turn::{Shutdown, Stop};
 pub use kube_step::{BadTurn, Handed, Reconciler, Recorder};
-pub use kube_streams::DefaultBackoff;
 pub use kube_trigger::{
     TriggerOthers, TriggerOwners, TriggerSelf, TriggerWith, trigger_others, trigger_owners,
     trigger_owners_shared, trigger_self, trigger_with,

@@ -11,7 +11,7 @@ use Rattle.kube_model.specs.Owed.{mark}
 use Rattle.kube_model.specs.Pause.{Pause, pause_of}
 use Rattle.kube_watch.specs.Stands.{exchanges_in}
 use Rattle.kube_history.specs.CoreWorld.{core_world}
-use Rattle.kube_streams.specs.declared.backoff.Backoff as backoff
+use Rattle.kube_backoff.specs.declared.backoff.Backoff as backoff
 use Rattle.kube_core.specs.Pendings.{Parts as Pending, Stands as PendingStands}
 use Rattle.kube_asks.specs.Asking.{Asking, IsWorldOf, SourcesStand}
 use Rattle.kube_asks.specs.Places.{Either}

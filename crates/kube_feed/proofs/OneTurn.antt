@@ -20,7 +20,7 @@ use Rattle.kube_model.specs.Traces.{AreFinishesOf, IsRecord, IsValid}
 use Rattle.kube_history.specs.CoreWorld.{core_world}
 use Rattle.kube_history.specs.TurnCalls.{ReaderAnswers, with_requests}
 use Rattle.kube_history.proofs.TurnParts.{none-next}
-use Rattle.kube_streams.specs.declared.backoff.Backoff as backoff
+use Rattle.kube_backoff.specs.declared.backoff.Backoff as backoff
 use Rattle.kube_reflect.specs.Writers.{Reader}
 use Rattle.kube_core.specs.Pendings.{Parts as Pending, Stands as PendingStands}
 use Rattle.kube_asks.specs.Asking.{Asking, AskStands, IsWorldOf, asking_begun}

@@ -12,7 +12,7 @@ use Rattle.kube_model.specs.History.{Turn, TurnRecord, Step, dated, exchanges}
 use Rattle.kube_model.specs.Named.{AreNamedTurns, RootIsNamed}
 use Rattle.kube_model.specs.Takes.{running}
 use Rattle.kube_model.specs.Traces.{IsRecord, IsRefusedAfter, IsTrace, Made, Refusal, has_ended, refusal, step, steps}
-use Rattle.kube_streams.specs.declared.backoff.Backoff as backoff
+use Rattle.kube_backoff.specs.declared.backoff.Backoff as backoff
 use Rattle.kube_reflect.specs.Writers.{Reader}
 use Rattle.kube_asks.specs.Asking.{Asking}
 use Rattle.kube_asks.specs.declared.asks.AskFault.{AskFault}

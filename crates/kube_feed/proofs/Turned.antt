@@ -23,7 +23,7 @@ use Rattle.kube_history.specs.InTurn.{AreTaken, look_so}
 use Rattle.kube_history.specs.TurnCalls.{TakesBy, ReaderAnswers, ReadsBy, with_requests}
 use Rattle.kube_history.specs.TurnEvents.{was_over}
 use Rattle.kube_history.proofs.TurnCalls.{makes}
-use Rattle.kube_streams.specs.declared.backoff.Backoff as backoff
+use Rattle.kube_backoff.specs.declared.backoff.Backoff as backoff
 use Rattle.kube_core.specs.Pendings.{Stands as PendingStands}
 use Rattle.kube_asks.specs.Asking.{Asking}
 use Rattle.kube_asks.specs.declared.root.RootSource as root_source

@@ -10,7 +10,7 @@ use Rattle.kube_model.specs.Takes.{running}
 use Rattle.kube_model.specs.Traces.{has_ended, last_moment}
 use Rattle.kube_history.specs.CoreWorld.{core_world}
 use Rattle.kube_history.specs.TurnEvents.{was_over}
-use Rattle.kube_streams.specs.declared.backoff.Backoff as backoff
+use Rattle.kube_backoff.specs.declared.backoff.Backoff as backoff
 use Rattle.kube_reflect.specs.Writers.{Reader}
 use Rattle.kube_core.specs.Pendings.{Parts as Pending, Stands as PendingStands}
 use Rattle.kube_asks.specs.Asking.{Asking}

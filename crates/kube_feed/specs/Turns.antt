@@ -20,7 +20,7 @@ use Rattle.kube_model.specs.Traces.{EachIsNext, IsRecord, Made, step}
 use Rattle.kube_history.specs.CoreWorld.{CoreWorld, core_world}
 use Rattle.kube_history.specs.InTurn.{AreTaken, look_so}
 use Rattle.kube_history.specs.TurnCalls.{with_requests}
-use Rattle.kube_streams.specs.declared.backoff.Backoff as backoff
+use Rattle.kube_backoff.specs.declared.backoff.Backoff as backoff
 use Rattle.kube_reflect.specs.Writers.{Reader}
 use Rattle.kube_core.specs.Pendings.{Parts as Pending, Stands as PendingStands}
 use Rattle.kube_turn.specs.declared.turn.Turn.{Turn as HeldTurn}

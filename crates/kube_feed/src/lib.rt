@@ -17,10 +17,10 @@ pub use kube_asks::{
     Backoff, Beside, ByFunction, ByLabel, Mapper, NoRelated, One, Owners, Related, RelatedList,
     RelatedSet, RelatedWatch, RootSource,
 };
+pub use kube_backoff::DefaultBackoff;
 pub use kube_control::RunError;
 pub use kube_fed::{QueueRoot, RelatedStream, StreamRoot};
 pub use kube_reflect::Store;
 pub use kube_step::{BadTurn, Handed, Reconciler, Recorder};
-pub use kube_streams::DefaultBackoff;
 pub use kube_turn::{Config, Finish, Finished, ReconcileRequest, Taken, Trace, Turn, TurnRecord};
 pub use queued::{Applier, NoBackoff, applier};

@@ -8,7 +8,7 @@ use Rattle.kube_model.specs.Recorded.{AreRecorded}
 use Rattle.kube_model.specs.Traces.{steps}
 use Rattle.kube_server.specs.History.{Change, IsHistory}
 use Rattle.kube_server.specs.Honest.{Selection, IsHonest}
-use Rattle.kube_streams.specs.declared.backoff.Backoff as backoff
+use Rattle.kube_backoff.specs.declared.backoff.Backoff as backoff
 use Rattle.kube_watch.specs.Calls.{version_of}
 use Rattle.kube_asks.specs.declared.root.RootSource as root_source
 use Rattle.kube_asks.specs.declared.set.RelatedSet as related_set

@@ -13,7 +13,7 @@ use Rattle.kube_model.specs.Named.{RootIsNamed}
 use Rattle.kube_model.specs.Stored.{store_after}
 use Rattle.kube_model.specs.Traces.{IsTrace, has_ended, steps, unread}
 use Rattle.kube_model.specs.World.{World}
-use Rattle.kube_streams.specs.declared.backoff.Backoff as backoff
+use Rattle.kube_backoff.specs.declared.backoff.Backoff as backoff
 use Rattle.kube_reflect.specs.Cached.{keyed}
 use Rattle.kube_reflect.specs.Exchanged.{all_keyed}
 use Rattle.kube_asks.specs.declared.root.RootSource as root_source

@@ -8,7 +8,7 @@ use Rattle.kube_model.specs.History.{Exchange, Turn, TurnRecord}
 use Rattle.kube_model.specs.Named.{AreNamedTurns, RootIsNamed}
 use Rattle.kube_model.specs.Traces.{IsTrace, has_ended, steps, unread}
 use Rattle.kube_model.specs.World.{World}
-use Rattle.kube_streams.specs.declared.backoff.Backoff as backoff
+use Rattle.kube_backoff.specs.declared.backoff.Backoff as backoff
 use Rattle.kube_asks.specs.declared.root.RootSource as root_source
 use Rattle.kube_asks.specs.declared.set.RelatedSet as related_set
 use Rattle.kube_object.specs.Named.{Named}

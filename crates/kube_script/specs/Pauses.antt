@@ -1,7 +1,7 @@
 -- How long the controller of a script pauses after an error, in nanoseconds. (Crate: `DefaultBackoff`, `StopBackoff`, `ExponentialBackoff`.)
 use Rattle.std.specs.Prelude.{ℕ, Option, Some, None}
-use Rattle.kube_streams.specs.Backoffs.{Exponential as Growing, asked_at, default_backoff, next_delay, restarted_exponential}
-use Rattle.kube_streams.specs.declared.plain_backoffs.StopBackoff.{StopBackoff}
+use Rattle.kube_backoff.specs.Backoffs.{Exponential as Growing, asked_at, default_backoff, next_delay, restarted_exponential}
+use Rattle.kube_backoff.specs.declared.plain_backoffs.StopBackoff.{StopBackoff}
 use Rattle.kube_script.specs.Script as script
 use Rattle.kube_script.specs.declared.backoff.ScriptBackoff.{ScriptBackoff}
 use Rattle.kube_script.specs.declared.backoff.ScriptBackoff.TheVariants.{ByDefault, Stopping, Exponential}

@@ -5,8 +5,8 @@ ghost use Rattle.kube_script.specs.Pauses.{backoff_of, delay_at, delayed_at, beg
 ghost use Rattle.kube_script.specs.Seen.{seen_backoff};
 
 use crate::settings::BackoffRow;
+use kube_backoff::{Backoff, DefaultBackoff, ExponentialBackoff, StopBackoff};
 use kube_meta::Moment;
-use kube_streams::{Backoff, DefaultBackoff, ExponentialBackoff, StopBackoff};
 
 /// How the controller of a script pauses after errors.
 #[derive(Debug, Drop)]

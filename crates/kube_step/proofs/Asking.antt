@@ -20,7 +20,7 @@ use Rattle.kube_history.specs.Legal.{MayBeAnswered}
 use Rattle.kube_history.proofs.Answerable.{answerable, shaped}
 use Rattle.kube_history.proofs.Segments.{answers-append}
 use Rattle.kube_history.proofs.TurnParts.{turn-fits}
-use Rattle.kube_streams.specs.declared.backoff.Backoff as backoff
+use Rattle.kube_backoff.specs.declared.backoff.Backoff as backoff
 use Rattle.kube_reflect.specs.Cached.{Kept}
 use Rattle.kube_reflect.specs.Exchanged.{IsLeftBy}
 use Rattle.kube_core.specs.Cores.{Parts, StandsFor as CoreStands, with_room}

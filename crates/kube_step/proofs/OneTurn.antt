@@ -21,7 +21,7 @@ use Rattle.kube_history.specs.TurnEvents.{before_takes, closing, finish_event, r
 use Rattle.kube_history.specs.Agrees.{Agrees}
 use Rattle.kube_history.proofs.Calls.{idle-is}
 use Rattle.kube_history.proofs.Segments.{answers-append}
-use Rattle.kube_streams.specs.declared.backoff.Backoff as backoff
+use Rattle.kube_backoff.specs.declared.backoff.Backoff as backoff
 use Rattle.kube_core.specs.Cores.{Parts, StandsFor as CoreStands}
 use Rattle.kube_asks.specs.Asking.{Asking}
 use Rattle.kube_asks.specs.declared.root.RootSource as root_source

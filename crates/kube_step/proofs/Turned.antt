@@ -17,7 +17,7 @@ use Rattle.kube_history.specs.TurnEvents.{before_takes, closing, finish_event, r
 use Rattle.kube_history.specs.Agrees.{Agrees}
 use Rattle.kube_history.specs.Legal.{AreLegal}
 use Rattle.kube_history.proofs.Segments.{legal-append, running-append}
-use Rattle.kube_streams.specs.declared.backoff.Backoff as backoff
+use Rattle.kube_backoff.specs.declared.backoff.Backoff as backoff
 use Rattle.kube_reflect.specs.Cached.{Kept}
 use Rattle.kube_reflect.specs.Exchanged.{IsLeftBy}
 use Rattle.kube_core.specs.Cores.{Parts, StandsFor as CoreStands}

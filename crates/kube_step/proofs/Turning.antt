@@ -15,7 +15,7 @@ use Rattle.kube_history.specs.CoreEvents.{CoreEvent, answers_in, clock_of, was_s
 use Rattle.kube_history.specs.TurnEvents.{closing, finish_event, shut_if}
 use Rattle.kube_history.specs.Agrees.{Agrees, EachFits}
 use Rattle.kube_history.proofs.Segments.{answers-append}
-use Rattle.kube_streams.specs.declared.backoff.Backoff as backoff
+use Rattle.kube_backoff.specs.declared.backoff.Backoff as backoff
 use Rattle.kube_core.specs.Cores.{Parts, StandsFor as CoreStands}
 use Rattle.kube_turn.specs.declared.turn.Finish.{Finish}
 use Rattle.kube_turn.specs.declared.record.Finished.{Finished}

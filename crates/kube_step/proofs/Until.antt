@@ -10,7 +10,7 @@ use Rattle.kube_model.specs.Takes.{running}
 use Rattle.kube_history.specs.CoreWorld.{core_world}
 use Rattle.kube_history.specs.CoreEvents.{CoreEvent, Answered, Requested, Settled, was_shut}
 use Rattle.kube_history.specs.TurnEvents.{closing, finish_event, reload_events, shut_if}
-use Rattle.kube_streams.specs.declared.backoff.Backoff as backoff
+use Rattle.kube_backoff.specs.declared.backoff.Backoff as backoff
 use Rattle.kube_core.specs.Cores.{Parts, StandsFor as CoreStands}
 use Rattle.kube_turn.specs.declared.turn.Finish.{Finish}
 use Rattle.kube_asks.specs.Asking.{Asking, AskStands, asking_begun}

@@ -10,7 +10,7 @@ use Rattle.kube_model.specs.Traces.{IsNext, EachIsNext}
 use Rattle.kube_history.specs.CoreWorld.{core_world}
 use Rattle.kube_history.specs.CoreEvents.{CoreEvent, Answered, answers_in}
 use Rattle.kube_history.specs.Agrees.{EachFits}
-use Rattle.kube_streams.specs.declared.backoff.Backoff as backoff
+use Rattle.kube_backoff.specs.declared.backoff.Backoff as backoff
 use Rattle.kube_watch.specs.Calls.{brings}
 use Rattle.kube_watch.specs.Stands.{exchanges_in}
 use Rattle.kube_reflect.specs.Cached.{Kept}

@@ -6,7 +6,7 @@ use Rattle.kube_model.specs.History.{Dated, Step, exchanges}
 use Rattle.kube_history.specs.CoreWorld.{core_world}
 use Rattle.kube_history.specs.CoreEvents.{CoreEvent}
 use Rattle.kube_history.specs.Agrees.{Agrees}
-use Rattle.kube_streams.specs.declared.backoff.Backoff as backoff
+use Rattle.kube_backoff.specs.declared.backoff.Backoff as backoff
 use Rattle.kube_core.specs.Cores.{Parts, StandsFor as CoreStands}
 use Rattle.kube_asks.specs.Asking.{Asking, AskStands, IsWorldOf}
 use Rattle.kube_asks.specs.declared.root.RootSource as root_source

@@ -16,7 +16,7 @@ use Rattle.kube_model.specs.Traces.{IsRecord, EachIsNext, step, unread}
 use Rattle.kube_history.specs.CoreWorld.{core_world}
 use Rattle.kube_history.specs.CoreEvents.{CoreEvent, Answered, Requested, Settled}
 use Rattle.kube_history.specs.TurnEvents.{before_takes, closing, finish_event, reload_events, shut_if}
-use Rattle.kube_streams.specs.declared.backoff.Backoff as backoff
+use Rattle.kube_backoff.specs.declared.backoff.Backoff as backoff
 use Rattle.kube_reflect.specs.Cached.{Kept}
 use Rattle.kube_core.specs.Cores.{Parts, StandsFor as CoreStands}
 use Rattle.kube_turn.specs.declared.turn.Finish.{Finish}

@@ -1,7 +1,6 @@
 -- the definitions that the contracts cite
 pub mod Adapts
 pub mod Applies
-pub mod Backoffs
 pub mod Completes
 pub mod Decodes
 pub mod FilterLaws

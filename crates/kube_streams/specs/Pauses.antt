@@ -4,7 +4,7 @@ use Rattle.kube_meta.specs.declared.poll.Next.TheVariants.{Item, NotReady, Spent
 use Rattle.kube_watch.specs.declared.stream.StreamFault.{StreamFault}
 use Rattle.kube_watch.specs.Streams.{Answer}
 use Rattle.kube_watch.specs.Asking.{Asked, fault_in}
-use Rattle.kube_streams.specs.Backoffs.{saturated}
+use Rattle.kube_backoff.specs.Backoffs.{saturated}
 use Rattle.kube_streams.specs.declared.stream_backoff.State.{State}
 use Rattle.kube_streams.specs.declared.stream_backoff.State.TheVariants as states
 

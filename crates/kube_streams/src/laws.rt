@@ -17,13 +17,13 @@ ghost use Rattle.kube_streams.specs.Pauses.{Pausing};
 ghost use Rattle.kube_streams.specs.Properties.{FallsBack, combined};
 
 use crate::adapted::Adapt;
-use crate::backoff::Backoff;
 use crate::complete::OnComplete;
 use crate::event_modify::EventModify;
 use crate::predicate::Predicate;
 use crate::predicate_filter::PredicateFilter;
 use crate::reflect::Reflect;
 use crate::stream_backoff::StreamBackoff;
+use kube_backoff::Backoff;
 use kube_meta::Resource;
 use kube_watch::{Event, EventStream};
 use std::sync::Arc;

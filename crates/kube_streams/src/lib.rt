@@ -1,16 +1,12 @@
-//! Streams of events: adaptors, predicates, backoffs.
+//! Streams of events: adaptors, predicates.
 #![tactic(auto)]
 
 pub mod adapted;
-pub mod backoff;
-pub mod backoff_reset_timer;
 pub mod complete;
 pub mod event_decode;
 pub mod event_modify;
-pub mod exponential;
 mod fold;
 pub mod laws;
-pub mod plain_backoffs;
 pub mod predicate;
 pub mod predicate_filter;
 pub mod predicates;
@@ -21,14 +17,14 @@ pub mod stream_backoff;
 pub mod watch_ext;
 
 pub use adapted::{Adapt, Adapted};
-pub use backoff::Backoff;
-pub use backoff_reset_timer::{DefaultBackoff, ResetTimerBackoff};
 pub use complete::{OnComplete, on_complete};
 pub use event_decode::EventDecode;
 pub use event_modify::EventModify;
-pub use exponential::ExponentialBackoff;
+pub use kube_backoff::{
+    Backoff, ConstantBackoff, DefaultBackoff, ExponentialBackoff, LinearBackoff, ResetTimerBackoff,
+    StopBackoff,
+};
 pub use kube_watch::{EventStream, StreamFault};
-pub use plain_backoffs::{ConstantBackoff, LinearBackoff, StopBackoff};
 pub use predicate::{Combine, Fallback, FnPredicate, Predicate};
 pub use predicate_filter::{PredicateConfig, PredicateFilter};
 pub use reflect::Reflect;

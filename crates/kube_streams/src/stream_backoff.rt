@@ -4,7 +4,7 @@ ghost use Rattle.std.specs.Prelude.{◌≡◌, ◌≤◌, ◌≤◌, None};
 ghost use Rattle.kube_streams.specs.Pauses.{Passed, backoff_after, state_after};
 ghost use Rattle.kube_watch.specs.Asking.{Said, fault_in};
 
-use crate::backoff::Backoff;
+use kube_backoff::Backoff;
 use kube_meta::{Moment, Next};
 use kube_watch::stream::{ask, fault_of};
 use kube_watch::{Error, EventStream, StreamFault};

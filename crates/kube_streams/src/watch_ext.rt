@@ -1,17 +1,16 @@
 //! What can be made of any stream of events (kube-runtime's `WatchStreamExt`).
 
 ghost use Rattle.std.specs.Prelude.{◌≡◌, [], false, true, None};
-ghost use Rattle.kube_streams.specs.Backoffs.{default_backoff};
+ghost use Rattle.kube_backoff.specs.Backoffs.{default_backoff};
 
 use crate::adapted::{Adapted, ObjectOf, OfObject};
-use crate::backoff::Backoff;
-use crate::backoff_reset_timer::DefaultBackoff;
 use crate::event_decode::{Decode, EventDecode};
 use crate::event_modify::EventModify;
 use crate::predicate_filter::{Filter, PredicateConfig, PredicateFilter};
 use crate::reflect::Reflect;
 use crate::settled::{Settle, Settled};
 use crate::stream_backoff::{State, StreamBackoff};
+use kube_backoff::{Backoff, DefaultBackoff};
 use kube_meta::Resource;
 use kube_reflect::{Reflector, Writer};
 use kube_watch::EventStream;

@@ -7,9 +7,9 @@ use kube_asks::{
     AskFault, Asks, Backoff, Beside, ByLabel, One, RelatedList, RelatedWatch, SourceExchange,
     WatchRoot,
 };
+use kube_backoff::{ConstantBackoff, DefaultBackoff, LinearBackoff, StopBackoff};
 use kube_meta::{ApiResource, DynamicObject, Moment, Text};
 use kube_model::call::Answer;
-use kube_streams::{ConstantBackoff, DefaultBackoff, LinearBackoff, StopBackoff};
 use kube_watch::Config;
 use std::alloc::Global;
 use std::marker::PhantomData;

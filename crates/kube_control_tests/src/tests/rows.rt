@@ -4,10 +4,10 @@ use super::script::{
     Ask, Listed, PLAIN, QUIET, Row, Settings, Tested, Told, controller, run, turns,
 };
 use super::shown::{add_line, all, told_once};
+use kube_backoff::StopBackoff;
 use kube_control::Backoff;
 use kube_meta::DynamicObject;
 use kube_step::Recorder;
-use kube_streams::StopBackoff;
 use std::alloc::Global;
 use std::panic::Expect;
 use std::process::Abort;

@@ -2,7 +2,7 @@
 
 ghost use Rattle.std.specs.Prelude.{◌≡◌, [], false};
 ghost use Rattle.kube_model.specs.World.{World, is_watched};
-ghost use Rattle.kube_streams.specs.Backoffs.{ResetTimer, Exponential, default_backoff};
+ghost use Rattle.kube_backoff.specs.Backoffs.{ResetTimer, Exponential, default_backoff};
 ghost use Rattle.kube_fed.specs.declared.feeding.Standing.TheVariants.{Open};
 ghost use Rattle.kube_step.specs.Asked.{NamesObjects};
 ghost use Rattle.kube_step.specs.Controllers.{IsWorldOfAsks};
@@ -11,11 +11,11 @@ ghost use Rattle.kube_feed.specs.Fed.{StandsFor};
 use crate::controller::FedController;
 use crate::parts::{Parts, emptied};
 use kube_asks::{Asks, Backoff, NoRelated, RelatedSet, RootSource};
+use kube_backoff::DefaultBackoff;
 use kube_core::Pending;
 use kube_fed::StreamRoot;
 use kube_meta::{Moment, Resource};
 use kube_reflect::Store;
-use kube_streams::DefaultBackoff;
 use kube_turn::Config;
 use kube_watch::EventStream;
 use std::alloc::Global;

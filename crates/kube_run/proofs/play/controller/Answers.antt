@@ -7,7 +7,7 @@ use Rattle.kube_object.specs.Named.{named_type}
 use Rattle.kube_script.specs.Seen.{seen_backoff, seen_config}
 use Rattle.kube_script.specs.SeenScript.{seen_related, seen_source}
 use Rattle.kube_script.specs.declared.backoff.ScriptBackoff.{ScriptBackoff}
-use Rattle.kube_streams.specs.Backoffs.{Exponential, ResetTimer, asked_at, default_backoff, next_delay, restarted_exponential}
+use Rattle.kube_backoff.specs.Backoffs.{Exponential, ResetTimer, asked_at, default_backoff, next_delay, restarted_exponential}
 use Rattle.kube_watch.specs.Configs.{settings_of}
 use Rattle.kube_watch.specs.Stands.{settings_in}
 use Rattle.kube_run.specs.Played.{has_name, version_of, world_with}

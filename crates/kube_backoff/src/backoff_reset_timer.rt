@@ -1,8 +1,7 @@
 //! A backoff that begins anew where nothing failed for a while.
 
 ghost use Rattle.std.specs.Prelude.{◌≡◌, ℕ, Some, None};
-ghost use Rattle.kube_streams.specs.Backoffs.{asked_at, default_backoff, is_long_ago, next_delay, restarted_exponential};
-ghost use Rattle.kube_watch.specs.Units.{nanos_of};
+ghost use Rattle.kube_backoff.specs.Backoffs.{asked_at, default_backoff, is_long_ago, next_delay, restarted_exponential};
 
 use crate::backoff::Backoff;
 use crate::exponential::ExponentialBackoff;
@@ -14,17 +13,17 @@ use std::marker::Model;
 #[derive(Debug, Drop)]
 pub struct ResetTimerBackoff<B> {
     backoff: B,
-    last_backoff: Option<Moment>,
+    // In nanoseconds, as moments count.
+    last_backoff: Option<u64>,
     reset_duration: u64,
 }
 
 impl<B> Model for ResetTimerBackoff<B> {
-    ghost use Rattle.kube_streams.specs.Backoffs.{ResetTimer};
-    ghost use Rattle.kube_watch.specs.Units.{nanos_of};
+    ghost use Rattle.kube_backoff.specs.Backoffs.{ResetTimer};
 
     ghost Value = { ResetTimer B };
 
-    ghost view = { λ b. record { inner = b.backoff; last = nanos_of b.last_backoff; reset = b.reset_duration } };
+    ghost view = { λ b. record { inner = b.backoff; last = b.last_backoff; reset = b.reset_duration } };
 }
 
 impl<B: Backoff> ResetTimerBackoff<B> {
@@ -41,11 +40,11 @@ impl<B: Backoff> ResetTimerBackoff<B> {
 }
 
 /// Whether more than a duration passed since a moment; no sum passes the greatest moment.
-fn is_long_ago(last: Option<Moment>, reset: u64, now: Moment) -> bool
-    ensures { result ≡ is_long_ago (nanos_of last) reset now.0 }
+fn is_long_ago(last: Option<u64>, reset: u64, now: Moment) -> bool
+    ensures { result ≡ is_long_ago last reset now.0 }
 {
     match last {
-        Some(last) => now.0.saturating_sub(last.0) > reset,
+        Some(last) => now.0.saturating_sub(last) > reset,
         None => false,
     }
 }
@@ -61,7 +60,7 @@ impl<B: Backoff> Backoff for ResetTimerBackoff<B> {
         if is_long_ago(self.last_backoff, self.reset_duration, now) {
             self.backoff.reset();
         }
-        self.last_backoff = Some(now);
+        self.last_backoff = Some(now.0);
         self.backoff.next(now)
     }
 
@@ -78,7 +77,7 @@ pub struct DefaultBackoff {
 }
 
 impl Model for DefaultBackoff {
-    ghost use Rattle.kube_streams.specs.Backoffs.{ResetTimer, Exponential};
+    ghost use Rattle.kube_backoff.specs.Backoffs.{ResetTimer, Exponential};
 
     ghost Value = { ResetTimer Exponential };
 

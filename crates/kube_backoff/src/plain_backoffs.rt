@@ -1,7 +1,7 @@
 //! Plain backoffs.
 
 ghost use Rattle.std.specs.Prelude.{◌≡◌, ◌+◌, Some, None};
-ghost use Rattle.kube_streams.specs.Backoffs.{saturated};
+ghost use Rattle.kube_backoff.specs.Backoffs.{saturated};
 
 use crate::backoff::Backoff;
 use kube_meta::Moment;

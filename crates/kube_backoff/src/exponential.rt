@@ -1,7 +1,7 @@
 //! Delays that grow by a factor.
 
 ghost use Rattle.std.specs.Prelude.{◌≡◌, ◌≤◌, ◌*◌, ◌/◌, Some, None, min};
-ghost use Rattle.kube_streams.specs.Backoffs.{next_delay};
+ghost use Rattle.kube_backoff.specs.Backoffs.{next_delay};
 
 use crate::backoff::Backoff;
 use kube_meta::Moment;
@@ -19,7 +19,7 @@ pub struct ExponentialBackoff {
 
 impl Model for ExponentialBackoff {
     ghost use Rattle.std.specs.Prelude.{◌≤◌};
-    ghost use Rattle.kube_streams.specs.Backoffs.{Exponential};
+    ghost use Rattle.kube_backoff.specs.Backoffs.{Exponential};
 
     ghost Value = { Exponential };
 
