@@ -1,0 +1,16 @@
+use Rattle.std.proofs.Common.{rules, ◌≡◌, List, [], ◌∷◌, ap, sym, subst}
+use Rattle.std.specs.Prelude.{Option, Some}
+use Rattle.atomic_table.specs.Table.{opening}
+use Rattle.kube_lock.specs.Rule.{IsRuled}
+use Rattle.kube_lock.specs.Views.{root}
+use Rattle.kube_lock.proofs.Joining.{begins}
+use Rattle.kube_lock.proofs.lock.Lock.open.Goals as goal
+
+pub new-requires : goal.new-requires
+new-requires g c =
+    let opened = g.C.Kept.opened in
+    let key = c.of-key.result.value in
+    let items : c.push.new.self.items ≡ Some c.args.value ∷ [] = search rules in
+    let same : opened c.args.value ≡ opened key = ap opened (sym c.of-key.ensures) in
+    subst (λ (xs : List (Option g.row.C.Denot)). IsRuled g.C.Kept.entries g.C.Kept.number opened g.C.Kept.legal (opened key) (opening (0 ∷ 0 ∷ 0 ∷ []) xs (root (opened key)))) (sym items)
+    (begins g.C.Kept.entries g.C.Kept.number opened g.C.Kept.legal (opened key) c.args.value c.requires.empty same (subst (λ o. g.C.Kept.legal o []) same c.requires.legal))
