@@ -1,20 +1,19 @@
 -- What lies in the held slot becomes the history.
-use Rattle.std.proofs.Common.{◌≡◌, ◌≢◌, ◌⊎◌, ⊎_elim, ℕ, zero, suc, ◌+◌, ◌%◌, ◌^◌, ◌<◌, ◌≤◌, List, [], ◌∷◌, ◌++◌, length, set, Bool, true, false, refl, sym, ap, subst, ◌∙◌, arith, slice_index, slice_set, length-append}
-use Rattle.std.specs.Prelude.{Option, Some, None, IfSome}
+use Rattle.std.proofs.Common.{◌≡◌, ◌≢◌, ℕ, ◌+◌, ◌%◌, ◌^◌, ◌<◌, List, [], ◌∷◌, ◌++◌, length, true, refl, sym, ap, subst, ◌∙◌, arith, length-append}
+use Rattle.std.specs.Prelude.{Option, Some, None}
 use Rattle.std.specs.List.{AllByRecursion}
 use mathlib.Core.Option.{some, none}
 use mathlib.Core.List.{IsPrefix}
 use lib.ListN.{get_elem?}
-use Rattle.atomic_table.specs.Table.{State, Me, Act, keeps, takes, gives, Valid, carried_after, homes_after, step, Allows, Splits, Joins, opening}
-use Rattle.atomic_table.proofs.Lists.{at_set, set_else, set_again, set_here, at_longer, at_last}
+use Rattle.atomic_table.specs.Table.{State, Me, keeps, step, Allows}
 use Rattle.kube_lock.specs.declared.view.View.{View}
 use Rattle.kube_lock.specs.declared.view.Joined.{Joined}
-use Rattle.kube_lock.specs.Rule.{IsRuled, Fits, NoneHold, calls_of, AreOwn, IsKept}
+use Rattle.kube_lock.specs.Rule.{IsRuled, Fits, AreOwn}
 use Rattle.std.proofs.Common.{drop}
 use Rattle.kube_lock.specs.Views.{grown}
 use Rattle.kube_lock.specs.Steps.{Committed}
 use Rattle.kube_lock.proofs.Fronts.{prefix_self}
-use Rattle.kube_lock.proofs.Lists.{all_of, if_some, one_at}
+use Rattle.kube_lock.proofs.Lists.{all_of, if_some}
 use Rattle.kube_lock.proofs.Calls.{drop_front, with_one, calls_else, own_else, own_mine, kept_else}
 use Rattle.kube_lock.proofs.Standing.{seat_is, is_below, one_served, one_holds, each_set, held_set}
 use Rattle.kube_lock.proofs.Drawing.{Left}

@@ -1,16 +1,15 @@
 -- A ticket is drawn.
-use Rattle.std.proofs.Common.{◌≡◌, ◌≢◌, ◌⊎◌, ⊎_elim, ℕ, zero, suc, ◌+◌, ◌%◌, ◌^◌, ◌<◌, ◌≤◌, List, [], ◌∷◌, ◌++◌, length, set, Bool, true, false, refl, sym, ap, subst, ◌∙◌, arith, slice_index, slice_set, length-append}
+use Rattle.std.proofs.Common.{◌≡◌, ◌≢◌, ⊎_elim, ℕ, ◌+◌, ◌%◌, ◌^◌, ◌<◌, List, [], ◌∷◌, ◌++◌, length, set, true, false, refl, sym, ap, subst, ◌∙◌, slice_index, slice_set, length-append}
 use Rattle.std.specs.Prelude.{Option, Some, None, IfSome}
-use Rattle.std.specs.List.{AllByRecursion}
 use mathlib.Core.Option.{some, none}
 use lib.ListN.{get_elem?}
-use Rattle.atomic_table.specs.Table.{State, Me, Act, keeps, takes, gives, Valid, carried_after, homes_after, step, Allows}
+use Rattle.atomic_table.specs.Table.{State, Me, Act, keeps, Valid, carried_after, homes_after, step, Allows}
 use Rattle.atomic_table.proofs.Lists.{at_set, set_else, at_longer, at_last}
 use Rattle.kube_lock.specs.declared.view.View.{View}
 use Rattle.kube_lock.specs.Views.{with_ticket}
-use Rattle.kube_lock.specs.Rule.{IsRuled, Fits, NoneHold}
+use Rattle.kube_lock.specs.Rule.{IsRuled, Fits}
 use Rattle.kube_lock.specs.Steps.{Drew}
-use Rattle.kube_lock.proofs.Lists.{at_snoc_place, set_at, at_below, one_at, distinct_snoc, next_turn}
+use Rattle.kube_lock.proofs.Lists.{at_snoc_place, set_at, one_at, distinct_snoc, next_turn}
 use Rattle.kube_lock.proofs.Standing.{seat_is, is_below, none_held}
 
 module _ {C E P : Type 0} (entries : C → List E) (number : E → ℕ) (opened : C → P) (Legal : P → List E → Type 0) (opening : P) where

@@ -1,19 +1,19 @@
 -- A view takes in another's.
-use Rattle.std.proofs.Common.{◌≡◌, ◌≢◌, ◌⊎◌, ⊎_elim, ℕ, zero, suc, ◌+◌, ◌%◌, ◌^◌, ◌<◌, ◌≤◌, List, [], ◌∷◌, ◌++◌, length, set, Bool, true, false, refl, sym, ap, subst, ◌∙◌, arith, slice_index, slice_set, length-append}
+use Rattle.std.proofs.Common.{◌≡◌, ◌≢◌, ℕ, zero, suc, ◌+◌, ◌%◌, ◌^◌, ◌<◌, List, [], ◌∷◌, ◌++◌, length, set, Bool, true, false, refl, sym, ap, subst, ◌∙◌, arith}
 use Rattle.std.specs.Prelude.{Option, Some, None, IfSome}
 use Rattle.std.specs.List.{AllByRecursion}
-use mathlib.Core.Option.{some, none, some-injective, some-ne-none}
+use mathlib.Core.Option.{some, some-injective, some-ne-none}
 use mathlib.Core.List.{IsPrefix}
 use lib.ListN.{get_elem?}
-use Rattle.atomic_table.specs.Table.{State, Me, Act, keeps, takes, gives, Valid, carried_after, homes_after, step, Allows, Splits, Joins, opening as start}
-use Rattle.atomic_table.proofs.Lists.{at_set, set_else, set_again, set_here, at_longer, at_last}
+use Rattle.atomic_table.specs.Table.{State, Joins, opening as start}
+use Rattle.atomic_table.proofs.Lists.{set_else}
 use Rattle.kube_lock.specs.declared.view.View.{View}
 use Rattle.kube_lock.specs.declared.view.Joined.{Joined}
-use Rattle.kube_lock.specs.Rule.{IsRuled, Fits, NoneHold, calls_of, AreOwn, IsKept}
+use Rattle.kube_lock.specs.Rule.{IsRuled, Fits, AreOwn, IsKept}
 use Rattle.std.specs.Prelude.{◌==◌, nat_le, if◌then◌else◌}
 use Rattle.kube_lock.specs.Views.{longer, kept_of, lesser, joined_in, spent, root}
-use Rattle.kube_lock.proofs.Lists.{all_of, all_append, if_some, some_of, one_at, set_at, pick, picks_first, picks_second, at_place, once_none}
-use Rattle.kube_lock.proofs.Standing.{seat_is, each_set, none_held}
+use Rattle.kube_lock.proofs.Lists.{all_of, all_append, some_of, one_at, pick, picks_first, picks_second, once_none}
+use Rattle.kube_lock.proofs.Standing.{each_set, none_held}
 
 pub longer_begins : {E : Type 0} (xs ys log : List E) → IsPrefix xs log → IsPrefix ys log → IsPrefix (longer xs ys) log
 longer_begins xs ys log p q = by_test (nat_le (length ys) (length xs))

@@ -1,19 +1,16 @@
 -- A seat looks whether its turn has come.
-use Rattle.std.proofs.Common.{◌≡◌, ◌≢◌, ◌⊎◌, ⊎_elim, ℕ, zero, suc, ◌+◌, ◌%◌, ◌^◌, ◌<◌, ◌≤◌, List, [], ◌∷◌, ◌++◌, length, set, Bool, true, false, refl, sym, ap, subst, ◌∙◌, arith, slice_index, slice_set, length-append}
-use Rattle.std.specs.Prelude.{Option, Some, None, IfSome}
-use Rattle.std.specs.List.{AllByRecursion}
+use Rattle.std.proofs.Common.{◌≡◌, ◌≢◌, ℕ, ◌+◌, ◌%◌, ◌^◌, ◌≤◌, List, [], ◌∷◌, length, Bool, true, false, refl, sym, ap, subst, ◌∙◌, arith}
+use Rattle.std.specs.Prelude.{Option, Some}
 use mathlib.Core.Option.{some, none}
-use mathlib.Core.List.{IsPrefix}
 use lib.ListN.{get_elem?}
-use Rattle.atomic_table.specs.Table.{State, Me, Act, keeps, takes, gives, Valid, carried_after, homes_after, step, Allows, Splits, Joins, opening}
-use Rattle.atomic_table.proofs.Lists.{at_set, set_else, set_again, set_here, at_longer, at_last}
+use Rattle.atomic_table.specs.Table.{State, Me, keeps, takes, step, Allows}
+use Rattle.atomic_table.proofs.Lists.{set_again}
 use Rattle.kube_lock.specs.declared.view.View.{View}
-use Rattle.kube_lock.specs.declared.view.Joined.{Joined}
-use Rattle.kube_lock.specs.Rule.{IsRuled, Fits, NoneHold, calls_of, AreOwn, IsKept}
+use Rattle.kube_lock.specs.Rule.{IsRuled, Fits, NoneHold, calls_of}
 use Rattle.kube_lock.specs.Views.{served}
-use Rattle.kube_lock.specs.Steps.{Looked, IsTold, IsHolding}
+use Rattle.kube_lock.specs.Steps.{Looked, IsTold}
 use Rattle.kube_lock.proofs.Fronts.{prefix_self}
-use Rattle.kube_lock.proofs.Lists.{some_of, one_at, at_place, by_ticket}
+use Rattle.kube_lock.proofs.Lists.{some_of, one_at, by_ticket}
 use Rattle.kube_lock.proofs.Standing.{one_served, one_holds, each_set, held_set}
 use Rattle.kube_lock.proofs.Drawing.{Left}
 
@@ -83,7 +80,7 @@ module _ {C E P : Type 0} (entries : C → List E) (number : E → ℕ) (opened 
         (
           λ _. (
             record {
-              core = h.0;
+              value = h.0;
               hand = refl;
               tells = h.2;
               opens = some_of (λ o. o ≡ opening) (λ o. opened h.0 ≡ o) (λ o e. h.3 ∙ sym e) v.opening mine.opens;

@@ -1,21 +1,18 @@
 -- The slot is given back, and the next ticket served.
-use Rattle.std.proofs.Common.{◌≡◌, ◌≢◌, ◌⊎◌, ⊎_elim, ℕ, zero, suc, ◌+◌, ◌%◌, ◌^◌, ◌<◌, ◌≤◌, List, [], ◌∷◌, ◌++◌, length, set, Bool, true, false, refl, sym, ap, subst, ◌∙◌, arith, slice_index, slice_set, length-append}
-use Rattle.std.specs.Prelude.{Option, Some, None, IfSome}
-use Rattle.std.specs.List.{AllByRecursion}
+use Rattle.std.proofs.Common.{◌≡◌, ◌≢◌, ℕ, zero, suc, ◌+◌, ◌%◌, ◌^◌, ◌<◌, List, [], ◌∷◌, length, true, refl, sym, ap, subst, ◌∙◌, arith}
+use Rattle.std.specs.Prelude.{Option, Some}
 use mathlib.Core.Option.{some, none}
-use mathlib.Core.List.{IsPrefix}
 use lib.ListN.{get_elem?}
-use Rattle.atomic_table.specs.Table.{State, Me, Act, keeps, takes, gives, Valid, carried_after, homes_after, step, Allows, Splits, Joins, opening}
-use Rattle.atomic_table.proofs.Lists.{at_set, set_else, set_again, set_here, at_longer, at_last}
+use Rattle.atomic_table.specs.Table.{State, Me, gives, step, Allows}
+use Rattle.atomic_table.proofs.Lists.{set_else, set_here}
 use Rattle.kube_lock.specs.declared.view.View.{View}
-use Rattle.kube_lock.specs.declared.view.Joined.{Joined}
-use Rattle.kube_lock.specs.Rule.{IsRuled, Fits, NoneHold, calls_of, AreOwn, IsKept}
+use Rattle.kube_lock.specs.Rule.{IsRuled, Fits}
 use Rattle.std.specs.List.{IsDistinct}
 use Rattle.std.proofs.lemmas.Map.Keys.{IsDistinct-tail}
 use Rattle.kube_lock.specs.Rule.{same}
 use Rattle.kube_lock.specs.Views.{released}
 use Rattle.kube_lock.specs.Steps.{Released}
-use Rattle.kube_lock.proofs.Lists.{if_some, some_of, one_at, head_at, after_turn, at_place, at_below, same_turn}
+use Rattle.kube_lock.proofs.Lists.{if_some, some_of, one_at, head_at, after_turn, at_below, same_turn}
 use Rattle.kube_lock.proofs.Standing.{waiting_few, first_waits, seat_is, one_served, each_set}
 use Rattle.kube_lock.proofs.Drawing.{Left}
 

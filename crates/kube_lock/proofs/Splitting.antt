@@ -1,15 +1,14 @@
 -- A new seat is cut from a view.
-use Rattle.std.proofs.Common.{◌≡◌, ◌≢◌, ◌⊎◌, ⊎_elim, ℕ, zero, suc, ◌+◌, ◌%◌, ◌^◌, ◌<◌, ◌≤◌, List, [], ◌∷◌, ◌++◌, length, set, Bool, true, false, refl, sym, ap, subst, ◌∙◌, arith, slice_index, slice_set, length-append}
-use Rattle.std.specs.Prelude.{Option, Some, None, IfSome}
+use Rattle.std.proofs.Common.{◌≡◌, ◌≢◌, ⊎_elim, ℕ, ◌+◌, ◌%◌, ◌^◌, ◌<◌, List, [], ◌∷◌, ◌++◌, length, set, refl, sym, ap, subst, ◌∙◌, arith}
+use Rattle.std.specs.Prelude.{Option, Some, IfSome}
 use Rattle.std.specs.List.{AllByRecursion}
-use mathlib.Core.Option.{some, none}
-use mathlib.Core.List.{IsPrefix}
+use mathlib.Core.Option.{some}
 use lib.ListN.{get_elem?}
-use Rattle.atomic_table.specs.Table.{State, Me, Act, keeps, takes, gives, Valid, carried_after, homes_after, step, Allows, Splits, Joins, opening}
-use Rattle.atomic_table.proofs.Lists.{at_set, set_else, set_again, set_here, at_longer, at_last}
+use Rattle.atomic_table.specs.Table.{State, Splits}
+use Rattle.atomic_table.proofs.Lists.{set_else, at_longer}
 use Rattle.kube_lock.specs.declared.view.View.{View}
 use Rattle.kube_lock.specs.declared.view.Joined.{Joined}
-use Rattle.kube_lock.specs.Rule.{IsRuled, Fits, NoneHold, calls_of, AreOwn, IsKept}
+use Rattle.kube_lock.specs.Rule.{IsRuled, Fits, NoneHold, AreOwn}
 use Rattle.std.specs.Prelude.{◌==◌}
 use Rattle.std.specs.Option.{option_map}
 use Rattle.kube_lock.specs.Views.{counted, numbered, copied}

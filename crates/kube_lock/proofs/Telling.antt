@@ -1,12 +1,11 @@
 -- What is told of a view that took in another is told of both.
-use Rattle.std.proofs.Common.{◌≡◌, ◌≤◌, ℕ, List, [], ◌∷◌, ◌++◌, Bool, true, false, refl, sym, ap, subst, ◌∙◌, arith}
+use Rattle.std.proofs.Common.{◌≡◌, ◌≤◌, ℕ, List, [], ◌∷◌, ◌++◌, Bool, true, false, refl, sym, subst, arith}
 use Rattle.std.specs.Prelude.{Option, Some, None, IfSome, nat_le, if◌then◌else◌}
 use Rattle.std.proofs.lemmas.Bool.Decides.{nat_tests}
 use Rattle.std.specs.List.{AllByRecursion}
 use mathlib.Core.List.{IsPrefix}
 use Rattle.atomic_table.specs.Seated.{TableId}
 use Rattle.kube_lock.specs.declared.view.View.{View}
-use Rattle.kube_lock.specs.declared.view.Joined.{Joined}
 use Rattle.kube_lock.specs.Rule.{AreOwn, IsKept, calls_of}
 use Rattle.kube_lock.specs.Steps.{IsTold}
 use Rattle.kube_lock.specs.Views.{with_ticket, joined_in, kept_of, lesser}

@@ -1,5 +1,5 @@
 -- The rule of the lock, which each kind of step keeps. Word 0 is the next ticket, word 1 the ticket served, and word 2 the length of the history. Tickets are counted modulo 2^64.
-use Rattle.std.specs.Prelude.{◌≡◌, ◌≢◌, ℕ, ◌==◌, ◌<◌, ◌≤◌, ◌+◌, ◌%◌, ◌^◌, List, [], ◌∷◌, ◌++◌, length, Bool, true, false, Option, Some, None, IfSome}
+use Rattle.std.specs.Prelude.{◌≡◌, ◌≢◌, ℕ, ◌==◌, ◌<◌, ◌≤◌, ◌+◌, ◌%◌, ◌^◌, List, [], ◌∷◌, length, Bool, true, false, Option, Some, None, IfSome}
 use Rattle.std.specs.List.{filter, AllByRecursion, IsDistinct}
 use mathlib.Core.Option.{some}
 use mathlib.Core.List.{IsPrefix}

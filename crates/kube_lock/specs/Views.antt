@@ -1,5 +1,5 @@
 -- What a seat knows, and how each kind of step changes it. E is the type of entries, P that of what was opened.
-use Rattle.std.specs.Prelude.{ℕ, ◌+◌, ◌<◌, Bool, true, false, List, [], ◌∷◌, ◌++◌, map, length, drop, Option, Some, None, if◌then◌else◌, nat_le}
+use Rattle.std.specs.Prelude.{ℕ, ◌+◌, true, false, List, [], ◌∷◌, ◌++◌, length, drop, Option, Some, None, if◌then◌else◌, nat_le}
 use Rattle.std.specs.Option.{option_map}
 use Rattle.kube_lock.specs.declared.view.View.{View}
 use Rattle.kube_lock.specs.declared.view.Joined.{Joined}

@@ -32,6 +32,7 @@ impl<K: Thing> Kept for Desk<K> {
     ghost use Rattle.kube_lock_tests.specs.Stocks.{MayHappen, front_may_happen, number_of};
 
     type Entry = Event<K>;
+
     type Opening = Stock<K>;
 
     ghost entries = { λ d. d.entries };

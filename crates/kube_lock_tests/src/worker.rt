@@ -55,11 +55,7 @@ pub struct Worker<K: Thing> {
 }
 
 // Takes until nothing is found or memory is wanting.
-fn take_all<K: Thing, R: Wait>(
-    rt: &R,
-    lock: &Lock<Desk<K>>,
-    pass: Pass<Desk<K>>,
-) -> Pass<Desk<K>>
+fn take_all<K: Thing, R: Wait>(rt: &R, lock: &Lock<Desk<K>>, pass: Pass<Desk<K>>) -> Pass<Desk<K>>
     requires { IsPassOf lock.now pass }
     ensures { IsSamePass pass result }
 {

@@ -1,8 +1,8 @@
-use Rattle.std.proofs.Common.{◌≡◌, List, [], ◌∷◌, ◌++◌, ap, sym, subst, ◌∙◌, append_assoc}
+use Rattle.std.proofs.Common.{◌≡◌, [], ◌∷◌, ◌++◌, ap, sym, subst, ◌∙◌, append_assoc}
 use Rattle.std.specs.List.{AllByRecursion}
-use Rattle.kube_lock.specs.Seats.{IsOf, IsIdle}
+use Rattle.kube_lock.specs.Seats.{IsOf}
 use Rattle.kube_lock.specs.Views.{joined_in}
-use Rattle.kube_lock.specs.Passes.{Passing, IsPassOf}
+use Rattle.kube_lock.specs.Passes.{IsPassOf}
 use Rattle.kube_lock.specs.Whole.{Covers}
 use Rattle.kube_lock.proofs.Lists.{all_left, all_of, all_right}
 use Rattle.kube_lock.proofs.Telling.{covers_left, covers_other}

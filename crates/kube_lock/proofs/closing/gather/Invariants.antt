@@ -1,4 +1,4 @@
-use Rattle.std.proofs.Common.{◌≡◌, ℕ, List, ◌++◌, length}
+use Rattle.std.proofs.Common.{◌≡◌, List, ◌++◌, length}
 use Rattle.std.specs.List.{AllByRecursion}
 use Rattle.kube_lock.specs.Seats.{IsOf, IsIdle}
 use Rattle.kube_lock.specs.Passes.{Passing, IsPassOf}

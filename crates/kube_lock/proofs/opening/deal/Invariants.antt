@@ -1,4 +1,4 @@
-use Rattle.std.proofs.Common.{◌≡◌, ◌≤◌, [], length}
+use Rattle.std.proofs.Common.{◌≡◌, ◌≤◌, []}
 use Rattle.std.specs.Prelude.{vec_len, vec_capacity}
 use Rattle.kube_lock.specs.Seats.{IsOf}
 use Rattle.kube_lock.specs.Views.{dealer}

@@ -6,4 +6,4 @@ use Rattle.kube_lock.proofs.waiting.wait_turn.Goals as goal
 pub exchange-requires : goal.exchange-requires
 exchange-requires g c =
     let h = c.if-look.ensures.holding in
-    (c.look.ensures.table.table, (Some h.core, h.hand ∙ ap (λ held. (0, Some h.core) ∷ rest held) (sym h.hand)))
+    (c.look.ensures.table.table, (Some h.value, h.hand ∙ ap (λ held. (0, Some h.value) ∷ rest held) (sym h.hand)))

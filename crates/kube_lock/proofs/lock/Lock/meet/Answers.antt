@@ -24,13 +24,14 @@ returns-clause-met g c =
     let seen = longer two.seen one.seen in
     record {
       seen = seen;
-      first = pass_is _ c.a.inside.seat.table_id c.a.inside.number c.join-2.new.seat.me.0 one c.args.a seen c.a.view_is (c.join-2.ensures.table.table ∙ (here ∙ sym c.requires.0.here)) (ap (λ v. v.opening) one_is) (ap (λ v. v.given) one_is ∙ lesser_none one.given) (ap (λ v. v.seen) one_is ∙ m.2) (ap (λ v. v.own) one_is);
-      second = pass_is _ c.b.inside.seat.table_id c.b.inside.number c.split_copy-back.new.seat.me.0 two c.args.b seen c.b.view_is (c.split_copy-back.ensures.table.0.table ∙ (here ∙ sym c.requires.1.here)) (ap (λ v. v.opening) two_is) (ap (λ v. v.given) two_is ∙ lesser_none two.given) (ap (λ v. v.seen) two_is) (ap (λ v. v.own) two_is);
+      first = pass_is _ c.a.inside.seat.table_id c.a.inside.number c.join-2.new.seat.me.0 one c.args.a seen c.a.view_is (c.join-2.ensures.table.table ∙ (here ∙ sym c.requires.passes.0.here)) (ap (λ v. v.opening) one_is) (ap (λ v. v.given) one_is ∙ lesser_none one.given) (ap (λ v. v.seen) one_is ∙ m.2) (ap (λ v. v.own) one_is);
+      second = pass_is _ c.b.inside.seat.table_id c.b.inside.number c.split_copy-back.new.seat.me.0 two c.args.b seen c.b.view_is (c.split_copy-back.ensures.table.0.table ∙ (here ∙ sym c.requires.passes.1.here)) (ap (λ v. v.opening) two_is) (ap (λ v. v.given) two_is ∙ lesser_none two.given) (ap (λ v. v.seen) two_is) (ap (λ v. v.own) two_is);
       begins = subst (λ l. IsPrefix l seen) (ap (λ p. p.seen) c.a.view_is) m.0;
       begins_too = subst (λ l. IsPrefix l seen) (ap (λ p. p.seen) c.b.view_is) m.1;
     }
 
 pub returns-clause-legal : goal.returns-clause-legal
+unfolding returns-clause-met
 returns-clause-legal g c =
     let one = c.a.inside.seat.me.0 in
     let two = c.b.inside.seat.me.0 in
@@ -38,6 +39,6 @@ returns-clause-legal g c =
     let log = c.tell.ensures.told.0 in
     let told = subst (λ v. IsTold g.C.Kept.number g.C.Kept.legal v log) two1 c.tell.ensures.told.1 in
     let opening = c.args.self.now.opening in
-    let legal = if_some (λ o. g.C.Kept.legal o log) two.opening opening told.legal (ap (λ p. p.opening) c.b.view_is ∙ c.requires.1.opens) in
+    let legal = if_some (λ o. g.C.Kept.legal o log) two.opening opening told.legal (ap (λ p. p.opening) c.b.view_is ∙ c.requires.passes.1.opens) in
     subst (g.C.Kept.legal opening) (sym (ap (λ p. p.seen) (returns-clause-met g c).first))
     (front_passes (g.C.Kept.legal opening) (g.C.Kept.fronts opening) (longer two.seen one.seen) log (longer_begins two.seen one.seen log told.fronts.0 told.fronts.1.0) legal)
