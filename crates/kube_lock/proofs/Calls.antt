@@ -1,5 +1,5 @@
 -- The entries of one number, in a history with one entry more.
-use Rattle.std.proofs.Common.{◌≡◌, ◌≢◌, ℕ, List, [], ◌∷◌, ◌++◌, length, Bool, true, false, refl, sym, ap, ◌∙◌, arith, append-nil, drop}
+use Rattle.std.proofs.Common.{◌≡◌, ◌≢◌, ℕ, List, [], ◌∷◌, ◌++◌, length, Bool, true, false, refl, sym, ap, subst, ◌∙◌, arith, append-nil, drop}
 use Rattle.std.specs.Prelude.{Option, Some, None, ◌==◌, if◌then◌else◌}
 use Rattle.std.specs.List.{AllByRecursion}
 use Rattle.std.proofs.lemmas.Bool.Decides.{nat_tests}
@@ -7,6 +7,10 @@ use Rattle.std.proofs.lemmas.List.Elements.{filter-append}
 use mathlib.Core.List.{IsPrefix}
 use Rattle.kube_lock.specs.Rule.{calls_of, AreOwn, IsKept}
 use Rattle.kube_lock.specs.declared.view.Joined.{Joined}
+use Rattle.atomic_table.specs.Seated.{TableId}
+use Rattle.kube_lock.specs.declared.view.View.{View}
+use Rattle.kube_lock.specs.Views.{grown, released}
+use Rattle.kube_lock.specs.Passes.{Passing, passing}
 use Rattle.kube_lock.proofs.Fronts.{prefix_trans}
 
 pub drop_front : {E : Type 0} (xs ys : List E) → drop (length xs) (xs ++ ys) ≡ ys
@@ -42,3 +46,13 @@ module _ {E : Type 0} (number : E → ℕ) where
   pub kept_else : (ks : List (Joined E)) (log new : List E) (x : E) (n : ℕ) → new ≡ log ++ x ∷ [] → number x ≡ n → AllByRecursion (λ k. k.number ≢ n) ks → AllByRecursion (IsKept number log) ks → AllByRecursion (IsKept number new) ks
   kept_else [] log new x n is by apart h = tt
   kept_else (k ∷ ks) log new x n is by apart h = (calls_else log new x n k.number is by apart.0 ∙ h.0, kept_else ks log new x n is by apart.1 h.1)
+
+-- a turn's view that has grown by an entry of its own: where it had seen all its own entries, it still has
+pub commits_own : {E P : Type 0} (number : E → ℕ) (v w : View E P) (turn : Passing E P) (table : TableId) (n : ℕ) (log : List E) (x : E) → passing table n v ≡ turn → w ≡ released (grown v log)
+    → log ≡ turn.seen ++ x ∷ [] → number x ≡ turn.number → calls_of number turn.number turn.seen ≡ turn.own → calls_of number n w.seen ≡ w.own
+commits_own {E} {P} number v w turn table n log x is w_is grew by own =
+    let one : log ≡ v.seen ++ x ∷ [] = grew ∙ ap (λ (p : Passing E P). p.seen ++ x ∷ []) (sym is) in
+    let before : calls_of number n v.seen ≡ v.own = subst (λ (p : Passing E P). calls_of number p.number p.seen ≡ p.own) (sym is) own in
+    let mine : calls_of number n log ≡ v.own ++ x ∷ [] = calls_mine number v.seen log x n one (by ∙ ap (λ (p : Passing E P). p.number) (sym is)) ∙ ap (λ ys. ys ++ x ∷ []) before in
+    let new : v.own ++ drop (length v.seen) log ≡ v.own ++ x ∷ [] = ap (λ l. v.own ++ drop (length v.seen) l) one ∙ ap (λ l. v.own ++ l) (drop_front v.seen (x ∷ [])) in
+    ap (λ (u : View E P). calls_of number n u.seen) w_is ∙ (mine ∙ (sym new ∙ ap (λ (u : View E P). u.own) (sym w_is)))

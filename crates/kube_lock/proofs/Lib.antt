@@ -8,5 +8,6 @@ pub mod Committing
 pub mod Releasing
 pub mod Splitting
 pub mod Joining
+pub mod Dealing
 pub mod Telling
 pub mod Together

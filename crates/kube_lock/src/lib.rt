@@ -2,6 +2,7 @@
 #![tactic(auto)]
 
 mod closing;
+pub mod crossing;
 mod kept;
 mod lock;
 mod meeting;

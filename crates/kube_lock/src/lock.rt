@@ -80,6 +80,7 @@ impl<C: Kept> Lock<C> {
         requires short { length (C.entries value) < 2 ^ 64 }
         requires opened { C.opened value ≡ self.now.opening }
         ensures pass { (x : C.Entry) → C.entries value ≡ turn.seen ++ x ∷ [] → result ≡ record turn { seen = C.entries value; own = turn.own ++ x ∷ [] } }
+        ensures own { calls_of C.number turn.number turn.seen ≡ turn.own → calls_of C.number result.number result.seen ≡ result.own }
     {
         let Turn { mut seat, number } = turn;
         let board = &self.table.shared;

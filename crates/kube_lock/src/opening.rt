@@ -2,7 +2,8 @@
 
 ghost use Rattle.std.specs.Prelude.{◌≡◌, ◌≤◌, ◌<◌, ◌+◌, [], ◌∷◌, ◌++◌, length, Some, IfOk, IfErr, vec_len, vec_capacity};
 ghost use Rattle.kube_lock.specs.Seats.{IsOf};
-ghost use Rattle.kube_lock.specs.Passes.{dealt_all, fresh};
+ghost use Rattle.std.specs.List.{AllByRecursion};
+ghost use Rattle.kube_lock.specs.Passes.{dealt_all, fresh, IsPassOf};
 ghost use Rattle.kube_lock.specs.Views.{dealer};
 ghost use Rattle.kube_lock.specs.declared.opening.OpenError.TheVariants.{NoMemory};
 
@@ -33,6 +34,7 @@ impl<C: Kept> Lock<C> {
         requires legal { C.legal (C.opened value) [] }
         ensures lock { IfOk result (λ r. r.0.opening ≡ C.opened value) }
         ensures passes { IfOk result (λ r. r.1.items ≡ dealt_all r.0.table (C.opened value) passes) }
+        ensures theirs { IfOk result (λ r. AllByRecursion (IsPassOf r.0) r.1.items) }
         ensures err { IfErr result (λ e. e ≡ NoMemory value) }
     {
         let Ok(mut dealt) = Vec::with_capacity(alloc, passes as usize) else {
