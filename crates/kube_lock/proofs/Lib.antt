@@ -1,0 +1,13 @@
+pub mod Fronts
+pub mod Lists
+pub mod Standing
+pub mod Calls
+pub mod Drawing
+pub mod Looking
+pub mod Committing
+pub mod Releasing
+pub mod Splitting
+pub mod Joining
+pub mod Dealing
+pub mod Telling
+pub mod Together

@@ -1,0 +1,15 @@
+//! Tests of kube_lock: things of any type under a lock, and workers that take from them.
+#![tactic(auto)]
+
+mod desk;
+mod entry;
+mod stock;
+mod worker;
+
+pub use desk::Desk;
+pub use entry::{Event, What};
+pub use stock::{Stock, Thing};
+pub use worker::{Worker, mark, take, work_all};
+
+#[cfg(test)]
+mod tests;
