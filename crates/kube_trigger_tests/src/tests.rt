@@ -111,7 +111,11 @@ fn pod(rt: &impl Abort, alloc: Global, name: &str, is_owned: bool) -> Pod {
             Some(text(rt, alloc, name))
         },
         namespace: Some(text(rt, alloc, "ns")),
-        owner_references: if is_owned { Some(owners(rt, alloc)) } else { None },
+        owner_references: if is_owned {
+            Some(owners(rt, alloc))
+        } else {
+            None
+        },
         ..ObjectMeta::empty()
     };
     Arc::new(alloc, DynamicObject::bare(metadata)).expect(rt, "memory")
@@ -244,7 +248,12 @@ fn answered<R: Abort + Copy>(rt: &R, alloc: Global, row: Row) -> String {
     let owner = kind(rt, alloc, "apps", "ReplicaSet");
     let child = kind(rt, alloc, "", "Pod");
     match by {
-        By::Owners => polled(rt, alloc, trigger_owners(alloc, stream, owner, child), polls),
+        By::Owners => polled(
+            rt,
+            alloc,
+            trigger_owners(alloc, stream, owner, child),
+            polls,
+        ),
         By::Shared => {
             let stream = trigger_owners_shared(alloc, stream, owner, child);
             polled(rt, alloc, stream, polls)

@@ -159,7 +159,14 @@ fn run<R: Abort + Copy + Wait>(rt: &R, alloc: Global, store: Store<Node>, row: &
     let mut nodes = queued(rt, alloc, store, row);
     let context = Arc::new(alloc, ()).expect(rt, "memory");
     let policy = |_node: Arc<Node>, _error: &u64, _context: Arc<()>| Action::await_change();
-    nodes.run(rt, alloc, &mut Recorder::new(alloc), &policy, context, turns)
+    nodes.run(
+        rt,
+        alloc,
+        &mut Recorder::new(alloc),
+        &policy,
+        context,
+        turns,
+    )
 }
 
 fn counts(record: &TurnRecord<Node, u64>) -> [usize; 5] {
@@ -220,7 +227,11 @@ fn is_as_said<R: Abort + Copy + Wait>(rt: &R, alloc: Global, row: &Row) -> bool 
 #[test]
 fn appliers_take_turns(rt: HostRuntime) {
     for row in &ROWS {
-        assert!(rt; is_as_said(&rt, rt.alloc(), row), "{} requests", row.requests);
+        assert!(rt;
+            is_as_said(&rt, rt.alloc(), row),
+            "{} requests",
+            row.requests
+        );
     }
 }
 

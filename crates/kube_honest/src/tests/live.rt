@@ -90,13 +90,7 @@ fn row_at(rows: &[Row], now: Moment) -> Option<Row> {
 }
 
 /// What the row of a moment has done before a call, after so many changes; how many there then are.
-fn serve(
-    rt: &impl Abort,
-    alloc: Global,
-    server: &mut Server,
-    row: Option<Row>,
-    made: u64,
-) -> u64
+fn serve(rt: &impl Abort, alloc: Global, server: &mut Server, row: Option<Row>, made: u64) -> u64
     ensures { IsLater server.old.changes server.new.changes server.old.compacted server.new.compacted }
 {
     let Some(row) = row else {
