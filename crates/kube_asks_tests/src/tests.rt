@@ -1,5 +1,106 @@
-//! Sources asked in turn, and each call once with ample memory.
+//! What mappers answer, and why asks stop, each once with ample memory. Sources and the order in which they are asked stand as rows of
+//! the program.
 
-mod mappers;
-mod sources;
-mod turns;
+use kube_api::TestMode;
+use kube_asks::{Asks, ByFunction, ByLabel, Mapper, NoRelated, Owners, WatchRoot};
+use kube_backoff::StopBackoff;
+use kube_meta::{
+    ApiResource, DynamicObject, List, ObjectMeta, ObjectRef, OwnerReference, Text, TextMap,
+};
+use kube_watch::Config;
+use std::alloc::Global;
+use std::panic::Expect;
+use std::process::Abort;
+use std::sync::Arc;
+
+fn text(rt: &impl Abort, alloc: Global, text: &str) -> Text {
+    Text::new(alloc, text).expect(rt, "memory")
+}
+
+fn owner(rt: &impl Abort, alloc: Global, kind: &str, name: &str) -> OwnerReference {
+    OwnerReference {
+        api_version: text(rt, alloc, "v1"),
+        kind: text(rt, alloc, kind),
+        name: text(rt, alloc, name),
+        uid: text(rt, alloc, "u"),
+    }
+}
+
+/// An object in the namespace `ns`, with owners of two types, whose label `of` has its name.
+fn object(rt: &impl Abort, alloc: Global) -> Arc<DynamicObject> {
+    let a = owner(rt, alloc, "Root", "a");
+    let o = owner(rt, alloc, "Other", "o");
+    let b = owner(rt, alloc, "Root", "b");
+    let mut labels = TextMap::new(alloc);
+    let label = text(rt, alloc, "c");
+    let copy = label.clone().expect(rt, "memory");
+    labels.insert(alloc, "of", copy).expect(rt, "memory");
+    let metadata = ObjectMeta {
+        name: Some(label),
+        namespace: Some(text(rt, alloc, "ns")),
+        labels: Some(labels),
+        owner_references: Some(List::from(vec![in alloc; a, o, b].expect(rt, "memory"))),
+        ..ObjectMeta::empty()
+    };
+    Arc::new(alloc, DynamicObject::bare(metadata)).expect(rt, "memory")
+}
+
+fn kind(rt: &impl Abort, alloc: Global) -> Arc<ApiResource> {
+    let resource = ApiResource::new(alloc, "", "v1", "Root", "roots").expect(rt, "memory");
+    Arc::new(alloc, resource).expect(rt, "memory")
+}
+
+/// What a mapper answers of the object.
+fn mapped<M: Mapper<DynamicObject, DynamicObject>>(
+    rt: &impl Abort,
+    alloc: Global,
+    mapper: &M,
+) -> String
+    requires { M.can_map mapper.now }
+{
+    let object = object(rt, alloc);
+    let references = mapper.references(alloc, &object).expect(rt, "memory");
+    let mut shown = String::new(alloc);
+    for reference in references.as_slice() {
+        let one = format!(in alloc; "{reference};").expect(rt, "memory");
+        shown.push_str(one.as_str()).expect(rt, "memory");
+    }
+    shown
+}
+
+/// The reference that a function answers.
+fn one(rt: &impl Abort, alloc: Global) -> Vec<ObjectRef<DynamicObject>> {
+    let reference = ObjectRef::new_with(alloc, "d", kind(rt, alloc)).expect(rt, "memory");
+    vec![in alloc; reference].expect(rt, "memory")
+}
+
+#[test]
+fn maps_by_owners_by_a_label_and_by_a_function(rt: HostRuntime) {
+    let alloc = rt.alloc();
+    let dyntype = kind(&rt, alloc);
+    let owners = mapped(&rt, alloc, &Owners { dyntype });
+    assert_eq!(rt; owners.as_str(), "Root.v1./a.ns;Root.v1./b.ns;");
+    let label = text(&rt, alloc, "of");
+    let dyntype = kind(&rt, alloc);
+    let labelled = mapped(&rt, alloc, &ByLabel { label, dyntype });
+    assert_eq!(rt; labelled.as_str(), "Root.v1./c.ns;");
+    let function = |_object: &Arc<DynamicObject>| Ok(one(&rt, alloc));
+    let answered = mapped(&rt, alloc, &ByFunction { function });
+    assert_eq!(rt; answered.as_str(), "Root.v1./d;");
+}
+
+/// Why the root is asked no more of asks that were begun without a budget.
+fn stops(rt: &impl Abort, alloc: Global) -> String {
+    let api: TestMode<DynamicObject> = TestMode::new(alloc, Vec::new(alloc), Vec::new(alloc));
+    let root = WatchRoot::new(alloc, api, Config::default(), kind(rt, alloc));
+    let mut asks = Asks::new(alloc, root, NoRelated, StopBackoff);
+    asks.begin(Vec::new(alloc)).expect(rt, "memory");
+    let stops = asks.stops(alloc, false).expect(rt, "memory");
+    format!(in alloc; "{:?}", stops.as_slice()).expect(rt, "memory")
+}
+
+#[test]
+fn stops_where_there_is_no_budget(rt: HostRuntime) {
+    let stops = stops(&rt, rt.alloc());
+    assert_eq!(rt; stops.as_str(), "[Budget]");
+}

@@ -4,18 +4,18 @@
 mod live;
 mod plan;
 
-use kube_control::{Action, Controller, DefaultBackoff, NoRelated, Shutdown, Turn, WatchRoot};
-use kube_meta::{DynamicObject, List, Moment, NoMemory, Text};
+use kube_control::{Action, Controller, DefaultBackoff, NoRelated, Turn, WatchRoot};
+use kube_meta::{DynamicObject, List, Moment, Text};
 use kube_step::Recorder;
 use kube_watch::Config;
 use live::{Live, Row, kind};
 use plan::versions;
 use std::alloc::Global;
+use std::panic::Expect;
 use std::process::Abort;
 use std::sync::Arc;
-use std::test::Fail;
 
-type Tested = Controller<WatchRoot<Live>, NoRelated, DefaultBackoff>;
+type Tested<R> = Controller<WatchRoot<Live<R>>, NoRelated, DefaultBackoff>;
 
 /// Pages of 60, of a list that expires between two of them; a watch that is silent for longer than 6 seconds, and expires before
 /// it is opened again.
@@ -131,60 +131,33 @@ const STREAMED: [Row; 5] = [
     },
 ];
 
-fn configured(streaming: bool) -> Config {
+fn controller<R: Abort + Copy>(
+    rt: &R,
+    alloc: Global,
+    rows: &'static [Row],
+    streaming: bool,
+) -> Tested<R> {
     let config = Config::default().timeout(1).page_size(60);
-    if streaming {
+    let config = if streaming {
         config.streaming_lists()
     } else {
         config
-    }
+    };
+    let api = Live::new(rt, alloc, rows);
+    Controller::new_with(alloc, api, config, kind(rt, alloc)).expect(rt, "memory")
 }
 
-fn controller(alloc: Global, rows: &'static [Row], streaming: bool) -> Result<Tested, NoMemory> {
-    let api = Live::new(alloc, rows)?;
-    let kind = kind(alloc)?;
-    Controller::new_with(alloc, api, configured(streaming), kind)
-}
-
-fn turn(alloc: Global, row: Row) -> Result<Turn<DynamicObject, u64>, NoMemory> {
-    let mut budget = List::new(alloc);
-    budget.push(row.budget)?;
-    Ok(Turn {
-        at: Moment(row.at.saturating_mul(1_000_000_000)),
-        budget,
-        finishes: List::new(alloc),
-        reload: false,
-        on: List::new(alloc),
-        shutdown: Shutdown::No,
-        show: false,
-    })
-}
-
-/// One turn alone.
-fn turns(alloc: Global, row: Row) -> Result<Vec<Turn<DynamicObject, u64>>, NoMemory> {
-    let mut turns = Vec::new(alloc);
-    turns.push(turn(alloc, row)?)?;
-    Ok(turns)
-}
-
-/// Takes a turn; whether it was refused, or a fault came.
-fn run(
-    alloc: Global,
-    controller: &mut Tested,
-    recorder: &mut Recorder<DynamicObject>,
-    row: Row,
-) -> Result<bool, NoMemory> {
-    let context = Arc::new(alloc, ())?;
-    let turns = turns(alloc, row)?;
-    if turns.len() > 9 {
-        return Ok(true);
-    }
-    let policy = |_object: Arc<DynamicObject>, _error: &u64, _context: Arc<()>| Action::requeue(0);
-    Ok(
-        controller
-            .run(alloc, recorder, &policy, context, turns)
-            .is_err(),
-    )
+/// Takes a turn; whether it was neither refused nor a fault came.
+fn runs<R: Abort + Copy>(rt: &R, alloc: Global, controller: &mut Tested<R>, row: Row) -> bool {
+    let at = Moment(row.at.saturating_mul(1_000_000_000));
+    let budget = vec![in alloc; row.budget].expect(rt, "memory");
+    let turn = Turn::new(alloc, at, List::from(budget));
+    let turns = vec![in alloc; turn].expect(rt, "memory");
+    let context = Arc::new(alloc, ()).expect(rt, "memory");
+    let policy = |_: Arc<DynamicObject>, _: &u64, _: Arc<()>| Action::await_change();
+    controller
+        .run(alloc, &mut Recorder::new(alloc), &policy, context, turns)
+        .is_ok()
 }
 
 fn number(text: &Option<Text>) -> u64 {
@@ -207,66 +180,36 @@ fn versions_of(objects: &[Arc<DynamicObject>]) -> [u64; 200] {
 }
 
 /// Whether what is stored is the state at this revision; at 0, nothing.
-fn is_stored(alloc: Global, controller: &Tested, revision: u64) -> Result<bool, NoMemory> {
-    let objects = controller.cache().state(alloc)?;
-    Ok(versions_of(&objects) == versions(revision))
-}
-
-/// Whether a turn ends in a fault, or something else is stored after it.
-fn is_other(
+fn is_stored<R: Abort + Copy>(
+    rt: &R,
     alloc: Global,
-    controller: &mut Tested,
-    recorder: &mut Recorder<DynamicObject>,
-    row: Row,
-) -> Result<bool, NoMemory> {
-    if run(alloc, controller, recorder, row)? {
-        return Ok(true);
-    }
-    Ok(!is_stored(alloc, controller, row.wanted)?)
+    controller: &Tested<R>,
+    revision: u64,
+) -> bool {
+    let objects = controller.cache().state(alloc).expect(rt, "memory");
+    versions_of(&objects) == versions(revision)
 }
 
 /// The second of the first turn that ends in a fault, or after which something else is stored; none where there is no such turn.
-fn first_other_of(
+fn first_other<R: Abort + Copy>(
+    rt: &R,
     alloc: Global,
-    controller: &mut Tested,
-    recorder: &mut Recorder<DynamicObject>,
-    rows: &[Row],
-) -> Result<Option<u64>, NoMemory> {
+    rows: &'static [Row],
+    streaming: bool,
+) -> Option<u64> {
+    let mut controller = controller(rt, alloc, rows, streaming);
     for row in rows {
-        if is_other(alloc, controller, recorder, *row)? {
-            return Ok(Some(row.at));
+        if !runs(rt, alloc, &mut controller, *row)
+            || !is_stored(rt, alloc, &controller, row.wanted)
+        {
+            return Some(row.at);
         }
     }
-    Ok(None)
-}
-
-/// The same for a controller of its own.
-fn first_other(
-    alloc: Global,
-    rows: &'static [Row],
-    streaming: bool,
-) -> Result<Option<u64>, NoMemory> {
-    let mut controller = controller(alloc, rows, streaming)?;
-    let mut recorder = Recorder::new(alloc);
-    first_other_of(alloc, &mut controller, &mut recorder, rows)
-}
-
-fn keeps_to<R: Abort + AllocGlobal>(
-    rt: &R,
-    rows: &'static [Row],
-    streaming: bool,
-) -> Result<(), Fail> {
-    let other = first_other(rt.alloc(), rows, streaming)?;
-    assert_eq!(rt; other, None);
-    Ok(())
+    None
 }
 
 #[test]
-fn lists_in_pages_are_stored_as_states(rt: HostRuntime) -> Result<(), Fail> {
-    keeps_to(&rt, &LISTED, false)
-}
-
-#[test]
-fn initial_watches_are_stored_as_states(rt: HostRuntime) -> Result<(), Fail> {
-    keeps_to(&rt, &STREAMED, true)
+fn what_is_stored_is_a_state(rt: HostRuntime) {
+    assert_eq!(rt; first_other(&rt, rt.alloc(), &LISTED, false), None);
+    assert_eq!(rt; first_other(&rt, rt.alloc(), &STREAMED, true), None);
 }

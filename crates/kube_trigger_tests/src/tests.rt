@@ -10,17 +10,17 @@ use kube_trigger::{
 };
 use kube_turn::ReconcileRequest;
 use kube_watch::{EventStream, StreamFault};
-use std::alloc::{AllocError, Global};
-use std::collections::VecDeque;
+use std::alloc::Global;
+use std::panic::Expect;
 use std::process::Abort;
 use std::sync::Arc;
-use std::test::Fail;
 
 type Pod = Arc<DynamicObject>;
 
 type Request = ReconcileRequest<DynamicObject>;
 
 /// What a stream of pods gives.
+#[derive(Clone, Copy)]
 enum Said {
     /// A pod of this name, owned by a replica set and a deployment.
     Owned(&'static str),
@@ -31,13 +31,105 @@ enum Said {
     Spent,
 }
 
-/// Gives its answers, one a poll, and then ends.
-#[derive(Drop)]
-struct Scripted {
-    answers: VecDeque<Next<Result<Pod, Error>>>,
+/// Which trigger stands on a stream: for the replica sets that own its pods, plain or shared; for two config maps of each pod; for
+/// each pod itself; or for what a function answers, the config map that has its pod's name.
+#[derive(Clone, Copy)]
+enum By {
+    Owners,
+    Shared,
+    Others,
+    Own,
+    Function,
 }
 
-impl EventStream for Scripted {
+/// What a stream gives before it ends, and what a trigger on it answers, a poll a line.
+type Row = (By, &'static [Said], &'static str);
+
+const OWNED: &str = "ReplicaSet.v1.apps/rs.ns, rs-uid: related object updated: Pod.v1./a.ns
+spent
+end
+";
+
+const ROWS: [Row; 5] = [
+    (By::Owners, &[Said::Owned("a"), Said::Bare("b")], OWNED),
+    (By::Shared, &[Said::Owned("a"), Said::Bare("b")], OWNED),
+    (
+        By::Others,
+        &[Said::Bare("a"), Said::NotReady, Said::Bare("")],
+        "ConfigMap.v1./cm1, no uid: related object updated: Pod.v1./a.ns
+ConfigMap.v1./cm2, no uid: related object updated: Pod.v1./a.ns
+not ready
+unnamed
+unnamed
+",
+    ),
+    (
+        By::Own,
+        &[Said::Failed, Said::Spent, Said::Bare("a")],
+        "error
+spent
+Pod.v1./a.ns, no uid: object updated
+end
+",
+    ),
+    (
+        By::Function,
+        &[Said::Failed, Said::Bare("a"), Said::Bare("")],
+        "error
+ConfigMap.v1./a, no uid: unknown
+unnamed
+unnamed
+",
+    ),
+];
+
+fn text(rt: &impl Abort, alloc: Global, text: &str) -> Text {
+    Text::new(alloc, text).expect(rt, "memory")
+}
+
+fn owner(rt: &impl Abort, alloc: Global, kind: &str, name: &str, uid: &str) -> OwnerReference {
+    OwnerReference {
+        api_version: text(rt, alloc, "apps/v1"),
+        kind: text(rt, alloc, kind),
+        name: text(rt, alloc, name),
+        uid: text(rt, alloc, uid),
+    }
+}
+
+fn owners(rt: &impl Abort, alloc: Global) -> List<OwnerReference> {
+    let replica_set = owner(rt, alloc, "ReplicaSet", "rs", "rs-uid");
+    let deployment = owner(rt, alloc, "Deployment", "d", "d-uid");
+    List::from(vec![in alloc; replica_set, deployment].expect(rt, "memory"))
+}
+
+/// A pod of this name, or of none, in the namespace `ns`.
+fn pod(rt: &impl Abort, alloc: Global, name: &str, is_owned: bool) -> Pod {
+    let metadata = ObjectMeta {
+        name: if name.is_empty() {
+            None
+        } else {
+            Some(text(rt, alloc, name))
+        },
+        namespace: Some(text(rt, alloc, "ns")),
+        owner_references: if is_owned {
+            Some(owners(rt, alloc))
+        } else {
+            None
+        },
+        ..ObjectMeta::empty()
+    };
+    Arc::new(alloc, DynamicObject::bare(metadata)).expect(rt, "memory")
+}
+
+/// Gives its answers, one a poll, and then ends. It has what it stops by for want of memory.
+#[derive(Drop)]
+struct Scripted<R> {
+    rt: R,
+    script: &'static [Said],
+    next: usize,
+}
+
+impl<R: Abort + Copy> EventStream for Scripted<R> {
     ghost use Rattle.std.specs.Prelude.{None};
 
     type Item = Pod;
@@ -48,249 +140,140 @@ impl EventStream for Scripted {
 
     fn poll_next(
         &mut self,
-        _alloc: Global,
+        alloc: Global,
         _now: Moment,
         _fuel: u32,
     ) -> Result<Next<Result<Pod, Error>>, StreamFault> {
-        match self.answers.pop_front() {
-            Some(answer) => Ok(answer),
-            None => Ok(Next::End),
-        }
+        let Some(said) = self.script.get(self.next) else {
+            return Ok(Next::End);
+        };
+        self.next = self.next.saturating_add(1);
+        Ok(match *said {
+            Said::Owned(name) => Next::Item(Ok(pod(&self.rt, alloc, name, true))),
+            Said::Bare(name) => Next::Item(Ok(pod(&self.rt, alloc, name, false))),
+            Said::Failed => Next::Item(Err(Error::NoResourceVersion)),
+            Said::NotReady => Next::NotReady,
+            Said::Spent => Next::Spent,
+        })
     }
-}
-
-fn owner(alloc: Global, kind: &str, name: &str, uid: &str) -> Result<OwnerReference, NoMemory> {
-    Ok(OwnerReference {
-        api_version: Text::new(alloc, "apps/v1")?,
-        kind: Text::new(alloc, kind)?,
-        name: Text::new(alloc, name)?,
-        uid: Text::new(alloc, uid)?,
-    })
-}
-
-fn owners(alloc: Global) -> Result<List<OwnerReference>, NoMemory> {
-    let mut owners = List::new(alloc);
-    owners.push(owner(alloc, "ReplicaSet", "rs", "rs-uid")?)?;
-    owners.push(owner(alloc, "Deployment", "d", "d-uid")?)?;
-    Ok(owners)
-}
-
-/// A pod of this name, or of none, in the namespace `ns`.
-fn pod(
-    alloc: Global,
-    name: &str,
-    owner_references: Option<List<OwnerReference>>,
-) -> Result<Pod, NoMemory> {
-    let name = if name.is_empty() {
-        None
-    } else {
-        Some(Text::new(alloc, name)?)
-    };
-    let metadata = ObjectMeta {
-        name,
-        namespace: Some(Text::new(alloc, "ns")?),
-        owner_references,
-        ..ObjectMeta::empty()
-    };
-    Ok(Arc::new(alloc, DynamicObject::bare(metadata))?)
-}
-
-fn answer_of(alloc: Global, said: &Said) -> Result<Next<Result<Pod, Error>>, NoMemory> {
-    Ok(match said {
-        Said::Owned(name) => Next::Item(Ok(pod(alloc, name, Some(owners(alloc)?))?)),
-        Said::Bare(name) => Next::Item(Ok(pod(alloc, name, None)?)),
-        Said::Failed => Next::Item(Err(Error::NoResourceVersion)),
-        Said::NotReady => Next::NotReady,
-        Said::Spent => Next::Spent,
-    })
-}
-
-fn pods(alloc: Global, all: &[Said]) -> Result<Scripted, NoMemory> {
-    let mut answers = VecDeque::new(alloc);
-    for said in all {
-        answers.push_back(answer_of(alloc, said)?)?;
-    }
-    Ok(Scripted { answers })
 }
 
 /// The type of this name, in a group.
-fn kind(alloc: Global, group: &str, name: &str) -> Result<Arc<ApiResource>, NoMemory> {
-    Ok(Arc::new(
-        alloc,
-        ApiResource {
-            group: Text::new(alloc, group)?,
-            version: Text::new(alloc, "v1")?,
-            api_version: Text::new(alloc, "v1")?,
-            kind: Text::new(alloc, name)?,
-            plural: Text::new(alloc, name)?,
-        },
-    )?)
+fn kind(rt: &impl Abort, alloc: Global, group: &str, name: &str) -> Arc<ApiResource> {
+    let resource = ApiResource::new(alloc, group, "v1", name, name).expect(rt, "memory");
+    Arc::new(alloc, resource).expect(rt, "memory")
 }
 
-/// A request's reference with the uid that it keeps, and its reason.
-fn shown_request(alloc: Global, request: &Request) -> Result<String, AllocError> {
+/// A request's reference with the uid that it keeps, and its reason, as a line.
+fn shown_request(rt: &impl Abort, alloc: Global, request: &Request) -> String {
     let uid = match &request.obj_ref.extra.uid {
         Some(uid) => uid.as_str(),
         None => "no uid",
     };
-    format!(in alloc; "{}, {}: {}", request.obj_ref, uid, request.reason)
+    format!(in alloc; "{}, {uid}: {}\n", request.obj_ref, request.reason).expect(rt, "memory")
 }
 
-/// What is shown of an answer.
+/// The line of an answer.
 fn shown(
+    rt: &impl Abort,
     alloc: Global,
     answer: &Result<Next<Result<Request, Error>>, StreamFault>,
-) -> Result<String, AllocError> {
-    match answer {
-        Ok(Next::Item(Ok(request))) => shown_request(alloc, request),
-        Ok(Next::Item(Err(_))) => format!(in alloc; "error"),
-        Ok(Next::NotReady) => format!(in alloc; "not ready"),
-        Ok(Next::Spent) => format!(in alloc; "spent"),
-        Ok(Next::End) => format!(in alloc; "end"),
-        Err(StreamFault::Unnamed) => format!(in alloc; "unnamed"),
-        Err(StreamFault::NoMemory) => format!(in alloc; "no memory"),
-    }
+) -> String {
+    let word = match answer {
+        Ok(Next::Item(Ok(request))) => return shown_request(rt, alloc, request),
+        Ok(Next::Item(Err(_))) => "error\n",
+        Ok(Next::NotReady) => "not ready\n",
+        Ok(Next::Spent) => "spent\n",
+        Ok(Next::End) => "end\n",
+        Err(StreamFault::Unnamed) => "unnamed\n",
+        Err(StreamFault::NoMemory) => "no memory\n",
+    };
+    String::from_str(alloc, word).expect(rt, "memory")
 }
 
 /// What so many polls of a stream with fuel 1 answer, a line each.
 fn polled<S: EventStream<Item = Request>>(
+    rt: &impl Abort,
     alloc: Global,
     stream: S,
-    polls: u32,
-) -> Result<String, AllocError>
+    polls: usize,
+) -> String
     requires { S.can_poll stream }
 {
     let mut stream = stream;
     let mut lines = String::new(alloc);
     for _poll in 0..polls {
         let answer = stream.poll_next(alloc, Moment(0), 1);
-        lines.push_str(shown(alloc, &answer)?.as_str())?;
-        lines.push_str("\n")?;
+        let line = shown(rt, alloc, &answer);
+        lines.push_str(line.as_str()).expect(rt, "memory");
     }
-    Ok(lines)
-}
-
-/// A pod with two owners, one without any, and the end.
-fn owned_and_bare(alloc: Global) -> Result<Scripted, NoMemory> {
-    pods(alloc, &[Said::Owned("a"), Said::Bare("b")])
-}
-
-const OWNED: &str = "ReplicaSet.v1.apps/rs.ns, rs-uid: related object updated: Pod.v1./a.ns
-spent
-end
-";
-
-#[test]
-fn owners_of_the_type_are_requested(rt: HostRuntime) -> Result<(), Fail> {
-    let alloc = rt.alloc();
-    let stream = trigger_owners(
-        alloc,
-        owned_and_bare(alloc)?,
-        kind(alloc, "apps", "ReplicaSet")?,
-        kind(alloc, "", "Pod")?,
-    );
-    assert_eq!(rt; polled(alloc, stream, 3)?.as_str(), OWNED);
-    Ok(())
-}
-
-#[test]
-fn owners_of_shared_objects_are_requested(rt: HostRuntime) -> Result<(), Fail> {
-    let alloc = rt.alloc();
-    let stream = trigger_owners_shared(
-        alloc,
-        owned_and_bare(alloc)?,
-        kind(alloc, "apps", "ReplicaSet")?,
-        kind(alloc, "", "Pod")?,
-    );
-    assert_eq!(rt; polled(alloc, stream, 3)?.as_str(), OWNED);
-    Ok(())
+    lines
 }
 
 /// The config map of this name.
-fn config_map(
-    alloc: Global,
-    dyntype: &Arc<ApiResource>,
-    name: &str,
-) -> Result<ObjectRef<DynamicObject>, NoMemory> {
-    ObjectRef::new_with(alloc, name, dyntype.clone()?)
+fn config_map(alloc: Global, name: &str) -> Result<ObjectRef<DynamicObject>, NoMemory> {
+    let resource = ApiResource::new(alloc, "", "v1", "ConfigMap", "configmaps")?;
+    ObjectRef::new_with(alloc, name, Arc::new(alloc, resource)?)
 }
 
-/// The config maps cm1 and cm2.
-fn two_config_maps(
-    alloc: Global,
-    dyntype: &Arc<ApiResource>,
-) -> Result<Vec<ObjectRef<DynamicObject>>, NoMemory> {
+fn two_config_maps(alloc: Global) -> Result<Vec<ObjectRef<DynamicObject>>, NoMemory> {
     let mut references = Vec::new(alloc);
-    references.push(config_map(alloc, dyntype, "cm1")?)?;
-    references.push(config_map(alloc, dyntype, "cm2")?)?;
+    references.push(config_map(alloc, "cm1")?)?;
+    references.push(config_map(alloc, "cm2")?)?;
     Ok(references)
 }
 
-#[test]
-fn all_that_a_function_answers_is_requested(rt: HostRuntime) -> Result<(), Fail> {
-    let alloc = rt.alloc();
-    let config_maps = kind(alloc, "", "ConfigMap")?;
-    let said = pods(alloc, &[Said::Bare("a"), Said::NotReady, Said::Bare("")])?;
-    let stream = trigger_others(
-        alloc,
-        said,
-        |_pod: &Pod| two_config_maps(alloc, &config_maps),
-        kind(alloc, "", "Pod")?,
-    );
-    let wanted = "ConfigMap.v1./cm1, no uid: related object updated: Pod.v1./a.ns
-ConfigMap.v1./cm2, no uid: related object updated: Pod.v1./a.ns
-not ready
-unnamed
-unnamed
-";
-    assert_eq!(rt; polled(alloc, stream, 5)?.as_str(), wanted);
-    Ok(())
-}
-
-#[test]
-fn objects_request_themselves_and_errors_pass(rt: HostRuntime) -> Result<(), Fail> {
-    let alloc = rt.alloc();
-    let said = pods(alloc, &[Said::Failed, Said::Spent, Said::Bare("a")])?;
-    let stream = trigger_self(alloc, said, kind(alloc, "", "Pod")?);
-    let wanted = "error
-spent
-Pod.v1./a.ns, no uid: object updated
-end
-";
-    assert_eq!(rt; polled(alloc, stream, 4)?.as_str(), wanted);
-    Ok(())
-}
-
-/// The request for a config map that has the name of a pod; a pod without a name is refused.
-fn namesake(
-    alloc: Global,
-    dyntype: &Arc<ApiResource>,
-    pod: &Pod,
-) -> Result<Vec<Request>, StreamFault> {
+/// The request for the config map that has the name of a pod; a pod without a name is refused.
+fn namesake(alloc: Global, pod: &Pod) -> Result<Vec<Request>, StreamFault> {
+    let Some(name) = &pod.metadata.name else {
+        return Err(StreamFault::Unnamed);
+    };
     let mut requests = Vec::new(alloc);
-    match &pod.metadata.name {
-        Some(name) => {
-            let reference = config_map(alloc, dyntype, name.as_str())?;
-            requests
-                .push(ReconcileRequest::from_ref(reference))
-                .map_err(|_| StreamFault::NoMemory)?;
-            Ok(requests)
+    let request = ReconcileRequest::from_ref(config_map(alloc, name.as_str())?);
+    match requests.push(request) {
+        Ok(()) => Ok(requests),
+        Err(_) => Err(StreamFault::NoMemory),
+    }
+}
+
+/// What polls of the trigger of a row answer, as many as it has lines.
+fn answered<R: Abort + Copy>(rt: &R, alloc: Global, row: Row) -> String {
+    let (by, script, wanted) = row;
+    let polls = wanted.lines().count();
+    let stream = Scripted {
+        rt: *rt,
+        script,
+        next: 0,
+    };
+    let owner = kind(rt, alloc, "apps", "ReplicaSet");
+    let child = kind(rt, alloc, "", "Pod");
+    match by {
+        By::Owners => polled(
+            rt,
+            alloc,
+            trigger_owners(alloc, stream, owner, child),
+            polls,
+        ),
+        By::Shared => {
+            let stream = trigger_owners_shared(alloc, stream, owner, child);
+            polled(rt, alloc, stream, polls)
         }
-        None => Err(StreamFault::Unnamed),
+        By::Others => {
+            let stream = trigger_others(alloc, stream, |_: &Pod| two_config_maps(alloc), child);
+            polled(rt, alloc, stream, polls)
+        }
+        By::Own => polled(rt, alloc, trigger_self(alloc, stream, child), polls),
+        By::Function => {
+            let stream = trigger_with(alloc, stream, |pod: Pod| namesake(alloc, &pod));
+            polled(rt, alloc, stream, polls)
+        }
     }
 }
 
 #[test]
-fn requests_that_a_function_answers_are_given(rt: HostRuntime) -> Result<(), Fail> {
-    let alloc = rt.alloc();
-    let config_maps = kind(alloc, "", "ConfigMap")?;
-    let said = pods(alloc, &[Said::Failed, Said::Bare("a"), Said::Bare("")])?;
-    let stream = trigger_with(alloc, said, |pod: Pod| namesake(alloc, &config_maps, &pod));
-    let wanted = "error
-ConfigMap.v1./a, no uid: unknown
-unnamed
-unnamed
-";
-    assert_eq!(rt; polled(alloc, stream, 4)?.as_str(), wanted);
-    Ok(())
+fn triggers_answer_what_their_rows_say(rt: HostRuntime) {
+    for row in ROWS {
+        let answered = answered(&rt, rt.alloc(), row);
+        assert_eq!(rt; answered.as_str(), row.2);
+    }
 }

@@ -7,7 +7,7 @@ use kube_meta::{ObjectMeta, Resource};
 /// A node.
 #[derive(Drop)]
 pub struct Node {
-    metadata: ObjectMeta,
+    pub metadata: ObjectMeta,
 }
 
 impl Resource for Node {

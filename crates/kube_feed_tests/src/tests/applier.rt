@@ -1,262 +1,95 @@
-//! Appliers: rows of turns over a queue and a store, and many references that are made again.
+//! Appliers over a store and a queue of many requests, and controllers with sources of owned objects.
 
-use super::objects::{
-    Maps, Named, Reads, Stored, add, apply, drop_writer, handle, kind, publish, told, writer,
+use super::node::Node;
+use kube_api::{ApiError, ApiMode, ListParams, Page, WatchEvent, WatchParams};
+use kube_feed::{
+    Applier, Config, Finish, ReconcileRequest, Recorder, RunError, Store, Trace, Turn, TurnRecord,
+    applier,
 };
-use super::scripted::{Request, Said, Scripted};
-use super::shown::{add_line, records, told_once};
-use super::turns::{Answered, Ask, Row, one_turn, run, turns};
-use kube_feed::{Applier, Config, Finish, Recorder, Taken, Turn, TurnRecord, applier};
-use kube_meta::{Action, DynamicObject, List, Moment, Next, ObjectRef};
+use kube_meta::{Action, List, Moment, Next, NoMemory, ObjectMeta, ObjectRef, Polled, Text};
 use kube_model::error::Error;
-use kube_turn::ReconcileRequest;
-use kube_watch::{Event, EventStream, StreamFault};
+use kube_reflect::Writer;
+use kube_watch::{Config as WatcherConfig, Event, EventStream, StreamFault};
 use std::alloc::Global;
 use std::panic::Expect;
 use std::process::Abort;
-use std::sync::Wait;
+use std::sync::{Arc, Wait};
 
-type Tested<R> = Applier<DynamicObject, Scripted<R, Request>>;
+/// How many nodes a store has, or none where its writer ended before it told a list; how many of them a queue requests, and
+/// whether it ends then; how often it may be asked in a turn. Each turn but the first finishes all that the queue requested, to
+/// be made again at once. Then what each turn has: exchanges, what was taken and finished, whether the runner and the trace
+/// ended.
+struct Row {
+    stored: Option<u32>,
+    requests: u32,
+    ends: bool,
+    budget: u32,
+    wanted: &'static [[usize; 5]],
+}
 
-/// What the store's writer told, how many references run at a time, what the queue answers, and the turns.
-type Case = (Stored, u16, &'static [Said], &'static [Row], &'static str);
-
-const AB: &[Named] = &[("b", "1"), ("a", "1")];
-
-const CASES: &[Case] = &[
-    // the store's writer ended before a list was complete
-    (
-        Stored::Ended,
-        0,
-        &[],
-        &[
-            ((0, &[0], &[]), "; ; budget; ; not shown; dropped; ended"),
-            ((1, &[0], &[]), ""),
+const ROWS: [Row; 3] = [
+    Row {
+        stored: None,
+        requests: 0,
+        ends: false,
+        budget: 0,
+        wanted: &[[0, 0, 0, 1, 1]],
+    },
+    Row {
+        stored: Some(1),
+        requests: 1,
+        ends: true,
+        budget: 2,
+        wanted: &[[2, 0, 0, 0, 1]],
+    },
+    Row {
+        stored: Some(5_000),
+        requests: 5_000,
+        ends: false,
+        budget: 5_000,
+        wanted: &[
+            [5_000, 5_000, 0, 0, 0],
+            [1, 5_000, 5_000, 0, 0],
+            [1, 5_000, 5_000, 0, 0],
+            [1, 5_000, 5_000, 0, 0],
         ],
-        "1 ran",
-    ),
-    // the end of the queue is a shutdown
-    (
-        Stored::Listed(AB),
-        0,
-        &[Said::Of("a"), Said::End],
-        &[(
-            (0, &[2], &[]),
-            "; 0 item a, 0 end; not ready; ; not shown; ended",
-        )],
-        "1 ran",
-    ),
-    // also while something runs
-    (
-        Stored::Listed(AB),
-        0,
-        &[Said::Of("a"), Said::NotReady, Said::End, Said::Of("b")],
-        &[
-            (
-                (0, &[2], &[]),
-                "; 0 item a, 0 not ready; not ready; a1 named; not shown",
-            ),
-            ((1, &[9], &[]), "; 0 end; not ready; ; not shown"),
-            ((2, &[9], &[]), "; ; not ready; ; not shown"),
-            (
-                (3, &[9], &[Ask::Again("a", 0), Ask::On("b")]),
-                "a again 0; ; not ready; ; not shown; ended",
-            ),
-        ],
-        "4 ran",
-    ),
-    // nothing is taken before the store is ready, nor after shutdown was asked
-    (
-        Stored::Nothing,
-        0,
-        &[Said::Of("a")],
-        &[
-            ((0, &[1], &[]), "; 0 item a; budget; ; not shown"),
-            (
-                (1, &[1], &[Ask::Graceful, Ask::Show]),
-                "; ; shutdown; ; ; ended",
-            ),
-        ],
-        "2 ran",
-    ),
-    // an error of the queue pauses nothing
-    (
-        Stored::Listed(AB),
-        0,
-        &[Said::Failed, Said::Spent, Said::Of("a")],
-        &[(
-            (0, &[9], &[]),
-            "; 0 item failed, 0 spent, 0 item a, 0 not ready; not ready; a1 named; not shown",
-        )],
-        "1 ran",
-    ),
-    // reloads, named references, what is not found, and what is made again
-    (
-        Stored::Listed(AB),
-        0,
-        &[],
-        &[
-            (
-                (0, &[0], &[Ask::Reload, Ask::On("c"), Ask::Show]),
-                "; ; budget; a1 in bulk, b1 in bulk, no c named; b1, a1",
-            ),
-            (
-                (1, &[0], &[Ask::Done("a"), Ask::Again("b", 0)]),
-                "a done, b again 0; ; budget; b1 retried; not shown",
-            ),
-            (
-                (2, &[0], &[Ask::Failed("b", 5)]),
-                "b again 5; ; budget; ; not shown",
-            ),
-            ((7, &[0], &[]), "; ; budget; b1 failed; not shown"),
-            (
-                (7, &[0], &[Ask::Forced]),
-                "; ; shutdown; ; not shown; ended",
-            ),
-        ],
-        "5 ran",
-    ),
-    // as many run as may
-    (
-        Stored::Listed(AB),
-        1,
-        &[Said::Of("c"), Said::Of("a"), Said::Of("b")],
-        &[
-            (
-                (0, &[3], &[]),
-                "; 0 item c, 0 item a, 0 item b; budget; no c named, a1 named; not shown",
-            ),
-            (
-                (1, &[0], &[Ask::Done("a")]),
-                "a done; ; budget; b1 named; not shown",
-            ),
-        ],
-        "2 ran",
-    ),
-    // an item without a name ends the run
-    (
-        Stored::Listed(AB),
-        0,
-        &[Said::Of("a"), Said::Unnamed],
-        &[
-            ((0, &[1], &[]), "; 0 item a; budget; a1 named; not shown"),
-            ((1, &[1], &[]), ""),
-        ],
-        "1, then turn 1: source 0 unnamed",
-    ),
-    // a turn that is refused changes nothing
-    (
-        Stored::Listed(AB),
-        0,
-        &[Said::Of("a")],
-        &[
-            ((5, &[1], &[]), "; 0 item a; budget; a1 named; not shown"),
-            ((6, &[1], &[Ask::Done("a"), Ask::Done("a")]), ""),
-        ],
-        "1, then turn 1: finish 1 twice",
-    ),
+    },
 ];
 
-fn make<R: Abort + Copy>(
-    rt: &R,
-    alloc: Global,
-    store: Reads,
-    concurrency: u16,
-    script: &'static [Said],
-) -> Tested<R> {
-    let config = Config::default().concurrency(concurrency);
-    applier(alloc, store, Scripted::new(rt, script), config).expect(rt, "memory")
+fn name(rt: &impl Abort, alloc: Global, number: u32) -> Text {
+    Text::from(format!(in alloc; "n{number}").expect(rt, "memory"))
 }
 
-/// What the records of a case's run over this store tell, and how it ended.
-fn ran<R: Abort + Copy + Wait>(rt: &R, alloc: Global, case: &Case, store: Reads) -> String {
-    let (_told, concurrency, script, rows, _end) = *case;
-    let turns = turns(rt, alloc, rows);
-    let mut recorder = Recorder::new(alloc);
-    let mut applier = make(rt, alloc, store, concurrency, script);
-    let answered = run(rt, alloc, &mut applier, &mut recorder, turns);
-    told_once(rt, alloc, answered)
+fn reference(rt: &impl Abort, alloc: Global, number: u32) -> ObjectRef<Node> {
+    let name = name(rt, alloc, number);
+    ObjectRef::new(alloc, name.as_str()).expect(rt, "memory")
 }
 
-/// The same over a store of its own.
-fn made<R: Abort + Copy + Wait>(rt: &R, alloc: Global, case: &Case) -> String {
-    let (stored, _concurrency, _script, _rows, _end) = *case;
-    let mut writer = writer(rt, alloc);
-    let store = handle(rt, &mut writer);
-    let writer = told(rt, alloc, writer, stored);
-    let made = ran(rt, alloc, case, store);
-    drop_writer(writer);
-    made
+/// That a node is listed.
+fn listed(rt: &impl Abort, alloc: Global, number: u32) -> Event<Arc<Node>> {
+    let metadata = ObjectMeta {
+        name: Some(name(rt, alloc, number)),
+        ..ObjectMeta::empty()
+    };
+    Event::InitApply(Arc::new(alloc, Node { metadata }).expect(rt, "memory"))
 }
 
-/// What a case's rows and end tell, a line each.
-fn wanted(rt: &impl Abort, alloc: Global, case: &Case) -> String {
-    let (_told, _concurrency, _script, rows, end) = *case;
-    let mut lines = String::new(alloc);
-    for (_given, told) in rows {
-        if !told.is_empty() {
-            add_line(rt, &mut lines, told);
-        }
-    }
-    add_line(rt, &mut lines, end);
-    lines
-}
-
-#[test]
-fn appliers_take_turns(rt: HostRuntime) {
-    let alloc = rt.alloc();
-    for case in CASES {
-        let made = made(&rt, alloc, case);
-        let wanted = wanted(&rt, alloc, case);
-        assert_eq!(rt; made.as_str(), wanted.as_str());
-    }
-}
-
-/// How many references there are.
-const MANY: u32 = 5_000;
-
-/// The name of a number.
-fn name_of(rt: &impl Abort, alloc: Global, number: u32) -> String {
-    format!(in alloc; "o{number}").expect(rt, "memory")
-}
-
-/// The object of a number is told.
-fn add_numbered(rt: &impl Abort, alloc: Global, writer: &mut Maps, number: u32) {
-    let name = name_of(rt, alloc, number);
-    add(rt, alloc, writer, (name.as_str(), "1"));
-}
-
-/// A list of many objects.
-fn list_many(rt: &impl Abort, alloc: Global, writer: &mut Maps) {
-    for number in 0..MANY {
-        add_numbered(rt, alloc, writer, number);
-    }
-    apply(rt, alloc, writer, &Event::InitDone);
-}
-
-/// Requests many objects, one a poll, and then is not ready. It has what it stops by for want of memory.
+/// Requests so many nodes, one a poll; then it ends or is not ready. It has what it stops by for want of memory.
 #[derive(Drop)]
-struct Many<R> {
+struct Queue<R> {
     rt: R,
     next: u32,
+    requests: u32,
+    ends: bool,
 }
 
-/// The request for the object of a number.
-fn request(rt: &impl Abort, alloc: Global, number: u32) -> Request {
-    let name = name_of(rt, alloc, number);
-    let dyntype = kind(rt, alloc, "ConfigMap");
-    let reference = ObjectRef::new_with(alloc, name.as_str(), dyntype).expect(rt, "memory");
-    ReconcileRequest::from_ref(reference)
-}
-
-impl<R: Abort + Copy> EventStream for Many<R> {
+impl<R: Abort + Copy> EventStream for Queue<R> {
     ghost use Rattle.std.specs.Prelude.{None};
 
-    type Item = Request;
+    type Item = ReconcileRequest<Node>;
 
     ghost told = { λ _. None };
 
-    // it answers no fault
     ghost fault = { λ _. None };
 
     fn poll_next(
@@ -264,120 +97,217 @@ impl<R: Abort + Copy> EventStream for Many<R> {
         alloc: Global,
         _now: Moment,
         _fuel: u32,
-    ) -> Result<Next<Result<Request, Error>>, StreamFault> {
-        if self.next == MANY {
-            return Ok(Next::NotReady);
+    ) -> Result<Next<Result<ReconcileRequest<Node>, Error>>, StreamFault> {
+        if self.next >= self.requests {
+            return Ok(if self.ends { Next::End } else { Next::NotReady });
         }
-        let number = self.next;
-        self.next = number.saturating_add(1);
-        Ok(Next::Item(Ok(request(&self.rt, alloc, number))))
+        let reference = reference(&self.rt, alloc, self.next);
+        self.next = self.next.saturating_add(1);
+        Ok(Next::Item(Ok(ReconcileRequest::from_ref(reference))))
     }
 }
 
-/// A finish of what was started, which is made again at once.
-fn again(
-    rt: &impl Abort,
-    alloc: Global,
-    taken: &Taken<DynamicObject>,
-) -> Option<Finish<DynamicObject, u64>> {
-    match taken {
-        Taken::Started { reference, .. } => Some(Finish {
-            reference: reference.copy(alloc).expect(rt, "memory"),
-            outcome: Ok(Action::requeue(0)),
-        }),
-        Taken::NotFound { .. } => None,
-        Taken::Nothing => None,
-    }
+type Nodes<R> = Applier<Node, Queue<R>>;
+
+type Answered = Result<Trace<Node, u64>, RunError<Node, u64>>;
+
+fn queued<R: Abort + Copy>(rt: &R, alloc: Global, store: Store<Node>, row: &Row) -> Nodes<R> {
+    let queue = Queue {
+        rt: *rt,
+        next: 0,
+        requests: row.requests,
+        ends: row.ends,
+    };
+    applier(alloc, store, queue, Config::default()).expect(rt, "memory")
 }
 
-/// The finishes of all that a record started.
-fn all_again(
-    rt: &impl Abort,
-    alloc: Global,
-    record: &TurnRecord<DynamicObject, u64>,
-) -> List<Finish<DynamicObject, u64>> {
+/// So many finishes of the first nodes, to be made again at once.
+fn finishes(rt: &impl Abort, alloc: Global, count: u32) -> List<Finish<Node, u64>> {
     let mut finishes = List::new(alloc);
-    for taken in record.taken.as_slice() {
-        if let Some(finish) = again(rt, alloc, taken) {
-            finishes.push(finish).expect(rt, "memory");
-        }
+    for number in 0..count {
+        let reference = reference(rt, alloc, number);
+        let outcome = Ok(Action::requeue(0));
+        finishes
+            .push(Finish { reference, outcome })
+            .expect(rt, "memory");
     }
     finishes
 }
 
-/// The turn after a run, which finishes what its last record started.
-fn next_turn(rt: &impl Abort, alloc: Global, answered: &Answered) -> Vec<Turn<DynamicObject, u64>> {
-    match records(answered).last() {
-        Some(record) => {
-            let finishes = all_again(rt, alloc, record);
-            one_turn(rt, alloc, &[MANY, 1], finishes)
+fn turn(rt: &impl Abort, alloc: Global, budget: u32, finished: u32) -> Turn<Node, u64> {
+    let budget = vec![in alloc; budget].expect(rt, "memory");
+    Turn {
+        finishes: finishes(rt, alloc, finished),
+        ..Turn::new(alloc, Moment(0), List::from(budget))
+    }
+}
+
+fn turns(rt: &impl Abort, alloc: Global, row: &Row) -> Vec<Turn<Node, u64>> {
+    let mut turns = Vec::new(alloc);
+    for number in 0..row.wanted.len() {
+        let finished = if number == 0 { 0 } else { row.requests };
+        let turn = turn(rt, alloc, row.budget, finished);
+        turns.push(turn).expect(rt, "memory");
+    }
+    turns
+}
+
+/// What the turns of a row make over this store.
+fn run<R: Abort + Copy + Wait>(rt: &R, alloc: Global, store: Store<Node>, row: &Row) -> Answered {
+    let turns = turns(rt, alloc, row);
+    assert!(rt; turns.len() <= 9);
+    let mut nodes = queued(rt, alloc, store, row);
+    let context = Arc::new(alloc, ()).expect(rt, "memory");
+    let policy = |_node: Arc<Node>, _error: &u64, _context: Arc<()>| Action::await_change();
+    nodes.run(
+        rt,
+        alloc,
+        &mut Recorder::new(alloc),
+        &policy,
+        context,
+        turns,
+    )
+}
+
+fn counts(record: &TurnRecord<Node, u64>) -> [usize; 5] {
+    [
+        record.exchanges.len(),
+        record.taken.len(),
+        record.finished.len(),
+        record.runner.is_some() as usize,
+        record.ended as usize,
+    ]
+}
+
+/// Whether the turns have these counts.
+fn has_counts(answered: &Answered, wanted: &[[usize; 5]]) -> bool {
+    let Ok(trace) = answered else {
+        return false;
+    };
+    let mut is_as_wanted = trace.records.len() == wanted.len();
+    for (record, counted) in trace.records.as_slice().iter().zip(wanted) {
+        is_as_wanted = is_as_wanted && counts(record) == *counted;
+    }
+    is_as_wanted
+}
+
+fn apply(rt: &impl Abort, alloc: Global, writer: &mut Writer<Node>, event: &Event<Arc<Node>>) {
+    writer
+        .apply_watcher_event(alloc, event)
+        .expect(rt, "applied");
+}
+
+/// What a row stores is published, or the writer ends.
+fn store<R: Abort + Wait>(rt: &R, alloc: Global, writer: Writer<Node>, stored: Option<u32>) {
+    let mut writer = writer;
+    if let Some(count) = stored {
+        for number in 0..count {
+            let event = listed(rt, alloc, number);
+            apply(rt, alloc, &mut writer, &event);
         }
-        None => one_turn(rt, alloc, &[], List::new(alloc)),
+        apply(rt, alloc, &mut writer, &Event::InitDone);
     }
+    assert!(rt; writer.end(rt, alloc).is_ok());
 }
 
-type Asked<R> = Applier<DynamicObject, Many<R>>;
-
-fn run_turn<R: Abort + Copy + Wait>(
-    rt: &R,
-    alloc: Global,
-    applier: &mut Asked<R>,
-    turn: Vec<Turn<DynamicObject, u64>>,
-) -> Answered {
-    let mut recorder = Recorder::new(alloc);
-    run(rt, alloc, applier, &mut recorder, turn)
+/// A writer of nodes, and its handle.
+fn open(rt: &impl Abort, alloc: Global) -> (Writer<Node>, Store<Node>) {
+    let mut writer = Writer::new(alloc, (), 1).expect(rt, "memory");
+    let reads = writer.as_reader().expect(rt, "a handle");
+    (writer, reads)
 }
 
-/// What the turn after a run answers.
-fn run_next<R: Abort + Copy + Wait>(
-    rt: &R,
-    alloc: Global,
-    applier: &mut Asked<R>,
-    answered: Answered,
-) -> Answered {
-    let turn = next_turn(rt, alloc, &answered);
-    run_turn(rt, alloc, applier, turn)
-}
-
-/// How many references a run finished.
-fn finished(answered: &Answered) -> usize {
-    match records(answered).last() {
-        Some(record) => record.finished.as_slice().len(),
-        None => 0,
-    }
-}
-
-/// How many references an applier finishes in four turns.
-fn finished_by<R: Abort + Copy + Wait>(rt: &R, alloc: Global, applier: &mut Asked<R>) -> usize {
-    let first = one_turn(rt, alloc, &[MANY], List::new(alloc));
-    let mut answered = run_turn(rt, alloc, applier, first);
-    let mut all = finished(&answered);
-    for _turn in 1..4 {
-        answered = run_next(rt, alloc, applier, answered);
-        all = all.saturating_add(finished(&answered));
-    }
-    all
-}
-
-/// The same of an applier of many requests, over this store.
-fn finished_over<R: Abort + Copy + Wait>(rt: &R, alloc: Global, store: Reads) -> usize {
-    let queue = Many { rt: *rt, next: 0 };
-    let mut applier = applier(alloc, store, queue, Config::default()).expect(rt, "memory");
-    finished_by(rt, alloc, &mut applier)
-}
-
-/// The same over a store that has all.
-fn all_finished<R: Abort + Copy + Wait>(rt: &R, alloc: Global) -> usize {
-    let mut writer = writer(rt, alloc);
-    let store = handle(rt, &mut writer);
-    list_many(rt, alloc, &mut writer);
-    publish(rt, alloc, &mut writer);
-    let finished = finished_over(rt, alloc, store);
-    drop_writer(Some(writer));
-    finished
+/// Whether the turns of a row have the counts that it says.
+fn is_as_said<R: Abort + Copy + Wait>(rt: &R, alloc: Global, row: &Row) -> bool {
+    let (writer, reads) = open(rt, alloc);
+    store(rt, alloc, writer, row.stored);
+    has_counts(&run(rt, alloc, reads, row), row.wanted)
 }
 
 #[test]
-fn many_references_are_made_again(rt: HostRuntime) {
-    assert_eq!(rt; all_finished(&rt, rt.alloc()), 15_000);
+fn appliers_take_turns(rt: HostRuntime) {
+    for row in &ROWS {
+        assert!(rt;
+            is_as_said(&rt, rt.alloc(), row),
+            "{} requests",
+            row.requests
+        );
+    }
+}
+
+/// An API, and a stream, of which nothing comes.
+#[derive(Drop)]
+struct Silent;
+
+impl ApiMode for Silent {
+    type Value = Node;
+
+    fn list(
+        &mut self,
+        _alloc: Global,
+        _params: &ListParams,
+        _now: Moment,
+    ) -> Result<Polled<Result<Page<Node>, ApiError>>, NoMemory> {
+        Ok(Polled::NotReady)
+    }
+
+    fn watch(
+        &mut self,
+        _alloc: Global,
+        _params: &WatchParams,
+        _version: &str,
+        _now: Moment,
+    ) -> Result<Polled<Result<(), ApiError>>, NoMemory> {
+        Ok(Polled::NotReady)
+    }
+
+    fn next(
+        &mut self,
+        _alloc: Global,
+        _now: Moment,
+    ) -> Result<Polled<Option<Result<WatchEvent<Node>, ApiError>>>, NoMemory> {
+        Ok(Polled::NotReady)
+    }
+}
+
+impl EventStream for Silent {
+    ghost use Rattle.std.specs.Prelude.{None};
+
+    type Item = Arc<Node>;
+
+    ghost told = { λ _. None };
+
+    ghost fault = { λ _. None };
+
+    fn poll_next(
+        &mut self,
+        _alloc: Global,
+        _now: Moment,
+        _fuel: u32,
+    ) -> Result<Next<Result<Arc<Node>, Error>>, StreamFault> {
+        Ok(Next::NotReady)
+    }
+}
+
+/// Whether a controller takes a source of owned nodes: of an API, or of a stream, by this form of the call.
+fn owns<R: Abort + Copy>(rt: &R, alloc: Global, form: u8) -> bool {
+    let (_writer, reads) = open(rt, alloc);
+    let nodes = queued(rt, alloc, reads, &ROWS[0]);
+    match form {
+        0 => nodes.owns(alloc, Silent, WatcherConfig::default()).is_ok(),
+        1 => nodes
+            .owns_with(alloc, Silent, (), WatcherConfig::default())
+            .is_ok(),
+        2 => nodes.owns_stream(alloc, Silent).is_ok(),
+        3 => nodes.owns_stream_with(alloc, Silent, ()).is_ok(),
+        4 => nodes.owns_shared_stream(alloc, Silent).is_ok(),
+        _ => nodes.owns_shared_stream_with(alloc, Silent, ()).is_ok(),
+    }
+}
+
+#[test]
+fn takes_sources_of_owned_objects(rt: HostRuntime) {
+    for form in 0..6 {
+        assert!(rt; owns(&rt, rt.alloc(), form), "form {form}");
+    }
 }

@@ -1,6 +1,6 @@
 //! A connection to a server that changes between calls.
 
-ghost use Rattle.std.specs.Prelude.{◌≡◌, IfOk};
+ghost use Rattle.std.specs.Prelude.{◌≡◌};
 ghost use Rattle.kube_server.specs.History.{IsLater};
 
 use super::plan::{OBJECTS, is_removal, place};
@@ -8,9 +8,11 @@ use kube_api::{ApiError, ApiMode, ListParams, Page, WatchEvent, WatchParams};
 use kube_meta::{
     ApiResource, DynamicObject, Moment, NoMemory, ObjectMeta, ObjectRef, Polled, Text,
 };
-use kube_server::{Conn, Server, ServerRefusal};
+use kube_server::{Conn, Server};
 use std::alloc::Global;
 use std::marker::Model;
+use std::panic::Expect;
+use std::process::Abort;
 use std::sync::Arc;
 
 /// A turn, by its second: how many exchanges it may make, how many changes are made by its end, up to which revision they then
@@ -25,16 +27,17 @@ pub struct Row {
 }
 
 /// A server, and a connection to it that copies what is new there before each call. One change is made before each call,
-/// as many as its turn has.
+/// as many as its turn has. It has what it stops by for want of memory.
 #[derive(Drop)]
-pub struct Live {
+pub struct Live<R> {
+    rt: R,
     server: Server,
     conn: Conn,
     rows: &'static [Row],
     made: u64,
 }
 
-impl Model for Live {
+impl<R> Model for Live<R> {
     ghost use Rattle.kube_meta.specs.declared.dynamic.DynamicObject.{DynamicObject};
     ghost use Rattle.kube_server.specs.Connections.{Connection};
 
@@ -53,56 +56,26 @@ impl Model for Live {
 }
 
 /// The type of the objects.
-pub fn kind(alloc: Global) -> Result<Arc<ApiResource>, NoMemory> {
-    let resource = ApiResource {
-        group: Text::new(alloc, "")?,
-        version: Text::new(alloc, "v1")?,
-        api_version: Text::new(alloc, "v1")?,
-        kind: Text::new(alloc, "ConfigMap")?,
-        plural: Text::new(alloc, "configmaps")?,
-    };
-    Ok(Arc::new(alloc, resource)?)
+pub fn kind(rt: &impl Abort, alloc: Global) -> Arc<ApiResource> {
+    let resource = ApiResource::new(alloc, "", "v1", "ConfigMap", "configmaps");
+    Arc::new(alloc, resource.expect(rt, "memory")).expect(rt, "memory")
 }
 
-/// The name of the object at a place.
-fn name(alloc: Global, at: u64) -> Result<Text, NoMemory> {
-    let name = format!(in alloc; "{at}")?;
-    Text::new(alloc, name.as_str())
-}
-
-fn object(alloc: Global, at: u64) -> Result<DynamicObject, NoMemory> {
-    let metadata = ObjectMeta {
-        name: Some(name(alloc, at)?),
-        ..ObjectMeta::empty()
-    };
-    Ok(DynamicObject::bare(metadata))
-}
-
-fn reference(alloc: Global, at: u64) -> Result<ObjectRef<DynamicObject>, NoMemory> {
-    let name = name(alloc, at)?;
-    let kind = kind(alloc)?;
-    ObjectRef::new_with(alloc, name.as_str(), kind)
-}
-
-/// Nothing of the plan is refused but for want of memory.
-fn done(answer: Result<u64, ServerRefusal>) -> Result<(), NoMemory> {
-    match answer {
-        Ok(_revision) => Ok(()),
-        Err(_refusal) => Err(NoMemory),
-    }
-}
-
-/// Makes the change of this number.
-fn change(alloc: Global, server: &mut Server, number: u64) -> Result<(), NoMemory>
+/// Makes the change of this number. Where it is refused something else is stored than what is to be.
+fn change(rt: &impl Abort, alloc: Global, server: &mut Server, number: u64)
     ensures { IsLater server.old.changes server.new.changes server.old.compacted server.new.compacted }
 {
-    let at = place(number);
+    let name = format!(in alloc; "{}", place(number)).expect(rt, "memory");
     if is_removal(number) {
-        let reference = reference(alloc, at)?;
-        done(server.remove(alloc, &reference))
+        let kind = kind(rt, alloc);
+        let reference = ObjectRef::new_with(alloc, name.as_str(), kind).expect(rt, "memory");
+        let _revision = server.remove(alloc, &reference);
     } else {
-        let object = object(alloc, at)?;
-        done(server.put(alloc, object))
+        let metadata = ObjectMeta {
+            name: Some(Text::from(name)),
+            ..ObjectMeta::empty()
+        };
+        let _revision = server.put(alloc, DynamicObject::bare(metadata));
     }
 }
 
@@ -117,53 +90,35 @@ fn row_at(rows: &[Row], now: Moment) -> Option<Row> {
 }
 
 /// What the row of a moment has done before a call, after so many changes; how many there then are.
-fn serve(
-    alloc: Global,
-    server: &mut Server,
-    rows: &[Row],
-    now: Moment,
-    made: u64,
-) -> Result<u64, NoMemory>
+fn serve(rt: &impl Abort, alloc: Global, server: &mut Server, row: Option<Row>, made: u64) -> u64
     ensures { IsLater server.old.changes server.new.changes server.old.compacted server.new.compacted }
 {
-    match row_at(rows, now) {
-        Some(row) => next_change(alloc, server, row, made),
-        None => Ok(made),
+    let Some(row) = row else {
+        return made;
+    };
+    let is_due = made < row.changes;
+    if is_due {
+        change(rt, alloc, server, made);
     }
-}
-
-fn next_change(alloc: Global, server: &mut Server, row: Row, made: u64) -> Result<u64, NoMemory>
-    ensures { IsLater server.old.changes server.new.changes server.old.compacted server.new.compacted }
-{
-    if made >= row.changes {
-        server.compact(row.compacted);
-        return Ok(made);
-    }
-    change(alloc, server, made)?;
     server.compact(row.compacted);
-    Ok(made.saturating_add(1))
+    made.saturating_add(is_due as u64)
 }
 
-/// A server with all objects.
-fn filled(alloc: Global) -> Result<Server, NoMemory> {
-    let mut server = Server::new(alloc, kind(alloc)?);
-    for number in 0..OBJECTS {
-        change(alloc, &mut server, number)?;
-    }
-    Ok(server)
-}
-
-impl Live {
+impl<R: Abort + Copy> Live<R> {
     /// A connection to a server with all objects, which changes as these rows say.
-    pub fn new(alloc: Global, rows: &'static [Row]) -> Result<Live, NoMemory> {
-        let server = filled(alloc)?;
-        let conn = Conn::new(alloc, &server)?;
-        Ok(Live {
+    pub fn new(rt: &R, alloc: Global, rows: &'static [Row]) -> Live<R> {
+        let mut server = Server::new(alloc, kind(rt, alloc));
+        for number in 0..OBJECTS {
+            change(rt, alloc, &mut server, number);
+        }
+        let conn = Conn::new(alloc, &server).expect(rt, "memory");
+        Live {
+            rt: *rt,
             server,
             conn,
             rows,
             made: OBJECTS,
-        })
+        }
     }
 
     /// Makes the next change of this moment's turn, and copies what is new.
@@ -171,12 +126,13 @@ impl Live {
         ensures talk { self.new.talk ≡ self.old.talk }
         ensures failures { self.new.failures ≡ self.old.failures }
     {
-        self.made = serve(alloc, &mut self.server, self.rows, now, self.made)?;
+        let row = row_at(self.rows, now);
+        self.made = serve(&self.rt, alloc, &mut self.server, row, self.made);
         self.conn.feed(alloc, &self.server)
     }
 }
 
-impl ApiMode for Live {
+impl<R: Abort + Copy> ApiMode for Live<R> {
     ghost use Rattle.std.specs.Prelude.{Some};
 
     type Value = DynamicObject;

@@ -13,26 +13,17 @@ pub fn is_removal(number: u64) -> bool {
     number >= OBJECTS && number % 5 == 0
 }
 
-/// The version of the object at a place after so many changes; 0 where it is not there.
-fn version(changes: u64, at: u64) -> u64 {
-    let mut version = 0;
+/// The versions of all objects after so many changes, by their places; 0 of one that is not there.
+pub fn versions(changes: u64) -> [u64; 200] {
+    let mut versions = [0; 200];
     for number in 0..changes {
-        if place(number) == at {
-            version = if is_removal(number) {
+        if let Some(one) = versions.get_mut(place(number) as usize) {
+            *one = if is_removal(number) {
                 0
             } else {
                 number.saturating_add(1)
             };
         }
-    }
-    version
-}
-
-/// The versions of all objects after so many changes, by their places.
-pub fn versions(changes: u64) -> [u64; 200] {
-    let mut versions = [0; 200];
-    for (at, one) in versions.iter_mut().enumerate() {
-        *one = version(changes, at as u64);
     }
     versions
 }

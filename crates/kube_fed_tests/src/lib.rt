@@ -1,5 +1,0 @@
-//! Tests of kube_fed, in a crate of their own: a check of them would prove the functions of that crate once more.
-#![tactic(auto)]
-
-#[cfg(test)]
-mod tests;
