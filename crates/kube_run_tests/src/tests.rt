@@ -46,6 +46,9 @@ const ROWS: &str = r#"= 0 run
 = 0 gen 7 500 20
 
 {"asks":65,"finished":190,"missing":0,"objects":500,"requests":2019,"started":200}
+= 0 gen 1 20000 40
+
+{"asks":281,"finished":390,"missing":0,"objects":20000,"requests":80039,"started":400}
 = 0 gen 1 1 1
 
 {"asks":6,"finished":0,"missing":0,"objects":1,"requests":4,"started":1}
@@ -371,7 +374,7 @@ fn writes_what_the_rows_say(rt: HostRuntime) -> Result<(), Fail> {
         runs_as_said(&rt, row)?;
         count = count.saturating_add(1);
     }
-    assert_eq!(rt; count, 69);
+    assert_eq!(rt; count, 70);
     Ok(())
 }
 
