@@ -34,6 +34,7 @@ impl<C: Kept> Lock<C> {
         requires legal { C.legal (C.opened value) [] }
         ensures lock { IfOk result (λ r. r.0.opening ≡ C.opened value) }
         ensures passes { IfOk result (λ r. r.1.items ≡ dealt_all r.0.table (C.opened value) passes) }
+        ensures all { IfOk result (λ r. length r.1.items ≡ passes) }
         ensures theirs { IfOk result (λ r. AllByRecursion (IsPassOf r.0) r.1.items) }
         ensures err { IfErr result (λ e. e ≡ NoMemory value) }
     {

@@ -1,6 +1,6 @@
 //! What lies under the lock: the stock, with what happened to it.
 
-ghost use Rattle.std.specs.Prelude.{◌≡◌, ◌<◌, ◌^◌, [], ◌∷◌, ◌++◌, length, IfOk, IfErr, OnOk, OnErr};
+ghost use Rattle.std.specs.Prelude.{◌≡◌, ◌<◌, ◌^◌, [], ◌∷◌, ◌++◌, length, Option, OnOk, OnErr};
 ghost use Rattle.kube_lock_tests.specs.Stocks.{MayHappen, Took, Marked};
 
 use crate::entry::{Event, What};

@@ -9,7 +9,7 @@ mod worker;
 pub use desk::Desk;
 pub use entry::{Event, What};
 pub use stock::{Stock, Thing};
-pub use worker::{Worker, mark, take, work_all};
+pub use worker::{both_take_all, look, mark, take};
 
 #[cfg(test)]
 mod tests;

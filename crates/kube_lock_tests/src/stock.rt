@@ -1,5 +1,6 @@
 //! What is opened: a value of a type with parameters, as a controller's core is.
 
+ghost use Rattle.std.specs.Prelude.{◌≡◌};
 ghost use Rattle.kube_lock_tests.specs.Stocks.{IsTake};
 
 use std::marker::Model;

@@ -1,6 +1,6 @@
-//! Workers in threads of their own, each with its pass.
+//! What a pass does, and two workers in threads of their own.
 
-ghost use Rattle.std.specs.Prelude.{◌≡◌, ◌<◌, ℕ, All, length, slice_index_or, IfOk, IfErr, IfSome};
+ghost use Rattle.std.specs.Prelude.{◌≡◌, Option, IfOk, IfErr};
 ghost use Rattle.kube_lock.specs.Passes.{IsPassOf};
 ghost use Rattle.kube_lock_tests.specs.Stocks.{Took, Marked, number_of, MayHappen};
 ghost use Rattle.kube_lock_tests.specs.Calls.{Sees, Adds, IsSamePass};
@@ -48,10 +48,13 @@ pub fn mark<K: Thing, R: Wait>(
     }
 }
 
-/// A worker's pass.
-#[derive(Drop)]
-pub struct Worker<K: Thing> {
-    pub pass: Option<Pass<Desk<K>>>,
+/// Sees what happened, and changes nothing.
+pub fn look<K: Thing, R: Wait>(rt: &R, lock: &Lock<Desk<K>>, pass: Pass<Desk<K>>) -> Pass<Desk<K>>
+    requires { IsPassOf lock.now pass }
+    ensures { Sees number_of (MayHappen lock.now.opening) pass result }
+{
+    let (turn, desk) = lock.enter(rt, pass);
+    lock.leave(turn, desk)
 }
 
 // Takes until nothing is found or memory is wanting.
@@ -69,35 +72,27 @@ fn take_all<K: Thing, R: Wait>(rt: &R, lock: &Lock<Desk<K>>, pass: Pass<Desk<K>>
     unreachable!()
 }
 
-fn run<K: Thing, R: Wait>(rt: &R, lock: &Lock<Desk<K>>, worker: &mut Worker<K>)
-    requires { IfSome worker.old.pass (IsPassOf lock.now) }
-    ensures { IfSome worker.old.pass (λ before. IfSome worker.new.pass (IsSamePass before)) }
-{
-    if let Some(pass) = worker.pass.take() {
-        worker.pass = Some(take_all(rt, lock, pass));
-    }
-}
-
-/// Runs the workers in threads of their own.
-pub fn work_all<K: Thing + Send + Sync, R: Threads + Wait + Sync>(
+/// Two workers, each in a thread of its own, take until nothing is found.
+pub fn both_take_all<K: Thing + Send + Sync, R: Threads + Wait + Sync>(
     rt: &R,
     lock: &Lock<Desk<K>>,
-    workers: &mut [Worker<K>],
-)
+    one: Pass<Desk<K>>,
+    two: Pass<Desk<K>>,
+) -> (Pass<Desk<K>>, Pass<Desk<K>>)
 where
     K::Place: Send + Sync,
-    requires some { 0 < length workers.old }
-    requires passes { All (λ w. IfSome w.pass (IsPassOf lock.now)) workers.old }
-    ensures { (k : ℕ) (d : Worker K K.Place) → k < length workers.old → IfSome (slice_index_or workers.old k d).pass (λ before. IfSome (slice_index_or workers.new k d).pass (IsSamePass before)) }
+    requires passes { IsPassOf lock.now one × IsPassOf lock.now two }
+    ensures { IsSamePass one result.0 × IsSamePass two result.1 }
 {
-    let threads = workers.len();
-    thread::for_each_mut(
+    thread::join(
         rt,
-        workers,
-        threads,
-        &|_number: usize, worker: &mut Worker<K>|
-            requires { IfSome worker.now.pass (IsPassOf lock.now) }
-            ensures { IfSome worker.entry.now.pass (λ before. IfSome worker.exit.now.pass (IsSamePass before)) }
-        { run(rt, lock, worker) },
-    );
+        move || -> Pass<Desk<K>>
+            requires { IsPassOf lock.now one }
+            ensures { IsSamePass one result }
+        { take_all(rt, lock, one) },
+        move || -> Pass<Desk<K>>
+            requires { IsPassOf lock.now two }
+            ensures { IsSamePass two result }
+        { take_all(rt, lock, two) },
+    )
 }

@@ -1,4 +1,4 @@
-use Rattle.std.proofs.Common.{rules, ◌≡◌, List, [], ◌∷◌, ap, sym, subst}
+use Rattle.std.proofs.Common.{rules, ◌≡◌, List, [], ◌∷◌, ap, length, sym, subst, ◌∙◌}
 use Rattle.std.specs.Prelude.{Option, Some}
 use Rattle.atomic_table.specs.Table.{opening}
 use Rattle.kube_lock.specs.Rule.{IsRuled}
@@ -6,7 +6,7 @@ use Rattle.kube_lock.specs.Views.{root}
 use Rattle.kube_lock.proofs.Joining.{begins}
 use Rattle.std.specs.List.{AllByRecursion}
 use Rattle.kube_lock.specs.Passes.{Locking, IsPassOf}
-use Rattle.kube_lock.proofs.Dealing.{all_theirs}
+use Rattle.kube_lock.proofs.Dealing.{all_length, all_theirs}
 use Rattle.kube_lock.proofs.lock.Lock.open.Goals as goal
 
 pub new-requires : goal.new-requires
@@ -22,3 +22,8 @@ pub returns-in-Ok-new-clause-theirs : goal.returns-in-Ok-new-clause-theirs
 returns-in-Ok-new-clause-theirs g c =
     let lock : Locking g.row.C-Opening.Denot = record { table = c.in-Ok-new.table.shared.table_id; opening = g.C.Kept.opened c.in-Ok-new.table.shared.key.value } in
     subst (AllByRecursion (IsPassOf lock)) (sym c.deal.ensures) (all_theirs g.row.C-Entry.Denot lock c.args.passes)
+
+pub returns-in-Ok-new-clause-all : goal.returns-in-Ok-new-clause-all
+returns-in-Ok-new-clause-all g c =
+    let lock : Locking g.row.C-Opening.Denot = record { table = c.in-Ok-new.table.shared.table_id; opening = g.C.Kept.opened c.in-Ok-new.table.shared.key.value } in
+    ap length c.deal.ensures ∙ all_length g.row.C-Entry.Denot lock c.args.passes
