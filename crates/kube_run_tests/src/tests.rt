@@ -46,9 +46,6 @@ const ROWS: &str = r#"= 0 run
 = 0 gen 7 500 20
 
 {"asks":65,"finished":190,"missing":0,"objects":500,"requests":2019,"started":200}
-= 0 gen 1 20000 40
-
-{"asks":281,"finished":390,"missing":0,"objects":20000,"requests":80039,"started":400}
 = 0 gen 1 1 1
 
 {"asks":6,"finished":0,"missing":0,"objects":1,"requests":4,"started":1}
@@ -374,8 +371,16 @@ fn writes_what_the_rows_say(rt: HostRuntime) -> Result<(), Fail> {
         runs_as_said(&rt, row)?;
         count = count.saturating_add(1);
     }
-    assert_eq!(rt; count, 70);
+    assert_eq!(rt; count, 69);
     Ok(())
+}
+
+/// Unproved, compiled with checks, it takes longer than the other tests together.
+#[test]
+fn runs_over_20000_objects(rt: HostRuntime) -> Result<(), Fail> {
+    let wanted =
+        r#"{"asks":281,"finished":390,"missing":0,"objects":20000,"requests":80039,"started":400}"#;
+    ends(&rt, "gen 1 20000 40", b"", 0, wanted)
 }
 
 #[test]
