@@ -2,7 +2,7 @@
 #![tactic(auto)]
 
 mod expected;
-pub mod hints;
+mod lines;
 mod unread;
 
-pub use hints::hints;
+pub use lines::hints;

@@ -45,6 +45,16 @@ fn in_item(alloc: Global, place: &str, index: usize) -> Result<String, NoMemory>
     Ok(format!(in alloc; "{place}/{index}")?)
 }
 
+/// Whether a name is one of these.
+fn is_among(names: &[&str], name: &str) -> bool {
+    for one in names {
+        if *one == name {
+            return true;
+        }
+    }
+    false
+}
+
 /// Notes the members of an object that have none of these names.
 fn note(
     alloc: Global,
@@ -57,7 +67,7 @@ fn note(
         return Ok(());
     };
     for (name, _) in members.iter() {
-        if !names.contains(&name.as_str()) {
+        if !is_among(names, name.as_str()) {
             found.add(alloc, place, name.as_str())?;
         }
     }
