@@ -3,6 +3,7 @@
 
 pub mod command;
 pub mod generated;
+pub mod heard;
 pub mod input;
 pub mod laws;
 pub mod mapper;
