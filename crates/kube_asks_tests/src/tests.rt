@@ -74,33 +74,55 @@ fn one(rt: &impl Abort, alloc: Global) -> Vec<ObjectRef<DynamicObject>> {
     vec![in alloc; reference].expect(rt, "memory")
 }
 
+fn by_owners(rt: &impl Abort, alloc: Global) -> String {
+    let dyntype = kind(rt, alloc);
+    mapped(rt, alloc, &Owners { dyntype })
+}
+
+fn by_label(rt: &impl Abort, alloc: Global) -> String {
+    let label = text(rt, alloc, "of");
+    let dyntype = kind(rt, alloc);
+    mapped(rt, alloc, &ByLabel { label, dyntype })
+}
+
+fn by_function(rt: &impl Abort, alloc: Global) -> String {
+    let function = |_object: &Arc<DynamicObject>| Ok(one(rt, alloc));
+    mapped(rt, alloc, &ByFunction { function })
+}
+
 #[test]
 fn maps_by_owners_by_a_label_and_by_a_function(rt: HostRuntime) {
-    let alloc = rt.alloc();
-    let dyntype = kind(&rt, alloc);
-    let owners = mapped(&rt, alloc, &Owners { dyntype });
+    let owners = by_owners(&rt, rt.alloc());
     assert_eq!(rt; owners.as_str(), "Root.v1./a.ns;Root.v1./b.ns;");
-    let label = text(&rt, alloc, "of");
-    let dyntype = kind(&rt, alloc);
-    let labelled = mapped(&rt, alloc, &ByLabel { label, dyntype });
+    let labelled = by_label(&rt, rt.alloc());
     assert_eq!(rt; labelled.as_str(), "Root.v1./c.ns;");
-    let function = |_object: &Arc<DynamicObject>| Ok(one(&rt, alloc));
-    let answered = mapped(&rt, alloc, &ByFunction { function });
+    let answered = by_function(&rt, rt.alloc());
     assert_eq!(rt; answered.as_str(), "Root.v1./d;");
 }
 
-/// Why the root is asked no more of asks that were begun without a budget.
-fn stops(rt: &impl Abort, alloc: Global) -> String {
-    let api: TestMode<DynamicObject> = TestMode::new(alloc, Vec::new(alloc), Vec::new(alloc));
+type Alone = Asks<WatchRoot<TestMode<DynamicObject>>, NoRelated, StopBackoff>;
+
+/// Asks of a root alone.
+fn alone(rt: &impl Abort, alloc: Global) -> Alone {
+    let api = TestMode::new(alloc, Vec::new(alloc), Vec::new(alloc));
     let root = WatchRoot::new(alloc, api, Config::default(), kind(rt, alloc));
-    let mut asks = Asks::new(alloc, root, NoRelated, StopBackoff);
+    Asks::new(alloc, root, NoRelated, StopBackoff)
+}
+
+/// Why the root is asked no more where no budget is given.
+fn stops(rt: &impl Abort, alloc: Global, asks: &mut Alone) -> String {
     asks.begin(Vec::new(alloc)).expect(rt, "memory");
     let stops = asks.stops(alloc, false).expect(rt, "memory");
     format!(in alloc; "{:?}", stops.as_slice()).expect(rt, "memory")
 }
 
+fn stops_of_new(rt: &impl Abort, alloc: Global) -> String {
+    let mut asks = alone(rt, alloc);
+    stops(rt, alloc, &mut asks)
+}
+
 #[test]
 fn stops_where_there_is_no_budget(rt: HostRuntime) {
-    let stops = stops(&rt, rt.alloc());
+    let stops = stops_of_new(&rt, rt.alloc());
     assert_eq!(rt; stops.as_str(), "[Budget]");
 }

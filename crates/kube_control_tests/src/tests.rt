@@ -10,6 +10,7 @@ use kube_control::{
 };
 use kube_meta::{List, Moment, Next, NoMemory, ObjectMeta, Polled, Text};
 use kube_model::error::Error;
+use kube_reflect::Store;
 use kube_watch::{Config, EventStream, StreamFault};
 use node::Node;
 use std::alloc::Global;
@@ -156,6 +157,11 @@ fn counts_of(answered: &Answered) -> Option<[usize; 5]> {
     }
 }
 
+/// The same of an answer that is let go then.
+fn counts_once(answered: Answered) -> Option<[usize; 5]> {
+    counts_of(&answered)
+}
+
 /// The counts of one turn over pages with this token.
 fn asked<R: Abort + Copy>(
     rt: &R,
@@ -164,7 +170,8 @@ fn asked<R: Abort + Copy>(
     budget: u32,
 ) -> Option<[usize; 5]> {
     let mut controller = controller(rt, alloc, token);
-    counts_of(&turned(rt, alloc, &mut controller, budget))
+    let answered = turned(rt, alloc, &mut controller, budget);
+    counts_once(answered)
 }
 
 #[test]
@@ -177,19 +184,34 @@ fn asks_an_endless_list_within_the_budget(rt: HostRuntime) {
     assert_eq!(rt; asked(&rt, alloc, "", 9), Some([3, 1, 1, 1, 0]));
 }
 
-/// How many nodes a handle reads before what is stored is published, and after that.
-fn read_lengths<R: Abort + Copy + Wait>(rt: &R, alloc: Global) -> [usize; 2] {
+/// How many nodes a handle reads before what a turn stores is published, and after that.
+fn read_lengths<R: Abort + Copy + Wait>(
+    rt: &R,
+    alloc: Global,
+    controller: &mut Nodes<R>,
+    reads: &mut Store<Node>,
+) -> [usize; 2] {
+    counts_once(turned(rt, alloc, controller, 1));
+    let before = reads.len(rt);
+    assert!(rt; controller.publish(rt, alloc).is_ok());
+    [before, reads.len(rt)]
+}
+
+/// The same of a new controller and its first handle.
+fn lengths<R: Abort + Copy + Wait>(rt: &R, alloc: Global) -> [usize; 2] {
     let mut controller = controller(rt, alloc, "");
     let mut reads = controller.store().expect(rt, "a handle");
-    let _answered = turned(rt, alloc, &mut controller, 1);
-    let before = reads.len(rt);
-    controller.publish(rt, alloc).expect(rt, "memory");
-    [before, reads.len(rt)]
+    read_lengths(rt, alloc, &mut controller, &mut reads)
 }
 
 #[test]
 fn handles_read_what_is_published(rt: HostRuntime) {
-    assert_eq!(rt; read_lengths(&rt, rt.alloc()), [0, 1]);
+    assert_eq!(rt; lengths(&rt, rt.alloc()), [0, 1]);
+}
+
+/// Whether something was made, which is let go then.
+fn is_made<T: Drop>(made: Result<T, NoMemory>) -> bool {
+    made.is_ok()
 }
 
 /// Whether a controller takes a source of owned nodes: of an API, or of a stream, by this form of the call.
@@ -197,11 +219,11 @@ fn owns<R: Abort + Copy>(rt: &R, alloc: Global, form: u8) -> bool {
     let nodes = controller(rt, alloc, "");
     let owned = Pages { rt: *rt, token: "" };
     match form {
-        0 => nodes.owns(alloc, owned, Config::default()).is_ok(),
-        1 => nodes.owns_stream(alloc, owned).is_ok(),
-        2 => nodes.owns_stream_with(alloc, owned, ()).is_ok(),
-        3 => nodes.owns_shared_stream(alloc, owned).is_ok(),
-        _ => nodes.owns_shared_stream_with(alloc, owned, ()).is_ok(),
+        0 => is_made(nodes.owns(alloc, owned, Config::default())),
+        1 => is_made(nodes.owns_stream(alloc, owned)),
+        2 => is_made(nodes.owns_stream_with(alloc, owned, ())),
+        3 => is_made(nodes.owns_shared_stream(alloc, owned)),
+        _ => is_made(nodes.owns_shared_stream_with(alloc, owned, ())),
     }
 }
 

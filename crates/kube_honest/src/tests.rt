@@ -194,22 +194,30 @@ fn is_stored<R: Abort + Copy>(
 fn first_other<R: Abort + Copy>(
     rt: &R,
     alloc: Global,
-    rows: &'static [Row],
-    streaming: bool,
+    controller: &mut Tested<R>,
+    rows: &[Row],
 ) -> Option<u64> {
-    let mut controller = controller(rt, alloc, rows, streaming);
     for row in rows {
-        if !runs(rt, alloc, &mut controller, *row)
-            || !is_stored(rt, alloc, &controller, row.wanted)
-        {
+        if !runs(rt, alloc, controller, *row) || !is_stored(rt, alloc, controller, row.wanted) {
             return Some(row.at);
         }
     }
     None
 }
 
+/// The same for a controller of its own.
+fn first_other_of_new<R: Abort + Copy>(
+    rt: &R,
+    alloc: Global,
+    rows: &'static [Row],
+    streaming: bool,
+) -> Option<u64> {
+    let mut controller = controller(rt, alloc, rows, streaming);
+    first_other(rt, alloc, &mut controller, rows)
+}
+
 #[test]
 fn what_is_stored_is_a_state(rt: HostRuntime) {
-    assert_eq!(rt; first_other(&rt, rt.alloc(), &LISTED, false), None);
-    assert_eq!(rt; first_other(&rt, rt.alloc(), &STREAMED, true), None);
+    assert_eq!(rt; first_other_of_new(&rt, rt.alloc(), &LISTED, false), None);
+    assert_eq!(rt; first_other_of_new(&rt, rt.alloc(), &STREAMED, true), None);
 }

@@ -236,6 +236,45 @@ fn namesake(alloc: Global, pod: &Pod) -> Result<Vec<Request>, StreamFault> {
     }
 }
 
+/// The types of owners and of pods.
+fn kinds(rt: &impl Abort, alloc: Global) -> (Arc<ApiResource>, Arc<ApiResource>) {
+    let owners = kind(rt, alloc, "apps", "ReplicaSet");
+    (owners, kind(rt, alloc, "", "Pod"))
+}
+
+fn by_owners<R: Abort + Copy>(rt: &R, alloc: Global, stream: Scripted<R>, polls: usize) -> String {
+    let (owner, child) = kinds(rt, alloc);
+    let stream = trigger_owners(alloc, stream, owner, child);
+    polled(rt, alloc, stream, polls)
+}
+
+fn by_shared<R: Abort + Copy>(rt: &R, alloc: Global, stream: Scripted<R>, polls: usize) -> String {
+    let (owner, child) = kinds(rt, alloc);
+    let stream = trigger_owners_shared(alloc, stream, owner, child);
+    polled(rt, alloc, stream, polls)
+}
+
+fn by_others<R: Abort + Copy>(rt: &R, alloc: Global, stream: Scripted<R>, polls: usize) -> String {
+    let child = kind(rt, alloc, "", "Pod");
+    let stream = trigger_others(alloc, stream, |_: &Pod| two_config_maps(alloc), child);
+    polled(rt, alloc, stream, polls)
+}
+
+fn by_own<R: Abort + Copy>(rt: &R, alloc: Global, stream: Scripted<R>, polls: usize) -> String {
+    let stream = trigger_self(alloc, stream, kind(rt, alloc, "", "Pod"));
+    polled(rt, alloc, stream, polls)
+}
+
+fn by_function<R: Abort + Copy>(
+    rt: &R,
+    alloc: Global,
+    stream: Scripted<R>,
+    polls: usize,
+) -> String {
+    let stream = trigger_with(alloc, stream, |pod: Pod| namesake(alloc, &pod));
+    polled(rt, alloc, stream, polls)
+}
+
 /// What polls of the trigger of a row answer, as many as it has lines.
 fn answered<R: Abort + Copy>(rt: &R, alloc: Global, row: Row) -> String {
     let (by, script, wanted) = row;
@@ -245,28 +284,12 @@ fn answered<R: Abort + Copy>(rt: &R, alloc: Global, row: Row) -> String {
         script,
         next: 0,
     };
-    let owner = kind(rt, alloc, "apps", "ReplicaSet");
-    let child = kind(rt, alloc, "", "Pod");
     match by {
-        By::Owners => polled(
-            rt,
-            alloc,
-            trigger_owners(alloc, stream, owner, child),
-            polls,
-        ),
-        By::Shared => {
-            let stream = trigger_owners_shared(alloc, stream, owner, child);
-            polled(rt, alloc, stream, polls)
-        }
-        By::Others => {
-            let stream = trigger_others(alloc, stream, |_: &Pod| two_config_maps(alloc), child);
-            polled(rt, alloc, stream, polls)
-        }
-        By::Own => polled(rt, alloc, trigger_self(alloc, stream, child), polls),
-        By::Function => {
-            let stream = trigger_with(alloc, stream, |pod: Pod| namesake(alloc, &pod));
-            polled(rt, alloc, stream, polls)
-        }
+        By::Owners => by_owners(rt, alloc, stream, polls),
+        By::Shared => by_shared(rt, alloc, stream, polls),
+        By::Others => by_others(rt, alloc, stream, polls),
+        By::Own => by_own(rt, alloc, stream, polls),
+        By::Function => by_function(rt, alloc, stream, polls),
     }
 }
 

@@ -152,11 +152,14 @@ fn turns(rt: &impl Abort, alloc: Global, row: &Row) -> Vec<Turn<Node, u64>> {
     turns
 }
 
-/// What the turns of a row make over this store.
-fn run<R: Abort + Copy + Wait>(rt: &R, alloc: Global, store: Store<Node>, row: &Row) -> Answered {
-    let turns = turns(rt, alloc, row);
+/// What an applier makes of these turns, of which there are nine at most.
+fn run<R: Abort + Copy + Wait>(
+    rt: &R,
+    alloc: Global,
+    nodes: &mut Nodes<R>,
+    turns: Vec<Turn<Node, u64>>,
+) -> Answered {
     assert!(rt; turns.len() <= 9);
-    let mut nodes = queued(rt, alloc, store, row);
     let context = Arc::new(alloc, ()).expect(rt, "memory");
     let policy = |_node: Arc<Node>, _error: &u64, _context: Arc<()>| Action::await_change();
     nodes.run(
@@ -167,6 +170,13 @@ fn run<R: Abort + Copy + Wait>(rt: &R, alloc: Global, store: Store<Node>, row: &
         context,
         turns,
     )
+}
+
+/// What the turns of a row make over this store.
+fn ran<R: Abort + Copy + Wait>(rt: &R, alloc: Global, store: Store<Node>, row: &Row) -> Answered {
+    let turns = turns(rt, alloc, row);
+    let mut nodes = queued(rt, alloc, store, row);
+    run(rt, alloc, &mut nodes, turns)
 }
 
 fn counts(record: &TurnRecord<Node, u64>) -> [usize; 5] {
@@ -191,21 +201,31 @@ fn has_counts(answered: &Answered, wanted: &[[usize; 5]]) -> bool {
     is_as_wanted
 }
 
+/// The same of an answer that is let go then.
+fn has_counts_once(answered: Answered, wanted: &[[usize; 5]]) -> bool {
+    has_counts(&answered, wanted)
+}
+
 fn apply(rt: &impl Abort, alloc: Global, writer: &mut Writer<Node>, event: &Event<Arc<Node>>) {
     writer
         .apply_watcher_event(alloc, event)
         .expect(rt, "applied");
 }
 
-/// What a row stores is published, or the writer ends.
+/// A list of so many nodes.
+fn list(rt: &impl Abort, alloc: Global, writer: &mut Writer<Node>, count: u32) {
+    for number in 0..count {
+        let event = listed(rt, alloc, number);
+        apply(rt, alloc, writer, &event);
+    }
+    apply(rt, alloc, writer, &Event::InitDone);
+}
+
+/// What a row stores is told, and then the writer ends.
 fn store<R: Abort + Wait>(rt: &R, alloc: Global, writer: Writer<Node>, stored: Option<u32>) {
     let mut writer = writer;
     if let Some(count) = stored {
-        for number in 0..count {
-            let event = listed(rt, alloc, number);
-            apply(rt, alloc, &mut writer, &event);
-        }
-        apply(rt, alloc, &mut writer, &Event::InitDone);
+        list(rt, alloc, &mut writer, count);
     }
     assert!(rt; writer.end(rt, alloc).is_ok());
 }
@@ -221,7 +241,7 @@ fn open(rt: &impl Abort, alloc: Global) -> (Writer<Node>, Store<Node>) {
 fn is_as_said<R: Abort + Copy + Wait>(rt: &R, alloc: Global, row: &Row) -> bool {
     let (writer, reads) = open(rt, alloc);
     store(rt, alloc, writer, row.stored);
-    has_counts(&run(rt, alloc, reads, row), row.wanted)
+    has_counts_once(ran(rt, alloc, reads, row), row.wanted)
 }
 
 #[test]
@@ -289,19 +309,27 @@ impl EventStream for Silent {
     }
 }
 
+/// A controller whose store is empty.
+fn empty<R: Abort + Copy>(rt: &R, alloc: Global) -> Nodes<R> {
+    let (_writer, reads) = open(rt, alloc);
+    queued(rt, alloc, reads, &ROWS[0])
+}
+
+/// Whether something was made, which is let go then.
+fn is_made<T: Drop>(made: Result<T, NoMemory>) -> bool {
+    made.is_ok()
+}
+
 /// Whether a controller takes a source of owned nodes: of an API, or of a stream, by this form of the call.
 fn owns<R: Abort + Copy>(rt: &R, alloc: Global, form: u8) -> bool {
-    let (_writer, reads) = open(rt, alloc);
-    let nodes = queued(rt, alloc, reads, &ROWS[0]);
+    let nodes = empty(rt, alloc);
     match form {
-        0 => nodes.owns(alloc, Silent, WatcherConfig::default()).is_ok(),
-        1 => nodes
-            .owns_with(alloc, Silent, (), WatcherConfig::default())
-            .is_ok(),
-        2 => nodes.owns_stream(alloc, Silent).is_ok(),
-        3 => nodes.owns_stream_with(alloc, Silent, ()).is_ok(),
-        4 => nodes.owns_shared_stream(alloc, Silent).is_ok(),
-        _ => nodes.owns_shared_stream_with(alloc, Silent, ()).is_ok(),
+        0 => is_made(nodes.owns(alloc, Silent, WatcherConfig::default())),
+        1 => is_made(nodes.owns_with(alloc, Silent, (), WatcherConfig::default())),
+        2 => is_made(nodes.owns_stream(alloc, Silent)),
+        3 => is_made(nodes.owns_stream_with(alloc, Silent, ())),
+        4 => is_made(nodes.owns_shared_stream(alloc, Silent)),
+        _ => is_made(nodes.owns_shared_stream_with(alloc, Silent, ())),
     }
 }
 

@@ -2,8 +2,8 @@
 
 use kube_api::TestMode;
 use kube_feed::{
-    Beside, DefaultBackoff, FedController, NoRelated, One, Owners, Recorder, RelatedStream, Store,
-    StreamRoot,
+    Beside, DefaultBackoff, FedController, NoRelated, One, Owners, Recorder, RelatedStream,
+    RunError, Store, StreamRoot, Trace,
 };
 use kube_meta::{Action, ApiResource, Moment, Next, Text};
 use kube_model::error::Error;
@@ -118,61 +118,83 @@ fn fed<R: Abort + Copy + Wait>(rt: &R, alloc: Global, bare: Bare<R>, related: Re
         .expect(rt, "memory")
 }
 
-/// What the records of these turns write.
-fn written<R: Abort + Copy + Wait>(
+type Answered = Result<Trace<ScriptObject, Text>, RunError<ScriptObject, Text>>;
+
+/// What these turns make, of which there are nine at most.
+fn run<R: Abort + Copy + Wait>(
     rt: &R,
     alloc: Global,
-    fed: Fed<R>,
+    fed: &mut Fed<R>,
     turns: Vec<ScriptTurn>,
-) -> VecSink {
+) -> Answered {
     assert!(rt; turns.len() <= 9);
-    let mut fed = fed;
     let context = Arc::new(alloc, ()).expect(rt, "memory");
     let policy = |_: Arc<ScriptObject>, _: &Text, _: Arc<()>| Action::await_change();
-    let ran = fed.run(
+    fed.run(
         rt,
         alloc,
         &mut Recorder::new(alloc),
         &policy,
         context,
         turns,
-    );
-    let mut sink = VecSink::new(alloc, Vec::new(alloc), usize::MAX);
-    match &ran {
-        Ok(trace) => write_all(rt, alloc, trace.records.as_slice(), &mut sink),
-        Err(_) => panic!(rt; "refused"),
-    }
-    sink
+    )
 }
 
-fn write_all(rt: &impl Abort, alloc: Global, records: &[ScriptRecord], sink: &mut VecSink) {
+fn write(rt: &impl Abort, alloc: Global, records: &[ScriptRecord], sink: &mut VecSink) {
     for (turn, record) in records.iter().enumerate() {
         assert!(rt; write_record(alloc, turn as u64, record, sink).is_ok());
     }
 }
 
+/// What the records write.
+fn written(rt: &impl Abort, alloc: Global, answered: &Answered) -> VecSink {
+    let mut sink = VecSink::new(alloc, Vec::new(alloc), usize::MAX);
+    match answered {
+        Ok(trace) => write(rt, alloc, trace.records.as_slice(), &mut sink),
+        Err(_) => panic!(rt; "refused"),
+    }
+    sink
+}
+
+/// The same of an answer that is let go then.
+fn written_once(rt: &impl Abort, alloc: Global, answered: Answered) -> VecSink {
+    written(rt, alloc, &answered)
+}
+
+/// A controller of the objects of a root, and of those that its one related source gives.
+fn controller<R: Abort + Copy + Wait>(
+    rt: &R,
+    alloc: Global,
+    kind: &Arc<ApiResource>,
+    root: Source,
+    related: Vec<Related>,
+) -> Fed<R> {
+    let mut related = related;
+    let owned = related.pop().expect(rt, "a related source");
+    let bare = bare(rt, alloc, kind, root);
+    fed(rt, alloc, bare, owned)
+}
+
 /// What a script writes whose objects, and those that they own, feed a controller.
-fn written_of<R: Abort + Copy + Wait>(rt: &R, alloc: Global, text: &str) -> VecSink {
-    let read = script(alloc, text.as_bytes()).ok();
+fn written_of<R: Abort + Copy + Wait>(rt: &R, alloc: Global, script: Script) -> VecSink {
     let Script {
         kind,
         root,
         related,
         turns,
         ..
-    } = read.expect(rt, "a script");
+    } = script;
     let kind = Arc::new(alloc, kind).expect(rt, "memory");
     let turns = script_turns(alloc, &kind, turns).expect(rt, "memory");
-    let mut related = related;
-    let owned = related.pop().expect(rt, "a related source");
-    let bare = bare(rt, alloc, &kind, root);
-    let fed = fed(rt, alloc, bare, owned);
-    written(rt, alloc, fed, turns)
+    let mut fed = controller(rt, alloc, &kind, root, related);
+    let answered = run(rt, alloc, &mut fed, turns);
+    written_once(rt, alloc, answered)
 }
 
 #[test]
 fn fed_controllers_take_turns(rt: HostRuntime) {
-    let (script, wanted) = FED.split_once('\n').unwrap_or(("", ""));
-    let written = written_of(&rt, rt.alloc(), script);
+    let (text, wanted) = FED.split_once('\n').unwrap_or(("", ""));
+    let read = script(rt.alloc(), text.as_bytes()).ok();
+    let written = written_of(&rt, rt.alloc(), read.expect(&rt, "a script"));
     assert_eq!(rt; written.as_slice(), wanted.as_bytes());
 }
