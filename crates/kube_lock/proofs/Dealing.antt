@@ -1,7 +1,7 @@
 -- The passes of a new lock.
 use Rattle.std.proofs.Common.{◌≡◌, ℕ, zero, suc, List, [], ◌∷◌, ◌++◌, length, refl, ap, ◌∙◌}
 use Rattle.std.specs.List.{AllByRecursion}
-use Rattle.kube_lock.specs.Passes.{Locking, Passing, IsPassOf, dealt, dealt_all}
+use Rattle.kube_lock.specs.Passes.{Locking, IsPassOf, dealt, dealt_all}
 use Rattle.kube_lock.proofs.Lists.{all_append}
 
 dealt_theirs : (E : Type 0) {P : Type 0} (lock : Locking P) (n : ℕ) → AllByRecursion (IsPassOf lock) (dealt {E = E} lock.table lock.opening n)

@@ -1,5 +1,5 @@
 -- What a call leaves, from what entering and putting back say.
-use Rattle.std.proofs.Common.{◌≡◌, ℕ, List, [], ◌∷◌, ◌++◌, refl, sym, ap, subst, ◌∙◌}
+use Rattle.std.proofs.Common.{◌≡◌, ℕ, List, [], ◌∷◌, ◌++◌, sym, ap, subst, ◌∙◌}
 use mathlib.Core.List.{IsPrefix}
 use Rattle.kube_lock.specs.Rule.{calls_of}
 use Rattle.kube_lock.specs.Passes.{Passing}

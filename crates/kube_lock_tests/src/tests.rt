@@ -80,7 +80,7 @@ fn each_was_taken_once(events: &[Event<Coin>], things: u64) -> bool {
     for event in events {
         match taken(event) {
             (_, Some(number)) => {
-                if left != number + 1 {
+                if left.wrapping_sub(1) != number {
                     return false;
                 }
                 left = number;
@@ -129,7 +129,7 @@ fn sixty_four_passes_are_numbered_from_0(rt: HostRuntime) {
     let mut next = 0;
     for pass in &passes {
         assert_eq!(rt; pass.number(), next);
-        next += 1;
+        next = pass.number().wrapping_add(1);
     }
     let events = lock.close(&rt, passes).into_events();
     assert_eq!(rt; (next, events.len()), (64, 0));

@@ -1,4 +1,4 @@
-use Rattle.std.proofs.Common.{◌≡◌, [], ◌∷◌, ◌++◌, sym, ap, subst, ◌∙◌}
+use Rattle.std.proofs.Common.{[], ◌∷◌, ◌++◌, sym, ap, subst, ◌∙◌}
 use Rattle.kube_lock_tests.specs.Stocks.{Took, number_of, MayHappen}
 use Rattle.kube_lock_tests.specs.Calls.{Adds}
 use Rattle.kube_lock_tests.proofs.Calling.{adds}

@@ -1,4 +1,4 @@
-use Rattle.std.proofs.Common.{◌≡◌, [], ◌∷◌, ◌++◌, refl, sym, ap, subst, ◌∙◌}
+use Rattle.std.proofs.Common.{[], ◌∷◌, ◌++◌, sym, ap, subst, ◌∙◌}
 use Rattle.kube_lock_tests.specs.Stocks.{Took, MayHappen}
 use Rattle.kube_lock_tests.proofs.Happening.{leaves_more, may_happen}
 use Rattle.kube_lock_tests.proofs.desk.Desk.take.Goals as goal
