@@ -1,7 +1,6 @@
 //! Conditions, finalizers, waits and lives as tables, and each public call with ample memory.
 
 mod conditions;
-mod finalizers;
 mod lives;
 mod served;
 mod texts;
@@ -22,11 +21,6 @@ fn text(rt: &impl Abort, alloc: Global, text: &str) -> Text {
 /// A string of its own.
 fn owned(rt: &impl Abort, alloc: Global, text: &str) -> String {
     String::from_str(alloc, text).expect(rt, "memory")
-}
-
-/// Adds to a string.
-fn add(rt: &impl Abort, string: &mut String, text: &str) {
-    string.push_str(text).expect(rt, "memory");
 }
 
 /// A call that could not be made.
@@ -54,6 +48,11 @@ impl fmt::Display for Torn {
     fn fmt<W: fmt::Write>(&self, f: &mut fmt::Formatter<W>) -> fmt::Result {
         f.write_str("torn")
     }
+}
+
+/// What stands before the first bar of a line, and what behind it.
+fn halves(line: &str) -> (&str, &str) {
+    line.split_once(" | ").unwrap_or(("", ""))
 }
 
 fn is_text(rt: &impl Abort, text: &str, wanted: &str) {

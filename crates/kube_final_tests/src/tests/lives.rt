@@ -1,6 +1,6 @@
 //! Lives: which lists of steps are one, and what they come to on a server.
 
-use super::{add, is_text, owned, text};
+use super::{halves, is_text, owned, text};
 use kube_final::laws::{LifeState, LifeStep, guarded, play, valid};
 use kube_meta::{List, Text};
 use std::alloc::Global;
@@ -8,181 +8,74 @@ use std::panic::Expect;
 use std::process::Abort;
 use std::rt::HostRuntime;
 
-/// A step, short to write: its kind, its number, and for a change by another party the finalizers.
-type Short = (&'static str, u32, &'static [&'static str]);
+/// Steps, and how the object stands at their end, where they are a life. A step is its kind with its number; a change by another
+/// party has a letter for each finalizer. In order: no finalizer; gone after the first arrival, and the second changes nothing; once it has
+/// gone it is not changed, nor asked to be deleted, nor seen; gone without a cleanup, where no Apply started; a late patch of a cleanup
+/// is refused, and the finalizer of another party's list stays; an Apply starts on a sight before the deletion, after a Cleanup
+/// succeeded; no other party adds or removes the name; what is named was made before; the patch of a cleanup is sent only after one
+/// succeeded, which started.
+const ROWS: &str = "\
+other- | []
+decide-0 send-0 arrive-0 delete-0 decide-4 cleanup-1 cleaned-1 send-1 arrive-1 arrive-1 | gone
+delete-0 other- | no life
+delete-0 delete-0 | no life
+delete-0 decide-1 | no life
+delete-0 decide-0 send-0 arrive-0 | gone
+other-a decide-1 send-0 arrive-0 delete-0 decide-5 cleanup-1 cleaned-1 send-1 other-f arrive-1 decide-11 | [\"f\"] deleting
+decide-0 send-0 arrive-0 delete-0 decide-4 cleanup-1 cleaned-1 decide-3 apply-2 | [\"f\"] deleting
+other-f | no life
+other-ab other-b | [\"b\"]
+decide-1 | no life
+decide-0 apply-0 | no life
+decide-0 arrive-0 | no life
+decide-0 send-0 arrive-0 delete-0 decide-4 cleanup-1 failed-1 send-1 | no life
+decide-0 send-0 arrive-0 delete-0 decide-4 cleaned-1 | no life";
 
-/// Steps, and how the object stands at their end, where they are a life.
-type Row = (&'static [Short], &'static str);
-
-const ROWS: [Row; 15] = [
-    (&[], "[]"),
-    // gone after the first arrival, and the second changes nothing
-    (
-        &[
-            ("decide", 0, &[]),
-            ("send", 0, &[]),
-            ("arrive", 0, &[]),
-            ("delete", 0, &[]),
-            ("decide", 4, &[]),
-            ("cleanup", 1, &[]),
-            ("cleaned", 1, &[]),
-            ("send", 1, &[]),
-            ("arrive", 1, &[]),
-            ("arrive", 1, &[]),
-        ],
-        "gone",
-    ),
-    // once it has gone it is not changed, nor asked to be deleted, nor seen
-    (&[("delete", 0, &[]), ("other", 0, &[])], "no life"),
-    (&[("delete", 0, &[]), ("delete", 0, &[])], "no life"),
-    (&[("delete", 0, &[]), ("decide", 1, &[])], "no life"),
-    (
-        &[
-            ("delete", 0, &[]),
-            ("decide", 0, &[]),
-            ("send", 0, &[]),
-            ("arrive", 0, &[]),
-        ],
-        "gone",
-    ),
-    // a late patch of a cleanup is refused, and the finalizer of another party's list stays
-    (
-        &[
-            ("other", 0, &["a"]),
-            ("decide", 1, &[]),
-            ("send", 0, &[]),
-            ("arrive", 0, &[]),
-            ("delete", 0, &[]),
-            ("decide", 5, &[]),
-            ("cleanup", 1, &[]),
-            ("cleaned", 1, &[]),
-            ("send", 1, &[]),
-            ("other", 0, &["f"]),
-            ("arrive", 1, &[]),
-            ("decide", 11, &[]),
-        ],
-        "[f] deleting",
-    ),
-    // an Apply starts on a sight before the deletion, after a Cleanup succeeded
-    (
-        &[
-            ("decide", 0, &[]),
-            ("send", 0, &[]),
-            ("arrive", 0, &[]),
-            ("delete", 0, &[]),
-            ("decide", 4, &[]),
-            ("cleanup", 1, &[]),
-            ("cleaned", 1, &[]),
-            ("decide", 3, &[]),
-            ("apply", 2, &[]),
-        ],
-        "[f] deleting",
-    ),
-    // no other party adds or removes the name
-    (&[("other", 0, &["f"])], "no life"),
-    (&[("other", 0, &["a", "b"]), ("other", 0, &["b"])], "[b]"),
-    // what is named was made before
-    (&[("decide", 1, &[])], "no life"),
-    (&[("decide", 0, &[]), ("apply", 0, &[])], "no life"),
-    (&[("decide", 0, &[]), ("arrive", 0, &[])], "no life"),
-    // the patch of a cleanup is sent only after one succeeded
-    (
-        &[
-            ("decide", 0, &[]),
-            ("send", 0, &[]),
-            ("arrive", 0, &[]),
-            ("delete", 0, &[]),
-            ("decide", 4, &[]),
-            ("cleanup", 1, &[]),
-            ("failed", 1, &[]),
-            ("send", 1, &[]),
-        ],
-        "no life",
-    ),
-    (
-        &[
-            ("decide", 0, &[]),
-            ("send", 0, &[]),
-            ("arrive", 0, &[]),
-            ("delete", 0, &[]),
-            ("decide", 4, &[]),
-            ("cleaned", 1, &[]),
-        ],
-        "no life",
-    ),
-];
-
-fn names(rt: &impl Abort, alloc: Global, given: &[&str]) -> List<Text> {
+fn names(rt: &impl Abort, alloc: Global, letters: &str) -> List<Text> {
     let mut names = List::new(alloc);
-    for name in given {
-        names.push(text(rt, alloc, name)).expect(rt, "memory");
+    for name in ["a", "b", "f"] {
+        if letters.contains(name) {
+            names.push(text(rt, alloc, name)).expect(rt, "memory");
+        }
     }
     names
 }
 
-fn step(rt: &impl Abort, alloc: Global, short: &Short) -> LifeStep {
-    let number = short.1;
-    match short.0 {
+fn step(rt: &impl Abort, alloc: Global, word: &str) -> LifeStep {
+    let (kind, rest) = word.split_once('-').unwrap_or(("", ""));
+    let number = rest.parse().unwrap_or(0);
+    match kind {
         "other" => LifeStep::Other {
-            finalizers: names(rt, alloc, short.2),
+            finalizers: names(rt, alloc, rest),
         },
         "delete" => LifeStep::RequestDelete,
         "decide" => LifeStep::Decide { sight: number },
         "apply" => LifeStep::ApplyStarts { decision: number },
         "cleanup" => LifeStep::CleanupStarts { decision: number },
-        "cleaned" => LifeStep::CleanupEnds {
+        "cleaned" | "failed" => LifeStep::CleanupEnds {
             decision: number,
-            ok: true,
-        },
-        "failed" => LifeStep::CleanupEnds {
-            decision: number,
-            ok: false,
+            ok: kind == "cleaned",
         },
         "send" => LifeStep::Send { decision: number },
         _ => LifeStep::Arrive { send: number },
     }
 }
 
-fn steps(rt: &impl Abort, alloc: Global, shorts: &[Short]) -> Vec<LifeStep> {
+fn steps(rt: &impl Abort, alloc: Global, words: &str) -> Vec<LifeStep> {
     let mut life = Vec::new(alloc);
-    for short in shorts {
-        life.push(step(rt, alloc, short)).expect(rt, "memory");
+    for word in words.split_whitespace() {
+        life.push(step(rt, alloc, word)).expect(rt, "memory");
     }
     life
 }
 
-/// Adds names, with a space between them.
-fn add_names(rt: &impl Abort, string: &mut String, names: &[Text]) {
-    let mut before = "";
-    for name in names {
-        add(rt, string, before);
-        add(rt, string, name.as_str());
-        before = " ";
-    }
-}
-
-/// How an object that is there stands.
-fn finalizers_text(rt: &impl Abort, alloc: Global, state: &LifeState) -> String {
-    let mut string = owned(rt, alloc, "[");
-    add_names(rt, &mut string, state.finalizers.as_slice());
-    add(rt, &mut string, "]");
-    if state.deleting {
-        add(rt, &mut string, " deleting");
-    }
-    string
-}
-
 /// How an object stands.
-fn state_text(rt: &impl Abort, alloc: Global, state: &LifeState) -> String {
+fn shown(rt: &impl Abort, alloc: Global, state: &LifeState) -> String {
     if state.gone {
         return owned(rt, alloc, "gone");
     }
-    finalizers_text(rt, alloc, state)
-}
-
-/// The same of a state that ends with it.
-fn state_text_once(rt: &impl Abort, alloc: Global, state: LifeState) -> String {
-    state_text(rt, alloc, &state)
+    let end = if state.deleting { " deleting" } else { "" };
+    format!(in alloc; "{:?}{end}", state.finalizers).expect(rt, "memory")
 }
 
 /// How an object stands at the end of a life, of which the laws hold. (No row has so many steps as the first test is of.)
@@ -191,18 +84,20 @@ fn come_of(rt: &impl Abort, alloc: Global, life: &[LifeStep]) -> String {
         return owned(rt, alloc, "no life");
     }
     guarded(life, "f");
-    state_text_once(rt, alloc, play(alloc, life, "f").expect(rt, "memory"))
+    let state = play(alloc, life, "f").expect(rt, "memory");
+    shown(rt, alloc, &state)
 }
 
-fn outcome(rt: &impl Abort, alloc: Global, shorts: &[Short]) -> String {
-    let life = steps(rt, alloc, shorts);
+fn outcome(rt: &impl Abort, alloc: Global, words: &str) -> String {
+    let life = steps(rt, alloc, words);
     come_of(rt, alloc, life.as_slice())
 }
 
 #[test]
 fn lives_of_an_object(rt: HostRuntime) {
-    for row in &ROWS {
-        let outcome = outcome(&rt, rt.alloc(), row.0);
-        is_text(&rt, outcome.as_str(), row.1);
+    for line in ROWS.split('\n') {
+        let (words, wanted) = halves(line);
+        let outcome = outcome(&rt, rt.alloc(), words);
+        is_text(&rt, outcome.as_str(), wanted);
     }
 }

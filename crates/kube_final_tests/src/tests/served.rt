@@ -1,14 +1,14 @@
 //! Finalizers and deletions over the objects of a server.
 
-ghost use Rattle.std.specs.Prelude.{◌≡◌, false, IfSome};
+ghost use Rattle.std.specs.Prelude.{◌≡◌, false};
 
-use super::finalizers::{answer_text, branch_of, guarding};
-use super::waits::{deletion_text, uid_one};
-use super::{add, is_text, owned, text, with_metadata};
+use super::waits::api;
+use super::{Torn, halves, is_text, owned, with_metadata};
 use kube_api::TestMode;
+use kube_final::delete;
 use kube_final::delete::DeleteAndFinalize;
-use kube_final::finalizer::Finalizer;
-use kube_meta::{ApiResource, DynamicObject, Moment, ObjectRef, Text};
+use kube_final::finalizer::{Error, Event, Finalizer};
+use kube_meta::{Action, ApiResource, DynamicObject, Moment, Next, ObjectRef, Polled};
 use kube_server::{Server, ServerObjects};
 use std::alloc::Global;
 use std::panic::Expect;
@@ -17,18 +17,8 @@ use std::rt::HostRuntime;
 use std::sync::Arc;
 
 fn resource(rt: &impl Abort, alloc: Global) -> Arc<ApiResource> {
-    let resource = ApiResource {
-        group: text(rt, alloc, ""),
-        version: text(rt, alloc, "v1"),
-        api_version: text(rt, alloc, "v1"),
-        kind: text(rt, alloc, "ConfigMap"),
-        plural: text(rt, alloc, "configmaps"),
-    };
-    Arc::new(alloc, resource).expect(rt, "memory")
-}
-
-fn server(rt: &impl Abort, alloc: Global) -> Server {
-    Server::new(alloc, resource(rt, alloc))
+    let resource = ApiResource::new(alloc, "", "v1", "ConfigMap", "configmaps");
+    Arc::new(alloc, resource.expect(rt, "memory")).expect(rt, "memory")
 }
 
 fn key(rt: &impl Abort, alloc: Global) -> ObjectRef<DynamicObject> {
@@ -41,76 +31,64 @@ fn remove(rt: &impl Abort, alloc: Global, server: &mut Server) {
     server.remove(alloc, &key).expect(rt, "it is there");
 }
 
-fn put_object(rt: &impl Abort, alloc: Global, server: &mut Server, metadata: &str) {
-    let object = with_metadata(rt, alloc, metadata);
-    server.put(alloc, object).expect(rt, "it has a name");
-}
-
-/// Puts the object of metadata as JSON; takes it away where that is `gone`, and else leaves all as it is.
+/// Puts the object of metadata as JSON; takes it away where that is `gone`, and leaves all as it is where it is `-`.
 fn put(rt: &impl Abort, alloc: Global, server: &mut Server, metadata: &str) {
     match metadata {
-        "" => {}
+        "-" => {}
         "gone" => remove(rt, alloc, server),
-        _ => put_object(rt, alloc, server, metadata),
+        _ => {
+            let object = with_metadata(rt, alloc, metadata);
+            server.put(alloc, object).expect(rt, "it has a name");
+        }
     }
 }
 
-/// Adds names, with a space after each.
-fn add_names(rt: &impl Abort, string: &mut String, names: &[Text]) {
-    for name in names {
-        add(rt, string, name.as_str());
-        add(rt, string, " ");
-    }
-}
-
-/// Adds the finalizers of an object, and its version.
-fn add_object(rt: &impl Abort, string: &mut String, object: &DynamicObject) {
-    if let Some(names) = &object.metadata.finalizers {
-        add_names(rt, string, names.as_slice());
-    }
-    if let Some(version) = &object.metadata.resource_version {
-        add(rt, string, "@");
-        add(rt, string, version.as_str());
-    }
-}
-
-/// The finalizers of an object, and its version.
-fn object_text(rt: &impl Abort, alloc: Global, object: &DynamicObject) -> String {
-    let mut string = String::new(alloc);
-    add_object(rt, &mut string, object);
-    string
-}
-
-/// How the object stands on the server.
-fn server_text(rt: &impl Abort, alloc: Global, server: &Server) -> String {
+/// How many finalizers the object has on the server.
+fn left(rt: &impl Abort, alloc: Global, server: &Server) -> Option<usize> {
     let key = key(rt, alloc);
-    match server.get(alloc, &key).expect(rt, "memory") {
-        Some(object) => object_text(rt, alloc, object),
-        None => owned(rt, alloc, "gone"),
-    }
-}
-
-/// The object as the server has it.
-fn seen(rt: &impl Abort, alloc: Global, server: &Server) -> Option<Arc<DynamicObject>> {
-    let key = key(rt, alloc);
-    match server.get(alloc, &key).expect(rt, "memory") {
-        Some(object) => Some(object.clone().expect(rt, "memory")),
-        None => None,
+    let object = server.get(alloc, &key).expect(rt, "memory")?;
+    match &object.metadata.finalizers {
+        Some(names) => Some(names.len()),
+        None => Some(0),
     }
 }
 
 /// A finalizer of the object as the server has it.
-fn guarded(rt: &impl Abort, alloc: Global, server: &Server) -> Option<Finalizer<DynamicObject>>
-    ensures { IfSome result (λ f. f.is_over ≡ false) }
+fn guarded(rt: &impl Abort, alloc: Global, server: &Server) -> Finalizer<DynamicObject>
+    ensures { result.is_over ≡ false }
 {
-    match seen(rt, alloc, server) {
-        Some(object) => Some(guarding(rt, alloc, object)),
-        None => None,
+    let key = key(rt, alloc);
+    let held = server.get(alloc, &key).expect(rt, "memory");
+    let object = held.expect(rt, "it is there").clone().expect(rt, "memory");
+    Finalizer::new(alloc, "f", object).expect(rt, "memory")
+}
+
+fn action_text(rt: &impl Abort, alloc: Global, action: &Action) -> String {
+    match action.requeue_after() {
+        Some(nanos) => format!(in alloc; "after {nanos}").expect(rt, "memory"),
+        None => owned(rt, alloc, "after change"),
+    }
+}
+
+fn shown(rt: &impl Abort, alloc: Global, answer: &Polled<Result<Action, Error<Torn>>>) -> String {
+    match answer {
+        Polled::NotReady => owned(rt, alloc, "not ready"),
+        Polled::Ready(Ok(action)) => action_text(rt, alloc, action),
+        Polled::Ready(Err(error)) => format!(in alloc; "{error}").expect(rt, "memory"),
+    }
+}
+
+/// How a branch ends: `ok`, `err`, or not yet.
+fn branch_of(branch: &str) -> Option<Result<Action, Torn>> {
+    match branch {
+        "ok" => Some(Ok(Action::requeue(7))),
+        "err" => Some(Err(Torn)),
+        _ => None,
     }
 }
 
 /// What a poll over the objects of a server comes to.
-fn polled_over(
+fn polled(
     rt: &impl Abort,
     alloc: Global,
     finalizer: &mut Finalizer<DynamicObject>,
@@ -122,25 +100,11 @@ fn polled_over(
     let answer = finalizer
         .poll(alloc, objects, branch_of(branch), Moment(5))
         .expect(rt, "memory");
-    answer_text(rt, alloc, answer)
-}
-
-/// The same of objects that end with it.
-fn polled_over_once(
-    rt: &impl Abort,
-    alloc: Global,
-    finalizer: &mut Finalizer<DynamicObject>,
-    objects: ServerObjects<'_>,
-    branch: &str,
-) -> String
-    requires unready { finalizer.old.is_over ≡ false }
-{
-    let mut objects = objects;
-    polled_over(rt, alloc, finalizer, &mut objects, branch)
+    shown(rt, alloc, &answer)
 }
 
 /// What a poll over the server comes to.
-fn polled(
+fn polled_over(
     rt: &impl Abort,
     alloc: Global,
     finalizer: &mut Finalizer<DynamicObject>,
@@ -149,148 +113,60 @@ fn polled(
 ) -> String
     requires unready { finalizer.old.is_over ≡ false }
 {
-    match server.objects_in(alloc, None) {
-        Ok(objects) => polled_over_once(rt, alloc, finalizer, objects, branch),
-        Err(_) => panic!(rt; "memory"),
+    let mut objects = server.objects_in(alloc, None).expect(rt, "memory");
+    polled(rt, alloc, finalizer, &mut objects, branch)
+}
+
+/// The branch that is owed.
+fn owed(rt: &impl Abort, finalizer: &Finalizer<DynamicObject>) -> &'static str {
+    match finalizer.event().expect(rt, "memory") {
+        Some(Event::Apply(_)) => "apply",
+        Some(Event::Cleanup(_)) => "cleanup",
+        None => "none",
     }
 }
 
-/// The same of a finalizer that ends with it.
-fn polled_once(
-    rt: &impl Abort,
-    alloc: Global,
-    finalizer: Finalizer<DynamicObject>,
-    server: &mut Server,
-    branch: &str,
-) -> String
-    requires unready { finalizer.is_over ≡ false }
-{
-    let mut finalizer = finalizer;
-    polled(rt, alloc, &mut finalizer, server, branch)
+/// What the object is when it is seen; what another party makes of it then; the branch; and what comes of that: the branch that was
+/// owed, the answer of the poll, and how many finalizers the object has then.
+///
+/// In order: one patch, which changes the object once; nothing is sent where the branch is owed and was not given, or failed, or where
+/// an object is deleted that another party holds; after the branch it goes on; the finalizer goes after the cleanup, and the object
+/// with the last one; a patch that meets another list is refused, and leaves it as it is.
+const ROWS: &str = r#"{"name":"x"} | - | none | none: after change, Some(1)
+{"name":"x","finalizers":["a","b"]} | - | none | none: after change, Some(3)
+{"name":"x","finalizers":["f"]} | - | none | apply: not ready, Some(1)
+{"name":"x","finalizers":["a","f"]} | - | err | apply: failed to apply object: torn, Some(2)
+{"name":"x","finalizers":["f"],"deletionTimestamp":"1"} | - | none | cleanup: not ready, Some(1)
+{"name":"x","finalizers":["f"],"deletionTimestamp":"1"} | - | err | cleanup: failed to clean up object: torn, Some(1)
+{"name":"x","finalizers":["a"],"deletionTimestamp":"1"} | - | none | none: after change, Some(1)
+{"name":"x","finalizers":["a","f"]} | - | ok | apply: after 7, Some(2)
+{"name":"x","finalizers":["a","f"],"deletionTimestamp":"1"} | - | ok | cleanup: after 7, Some(1)
+{"name":"x","finalizers":["f"],"deletionTimestamp":"1"} | - | ok | cleanup: after 7, None
+{"name":"x"} | {"name":"x","finalizers":["a"]} | none | none: failed to add finalizer: TestFailed, Some(1)
+{"name":"x","finalizers":["a"]} | {"name":"x","finalizers":["a","b"]} | none | none: failed to add finalizer: TestFailed, Some(2)
+{"name":"x","finalizers":["a","f"],"deletionTimestamp":"1"} | {"name":"x","finalizers":["f"],"deletionTimestamp":"1"} | ok | cleanup: failed to remove finalizer: TestFailed, Some(1)
+{"name":"x","finalizers":["a"]} | gone | none | none: failed to add finalizer: NotFound, None"#;
+
+/// What comes of a finalizer of the object that was seen, where another party changes the object then.
+fn guards(rt: &impl Abort, alloc: Global, server: &mut Server, then: &str, branch: &str) -> String {
+    let mut finalizer = guarded(rt, alloc, server);
+    put(rt, alloc, server, then);
+    let owed = owed(rt, &finalizer);
+    let answer = polled_over(rt, alloc, &mut finalizer, server, branch);
+    format!(in alloc; "{owed}: {answer}").expect(rt, "memory")
 }
 
-/// What the object is when it is seen, what another party makes of it then, the branch, and the answer of the poll with how
-/// the object stands then.
-type Row = (&'static str, &'static str, &'static str, &'static str);
-
-const ROWS: [Row; 11] = [
-    // one patch, which changes the object once
-    (r#"{"name":"x"}"#, "", "none", "after change; f @2"),
-    (
-        r#"{"name":"x","finalizers":["a","b"]}"#,
-        "",
-        "none",
-        "after change; a b f @2",
-    ),
-    // nothing is sent where the branch is owed and was not given, or failed
-    (
-        r#"{"name":"x","finalizers":["f"]}"#,
-        "",
-        "none",
-        "not ready; f @1",
-    ),
-    (
-        r#"{"name":"x","finalizers":["f"],"deletionTimestamp":"1"}"#,
-        "",
-        "none",
-        "not ready; f @1",
-    ),
-    (
-        r#"{"name":"x","finalizers":["f"],"deletionTimestamp":"1"}"#,
-        "",
-        "err",
-        "failed to clean up object: torn; f @1",
-    ),
-    // the finalizer goes after the cleanup, and the object with the last one
-    (
-        r#"{"name":"x","finalizers":["a","f"],"deletionTimestamp":"1"}"#,
-        "",
-        "ok",
-        "after 7; a @2",
-    ),
-    (
-        r#"{"name":"x","finalizers":["f"],"deletionTimestamp":"1"}"#,
-        "",
-        "ok",
-        "after 7; gone",
-    ),
-    // a patch that meets another list is refused, and leaves it as it is
-    (
-        r#"{"name":"x"}"#,
-        r#"{"name":"x","finalizers":["a"]}"#,
-        "none",
-        "failed to add finalizer: TestFailed; a @2",
-    ),
-    (
-        r#"{"name":"x","finalizers":["a"]}"#,
-        r#"{"name":"x","finalizers":["a","b"]}"#,
-        "none",
-        "failed to add finalizer: TestFailed; a b @2",
-    ),
-    (
-        r#"{"name":"x","finalizers":["a","f"],"deletionTimestamp":"1"}"#,
-        r#"{"name":"x","finalizers":["f"],"deletionTimestamp":"1"}"#,
-        "ok",
-        "failed to remove finalizer: TestFailed; f @2",
-    ),
-    (
-        r#"{"name":"x","finalizers":["a"]}"#,
-        "gone",
-        "none",
-        "failed to add finalizer: NotFound; gone",
-    ),
-];
-
-/// What a row's poll answers, where another party changes the object after it was seen.
-fn answer_of(
-    rt: &impl Abort,
-    alloc: Global,
-    finalizer: Finalizer<DynamicObject>,
-    server: &mut Server,
-    row: &Row,
-) -> String
-    requires unready { finalizer.is_over ≡ false }
-{
-    put(rt, alloc, server, row.1);
-    polled_once(rt, alloc, finalizer, server, row.2)
-}
-
-/// What the object that was seen comes to.
-fn come_of_one(rt: &impl Abort, alloc: Global, server: &mut Server, row: &Row) -> String {
-    match guarded(rt, alloc, server) {
-        Some(finalizer) => answer_of(rt, alloc, finalizer, server, row),
-        None => String::new(alloc),
+/// What a deletion comes to, whose watch tells that `uid-1` goes.
+fn ended(rt: &impl Abort, alloc: Global, answer: &Next<Result<(), delete::Error>>) -> String {
+    match answer {
+        Next::Item(Ok(())) => owned(rt, alloc, "gone"),
+        Next::Item(Err(error)) => format!(in alloc; "{error}").expect(rt, "memory"),
+        _ => owned(rt, alloc, "another answer"),
     }
 }
 
-/// An answer, and how the object stands on the server.
-fn with_left(rt: &impl Abort, alloc: Global, answer: &str, server: &Server) -> String {
-    let left = server_text(rt, alloc, server);
-    format!(in alloc; "{answer}; {left}").expect(rt, "memory")
-}
-
-/// What a row comes to, with a server on which nothing is yet.
-fn come_of(rt: &impl Abort, alloc: Global, server: &mut Server, row: &Row) -> String {
-    put(rt, alloc, server, row.0);
-    let answer = come_of_one(rt, alloc, server, row);
-    with_left(rt, alloc, answer.as_str(), server)
-}
-
-fn outcome(rt: &impl Abort, alloc: Global, row: &Row) -> String {
-    let mut server = server(rt, alloc);
-    come_of(rt, alloc, &mut server, row)
-}
-
-#[test]
-fn finalizers_over_a_server(rt: HostRuntime) {
-    for row in &ROWS {
-        let outcome = outcome(&rt, rt.alloc(), row);
-        is_text(&rt, outcome.as_str(), row.3);
-    }
-}
-
-/// Deletes the object of the server, and waits at a watch that tells that `uid-1` goes.
-fn deleted_over(
+/// Deletes the object of the server, and waits.
+fn deleted(
     rt: &impl Abort,
     alloc: Global,
     deletion: &mut DeleteAndFinalize<TestMode<DynamicObject>>,
@@ -301,68 +177,58 @@ fn deleted_over(
     let answer = deletion
         .poll(objects, alloc, Moment(5), 9)
         .expect(rt, "memory");
-    deletion_text(rt, alloc, answer)
+    ended(rt, alloc, &answer)
 }
 
-/// The same of objects that end with it.
-fn deleted_over_once(
-    rt: &impl Abort,
-    alloc: Global,
-    deletion: &mut DeleteAndFinalize<TestMode<DynamicObject>>,
-    objects: ServerObjects<'_>,
-) -> String
-    requires unready { deletion.old.is_over ≡ false }
-{
-    let mut objects = objects;
-    deleted_over(rt, alloc, deletion, &mut objects)
+/// The object on the server; `deletes`, and the answer of the poll with how many finalizers the object has then.
+const DELETIONS: &str = r#"- | deletes | - | failed to delete object: NotFound, None
+{"name":"x"} | deletes | - | gone, None
+{"name":"x","finalizers":["a"]} | deletes | - | gone, Some(1)
+{"name":"x","uid":""} | deletes | - | deleted object has no UID to wait for, None"#;
+
+fn deletes(rt: &impl Abort, alloc: Global, server: &mut Server) -> String {
+    let api = api(rt, alloc, "uid-1");
+    let mut deletion = DeleteAndFinalize::new(alloc, api, "x").expect(rt, "memory");
+    let mut objects = server.objects_in(alloc, None).expect(rt, "memory");
+    deleted(rt, alloc, &mut deletion, &mut objects)
 }
 
-fn deleted(
-    rt: &impl Abort,
-    alloc: Global,
-    deletion: &mut DeleteAndFinalize<TestMode<DynamicObject>>,
-    server: &mut Server,
-) -> String
-    requires unready { deletion.old.is_over ≡ false }
-{
-    match server.objects_in(alloc, None) {
-        Ok(objects) => deleted_over_once(rt, alloc, deletion, objects),
-        Err(_) => panic!(rt; "memory"),
+/// What is done on a server.
+fn done(rt: &impl Abort, alloc: Global, server: &mut Server, then: &str, branch: &str) -> String {
+    match then {
+        "deletes" => deletes(rt, alloc, server),
+        _ => guards(rt, alloc, server, then, branch),
     }
 }
 
-/// The object on the server, and the answer of the poll with how the object stands then.
-const DELETIONS: [(&str, &str); 4] = [
-    ("", "failed to delete object: NotFound; gone"),
-    (r#"{"name":"x"}"#, "gone; gone"),
-    (r#"{"name":"x","finalizers":["a"]}"#, "gone; a @2"),
-    (
-        r#"{"name":"x","uid":""}"#,
-        "deleted object has no UID to wait for; gone",
-    ),
-];
-
-fn deleted_on(rt: &impl Abort, alloc: Global, server: &mut Server) -> String {
-    let mut deletion = uid_one(rt, alloc, "x");
-    deleted(rt, alloc, &mut deletion, server)
+/// What a row comes to, with a server on which nothing is yet.
+fn come_of(rt: &impl Abort, alloc: Global, seen: &str, then: &str, branch: &str) -> String {
+    let mut server = Server::new(alloc, resource(rt, alloc));
+    put(rt, alloc, &mut server, seen);
+    let answer = done(rt, alloc, &mut server, then, branch);
+    let left = left(rt, alloc, &server);
+    format!(in alloc; "{answer}, {left:?}").expect(rt, "memory")
 }
 
-/// What a deletion comes to, with a server on which nothing is yet.
-fn deletion_of(rt: &impl Abort, alloc: Global, server: &mut Server, metadata: &str) -> String {
-    put(rt, alloc, server, metadata);
-    let answer = deleted_on(rt, alloc, server);
-    with_left(rt, alloc, answer.as_str(), server)
+/// A row is so.
+fn holds(rt: &impl Abort, alloc: Global, line: &str) {
+    let (seen, rest) = halves(line);
+    let (then, rest) = halves(rest);
+    let (branch, wanted) = halves(rest);
+    let answer = come_of(rt, alloc, seen, then, branch);
+    is_text(rt, answer.as_str(), wanted);
 }
 
-fn deletion(rt: &impl Abort, alloc: Global, metadata: &str) -> String {
-    let mut server = server(rt, alloc);
-    deletion_of(rt, alloc, &mut server, metadata)
+#[test]
+fn finalizers_over_a_server(rt: HostRuntime) {
+    for line in ROWS.split('\n') {
+        holds(&rt, rt.alloc(), line);
+    }
 }
 
 #[test]
 fn deletions_over_a_server(rt: HostRuntime) {
-    for (metadata, wanted) in &DELETIONS {
-        let text = deletion(&rt, rt.alloc(), metadata);
-        is_text(&rt, text.as_str(), wanted);
+    for line in DELETIONS.split('\n') {
+        holds(&rt, rt.alloc(), line);
     }
 }
