@@ -1,7 +1,7 @@
 //! Lives: which lists of steps are one, and what they come to on a server.
 
 use super::{add, is_text, owned, text};
-use kube_final::laws::{LifeState, LifeStep, guarded, play, valid};
+use kube_final::laws::{LifeState, LifeStep, Played, guarded, play, valid};
 use kube_meta::{List, Text};
 use std::alloc::Global;
 use std::panic::Expect;
@@ -180,9 +180,9 @@ fn state_text(rt: &impl Abort, alloc: Global, state: &LifeState) -> String {
     finalizers_text(rt, alloc, state)
 }
 
-/// The same of a state that ends with it.
-fn state_text_once(rt: &impl Abort, alloc: Global, state: LifeState) -> String {
-    state_text(rt, alloc, &state)
+/// The same of a life that was played, which ends with it.
+fn played_text(rt: &impl Abort, alloc: Global, played: Played) -> String {
+    state_text(rt, alloc, &played.state)
 }
 
 /// How an object stands at the end of a life, of which the laws hold. (No row has so many steps as the first test is of.)
@@ -191,7 +191,7 @@ fn come_of(rt: &impl Abort, alloc: Global, life: &[LifeStep]) -> String {
         return owned(rt, alloc, "no life");
     }
     guarded(life, "f");
-    state_text_once(rt, alloc, play(alloc, life, "f").expect(rt, "memory"))
+    played_text(rt, alloc, play(alloc, life, "f").expect(rt, "memory"))
 }
 
 fn outcome(rt: &impl Abort, alloc: Global, shorts: &[Short]) -> String {
