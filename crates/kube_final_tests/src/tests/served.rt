@@ -1,6 +1,6 @@
 //! Finalizers and deletions over the objects of a server.
 
-ghost use Rattle.std.specs.Prelude.{◌≡◌, false, IfSome};
+ghost use Rattle.std.specs.Prelude.{◌≡◌, false, true, IfSome};
 
 use super::finalizers::{answer_text, branch_of, guarding};
 use super::waits::{deletion_text, uid_one};
@@ -8,8 +8,8 @@ use super::{add, is_text, owned, text, with_metadata};
 use kube_api::TestMode;
 use kube_final::delete::DeleteAndFinalize;
 use kube_final::finalizer::Finalizer;
-use kube_meta::{ApiResource, DynamicObject, Moment, ObjectRef, Text};
-use kube_server::{Server, ServerObjects};
+use kube_meta::{ApiResource, DynamicObject, Moment, Next, ObjectRef, Text};
+use kube_server::{Conn, Server, ServerObjects};
 use std::alloc::Global;
 use std::panic::Expect;
 use std::process::Abort;
@@ -365,4 +365,106 @@ fn deletions_over_a_server(rt: HostRuntime) {
         let text = deletion(&rt, rt.alloc(), metadata);
         is_text(&rt, text.as_str(), wanted);
     }
+}
+
+/// Polls a deletion that watches a copy of the server's log, and adds what that gives. Whether it goes on.
+fn goes_on_over(
+    rt: &impl Abort,
+    alloc: Global,
+    deletion: &mut DeleteAndFinalize<Conn>,
+    objects: &mut ServerObjects<'_>,
+    text: &mut String,
+) -> bool
+    requires unready { deletion.old.is_over ≡ false }
+    ensures unready { result ≡ true → deletion.new.is_over ≡ false }
+{
+    let answer = deletion
+        .poll(objects, alloc, Moment(5), 9)
+        .expect(rt, "memory");
+    let goes_on = !matches!(answer, Next::Item(_));
+    let answer = deletion_text(rt, alloc, answer);
+    add(rt, text, answer.as_str());
+    add(rt, text, "; ");
+    goes_on
+}
+
+/// The same of objects that end with it.
+fn goes_on_over_once(
+    rt: &impl Abort,
+    alloc: Global,
+    deletion: &mut DeleteAndFinalize<Conn>,
+    objects: ServerObjects<'_>,
+    text: &mut String,
+) -> bool
+    requires unready { deletion.old.is_over ≡ false }
+    ensures unready { result ≡ true → deletion.new.is_over ≡ false }
+{
+    let mut objects = objects;
+    goes_on_over(rt, alloc, deletion, &mut objects, text)
+}
+
+fn goes_on(
+    rt: &impl Abort,
+    alloc: Global,
+    deletion: &mut DeleteAndFinalize<Conn>,
+    server: &mut Server,
+    text: &mut String,
+) -> bool
+    requires unready { deletion.old.is_over ≡ false }
+    ensures unready { result ≡ true → deletion.new.is_over ≡ false }
+{
+    match server.objects_in(alloc, None) {
+        Ok(objects) => goes_on_over_once(rt, alloc, deletion, objects, text),
+        Err(_) => panic!(rt; "memory"),
+    }
+}
+
+/// Copies what is new in the server's log.
+fn feed(rt: &impl Abort, alloc: Global, deletion: &mut DeleteAndFinalize<Conn>, server: &Server) {
+    let conn = deletion.api_mut();
+    conn.feed(alloc, server).expect(rt, "memory");
+}
+
+/// Polls until the deletion is over, where the object goes after two polls, and the watch is fed after three.
+fn fed_polls(
+    rt: &impl Abort,
+    alloc: Global,
+    deletion: &mut DeleteAndFinalize<Conn>,
+    server: &mut Server,
+    text: &mut String,
+)
+    requires unready { deletion.old.is_over ≡ false }
+{
+    for number in 0..9 {
+        if number == 2 {
+            remove(rt, alloc, server);
+        }
+        if number == 3 {
+            feed(rt, alloc, deletion, server);
+        }
+        if !goes_on(rt, alloc, deletion, server, text) {
+            return;
+        }
+    }
+}
+
+#[test]
+fn waits_over_a_fed_connection(rt: HostRuntime) {
+    let alloc = rt.alloc();
+    let mut server = server(&rt, alloc);
+    put(
+        &rt,
+        alloc,
+        &mut server,
+        r#"{"name":"x","finalizers":["a"]}"#,
+    );
+    let conn = Conn::new(alloc, &server).expect(&rt, "memory");
+    let mut deletion = DeleteAndFinalize::new(alloc, conn, "x").expect(&rt, "memory");
+    let mut text = String::new(alloc);
+    fed_polls(&rt, alloc, &mut deletion, &mut server, &mut text);
+    is_text(
+        &rt,
+        text.as_str(),
+        "not ready; not ready; not ready; gone; ",
+    );
 }
