@@ -299,7 +299,7 @@ fn deleted_over(
     requires unready { deletion.old.is_over ≡ false }
 {
     let answer = deletion
-        .poll(objects, alloc, Moment(5), 9)
+        .poll(alloc, objects, Moment(5), 9)
         .expect(rt, "memory");
     deletion_text(rt, alloc, answer)
 }
@@ -379,7 +379,7 @@ fn goes_on_over(
     ensures unready { result ≡ true → deletion.new.is_over ≡ false }
 {
     let answer = deletion
-        .poll(objects, alloc, Moment(5), 9)
+        .poll(alloc, objects, Moment(5), 9)
         .expect(rt, "memory");
     let goes_on = !matches!(answer, Next::Item(_));
     let answer = deletion_text(rt, alloc, answer);

@@ -319,7 +319,7 @@ fn polls<R: Abort + Copy>(
 {
     for fuel in fuels {
         let answer = deletion
-            .poll(objects, alloc, Moment(0), (*fuel).max(1))
+            .poll(alloc, objects, Moment(0), (*fuel).max(1))
             .expect(rt, "memory");
         match answer {
             Next::NotReady => add(rt, text, "not ready, "),
