@@ -356,6 +356,7 @@ fn ask(rt: &impl Abort, alloc: Global, conn: &mut Conn, act: Act<'_>) -> String
 }
 
 /// Whether an act feeds the connection.
+#[derive(Clone, Copy)]
 enum Kind {
     Feed,
     Other,
