@@ -3,78 +3,46 @@
 ghost use Rattle.std.specs.Prelude.{◌≡◌};
 ghost use Rattle.kube_server.specs.History.{IsLater};
 
-use kube_api::{
-    ApiError, ApiMode, DeleteAnswer, ListParams, ObjectApi, Page, Patch, PatchAnswer, PatchRefusal,
-    WatchEvent, WatchParams,
-};
+use kube_api::{ApiError, ApiMode, ListParams, Page, Patch, WatchEvent, WatchParams};
 use kube_meta::{
     ApiResource, DynamicObject, List, Moment, NoMemory, ObjectMeta, ObjectRef, Polled, Text,
 };
-use kube_server::{Conn, Server, ServerObjects, ServerRefusal};
+use kube_server::{Conn, Server};
 use serde_json::Value;
 use std::alloc::Global;
+use std::fmt;
 use std::panic::Expect;
 use std::process::Abort;
 use std::sync::Arc;
-use std::test::Fail;
-
-/// What is done. Numbers of a list are its limit; an empty token begins a list.
-#[derive(Clone, Copy)]
-enum Act {
-    Put(&'static str),
-    /// With the finalizer `f`.
-    PutHeld(&'static str),
-    PutUnnamed,
-    Remove(&'static str),
-    Delete(&'static str, u64),
-    Patch(&'static str, &'static str),
-    Compact(u64),
-    Holds,
-    Feed,
-    List(u32, &'static str),
-    ListBy(&'static str, &'static str),
-    Watch(&'static str),
-    WatchAll,
-    WatchBy(&'static str, &'static str),
-    Next,
-}
 
 fn resource(rt: &impl Abort, alloc: Global) -> Arc<ApiResource> {
-    let resource = ApiResource {
-        group: Text::new(alloc, "").expect(rt, "memory"),
-        version: Text::new(alloc, "v1").expect(rt, "memory"),
-        api_version: Text::new(alloc, "v1").expect(rt, "memory"),
-        kind: Text::new(alloc, "ConfigMap").expect(rt, "memory"),
-        plural: Text::new(alloc, "configmaps").expect(rt, "memory"),
-    };
-    Arc::new(alloc, resource).expect(rt, "memory")
+    let resource = ApiResource::new(alloc, "", "v1", "ConfigMap", "configmaps");
+    Arc::new(alloc, resource.expect(rt, "memory")).expect(rt, "memory")
 }
 
-/// Metadata of a name and finalizers.
-fn named(rt: &impl Abort, alloc: Global, name: &str, finalizers: Option<List<Text>>) -> ObjectMeta {
-    ObjectMeta {
-        name: Some(Text::new(alloc, name).expect(rt, "memory")),
-        namespace: None,
-        uid: None,
-        resource_version: None,
-        deletion_timestamp: None,
-        generation: None,
-        labels: None,
-        annotations: None,
-        finalizers,
-        owner_references: None,
+fn made(rt: &impl Abort, alloc: Global, text: &str) -> Text {
+    Text::new(alloc, text).expect(rt, "memory")
+}
+
+/// The text; none where it is empty or `-`.
+fn text(rt: &impl Abort, alloc: Global, text: &str) -> Option<Text> {
+    match text {
+        "" | "-" => None,
+        _ => Some(made(rt, alloc, text)),
     }
 }
 
-fn metadata(rt: &impl Abort, alloc: Global, name: &str) -> ObjectMeta {
-    named(rt, alloc, name, None)
-}
-
-fn held(rt: &impl Abort, alloc: Global, name: &str) -> ObjectMeta {
-    let finalizer = Text::new(alloc, "f").expect(rt, "memory");
+/// An object of a name; held by the finalizer `f`, or by none.
+fn object(rt: &impl Abort, alloc: Global, name: &str, held: bool) -> DynamicObject {
     let mut finalizers = List::new(alloc);
-    finalizers.push(finalizer).expect(rt, "memory");
-    named(rt, alloc, name, Some(finalizers))
+    if held {
+        finalizers.push(made(rt, alloc, "f")).expect(rt, "memory");
+    }
+    DynamicObject::bare(ObjectMeta {
+        name: text(rt, alloc, name),
+        finalizers: Some(finalizers),
+        ..ObjectMeta::empty()
+    })
 }
 
 fn key(rt: &impl Abort, alloc: Global, name: &str) -> ObjectRef<DynamicObject> {
@@ -82,17 +50,10 @@ fn key(rt: &impl Abort, alloc: Global, name: &str) -> ObjectRef<DynamicObject> {
     ObjectRef::new_with(alloc, name, resource).expect(rt, "memory")
 }
 
-fn text(rt: &impl Abort, alloc: Global, text: &str) -> Option<Text> {
-    if text.is_empty() {
-        return None;
-    }
-    Some(Text::new(alloc, text).expect(rt, "memory"))
-}
-
 fn list_params(
     rt: &impl Abort,
     alloc: Global,
-    limit: u32,
+    limit: &str,
     token: &str,
     labels: &str,
     fields: &str,
@@ -100,7 +61,7 @@ fn list_params(
     ListParams {
         label_selector: text(rt, alloc, labels),
         field_selector: text(rt, alloc, fields),
-        limit: Some(limit),
+        limit: Some(limit.parse().unwrap_or(0)),
         continue_token: text(rt, alloc, token),
         resource_version: None,
         version_match: None,
@@ -123,46 +84,27 @@ fn watch_params(
     }
 }
 
-/// A copy of a value, and null for none.
-fn copied(rt: &impl Abort, value: Option<&Value>) -> Value {
-    match value {
-        Some(value) => value.clone().expect(rt, "memory"),
-        None => Value::Null,
-    }
-}
-
-/// The operation that a list of its kind, path and value stands for.
-fn operation(rt: &impl Abort, alloc: Global, given: &Value) -> Patch {
-    let kind = given.get(0).and_then(Value::as_str).unwrap_or("");
-    let path = given.get(1).and_then(Value::as_str).unwrap_or("");
-    let path = Text::new(alloc, path).expect(rt, "memory");
+/// The operation that is said by its kind, path and value; null for no value.
+fn operation(rt: &impl Abort, alloc: Global, said: &str) -> Patch {
+    let (kind, rest) = said.split_once(' ').unwrap_or(("", ""));
+    let (path, value) = rest.split_once(' ').unwrap_or((rest, "null"));
+    let path = made(rt, alloc, path);
+    let value = Value::from_str(alloc, value).expect(rt, "JSON");
     match kind {
-        "test" => Patch::Test {
-            path,
-            value: copied(rt, given.get(2)),
-        },
-        "add" => Patch::Add {
-            path,
-            value: copied(rt, given.get(2)),
-        },
+        "test" => Patch::Test { path, value },
+        "add" => Patch::Add { path, value },
         _ => Patch::Remove { path },
     }
 }
 
-/// The operations of a value that is read.
-fn listed(rt: &impl Abort, alloc: Global, given: &Value) -> Vec<Patch> {
+fn operations(rt: &impl Abort, alloc: Global, said: &str) -> Vec<Patch> {
     let mut patch = Vec::new(alloc);
-    if let Some(items) = given.as_array() {
-        for item in items {
-            patch.push(operation(rt, alloc, item)).expect(rt, "memory");
+    for one in said.split("; ") {
+        if !one.is_empty() {
+            patch.push(operation(rt, alloc, one)).expect(rt, "memory");
         }
     }
     patch
-}
-
-fn operations(rt: &impl Abort, alloc: Global, text: &str) -> Vec<Patch> {
-    let given = Value::from_str(alloc, text).expect(rt, "JSON");
-    listed(rt, alloc, &given)
 }
 
 /// The text of what may be absent.
@@ -179,35 +121,21 @@ fn owned(rt: &impl Abort, alloc: Global, text: &str) -> String {
 }
 
 /// An object: name, uid and version, and since when it is being deleted.
-fn shown(rt: &impl Abort, alloc: Global, object: &DynamicObject) -> String {
+fn shown(rt: &impl Abort, alloc: Global, word: &str, object: &DynamicObject) -> String {
     let meta = &object.metadata;
     let (name, uid) = (or_none(&meta.name), or_none(&meta.uid));
     let (version, deleted) = (
         or_none(&meta.resource_version),
         or_none(&meta.deletion_timestamp),
     );
-    format!(in alloc; "{name}/{uid}@{version}/{deleted}").expect(rt, "memory")
+    format!(in alloc; "{word} {name}/{uid}@{version}/{deleted}").expect(rt, "memory")
 }
 
-fn answered(rt: &impl Abort, alloc: Global, answer: Result<u64, ServerRefusal>) -> String {
+/// A revision, or why there is none.
+fn answered<E: fmt::Display>(rt: &impl Abort, alloc: Global, answer: &Result<u64, E>) -> String {
     match answer {
         Ok(revision) => format!(in alloc; "{revision}").expect(rt, "memory"),
         Err(refusal) => format!(in alloc; "{refusal}").expect(rt, "memory"),
-    }
-}
-
-fn refused(rt: &impl Abort, alloc: Global, refusal: PatchRefusal) -> String {
-    match refusal {
-        PatchRefusal::TestFailed(n) => format!(in alloc; "TestFailed {n}").expect(rt, "memory"),
-        PatchRefusal::PathMissing(n) => format!(in alloc; "PathMissing {n}").expect(rt, "memory"),
-        _ => format!(in alloc; "{refusal}").expect(rt, "memory"),
-    }
-}
-
-fn patch_answered(rt: &impl Abort, alloc: Global, answer: Result<u64, PatchRefusal>) -> String {
-    match answer {
-        Ok(revision) => format!(in alloc; "{revision}").expect(rt, "memory"),
-        Err(refusal) => refused(rt, alloc, refusal),
     }
 }
 
@@ -224,8 +152,7 @@ fn fault(rt: &impl Abort, alloc: Global, error: &ApiError) -> String {
 /// Adds each object, with a space before it.
 fn add_objects(rt: &impl Abort, alloc: Global, text: &mut String, objects: &[Arc<DynamicObject>]) {
     for object in objects {
-        let object = shown(rt, alloc, object);
-        text.push_str(" ").expect(rt, "memory");
+        let object = shown(rt, alloc, "", object);
         text.push_str(object.as_str()).expect(rt, "memory");
     }
 }
@@ -249,24 +176,11 @@ fn list_answered(
     }
 }
 
-fn watch_answered(rt: &impl Abort, alloc: Global, answer: &Polled<Result<(), ApiError>>) -> String {
-    match answer {
-        Polled::NotReady => owned(rt, alloc, "not ready"),
-        Polled::Ready(Ok(())) => owned(rt, alloc, "opened"),
-        Polled::Ready(Err(error)) => fault(rt, alloc, error),
-    }
-}
-
-fn with_object(rt: &impl Abort, alloc: Global, word: &str, object: &DynamicObject) -> String {
-    let object = shown(rt, alloc, object);
-    format!(in alloc; "{word} {object}").expect(rt, "memory")
-}
-
 fn event(rt: &impl Abort, alloc: Global, event: &WatchEvent<DynamicObject>) -> String {
     match event {
-        WatchEvent::Added(object) => with_object(rt, alloc, "added", object),
-        WatchEvent::Modified(object) => with_object(rt, alloc, "modified", object),
-        WatchEvent::Deleted(object) => with_object(rt, alloc, "deleted", object),
+        WatchEvent::Added(object) => shown(rt, alloc, "added", object),
+        WatchEvent::Modified(object) => shown(rt, alloc, "modified", object),
+        WatchEvent::Deleted(object) => shown(rt, alloc, "deleted", object),
         WatchEvent::Bookmark(bookmark) => {
             let (version, marks) = (bookmark.version.as_str(), bookmark.annotations.len());
             format!(in alloc; "bookmark {version} {marks}").expect(rt, "memory")
@@ -306,35 +220,30 @@ fn begun(rt: &impl Abort, alloc: Global) -> World
     World { server, conn }
 }
 
-fn put(rt: &impl Abort, alloc: Global, server: &mut Server, metadata: ObjectMeta) -> String
-    ensures { IsLater server.old.changes server.new.changes server.old.compacted server.new.compacted }
-{
-    answered(rt, alloc, server.put(alloc, DynamicObject::bare(metadata)))
-}
-
 fn remove(rt: &impl Abort, alloc: Global, server: &mut Server, name: &str) -> String
     ensures { IsLater server.old.changes server.new.changes server.old.compacted server.new.compacted }
 {
     let key = key(rt, alloc, name);
-    answered(rt, alloc, server.remove(alloc, &key))
+    answered(rt, alloc, &server.remove(alloc, &key))
 }
 
-fn delete(rt: &impl Abort, alloc: Global, server: &mut Server, name: &str, now: u64) -> String
+fn delete(rt: &impl Abort, alloc: Global, server: &mut Server, name: &str, now: &str) -> String
     ensures { IsLater server.old.changes server.new.changes server.old.compacted server.new.compacted }
 {
     let key = key(rt, alloc, name);
-    answered(rt, alloc, server.request_delete(alloc, &key, Moment(now)))
+    let now = Moment(now.parse().unwrap_or(0));
+    answered(rt, alloc, &server.request_delete(alloc, &key, now))
 }
 
-fn patch(rt: &impl Abort, alloc: Global, server: &mut Server, name: &str, text: &str) -> String
+fn patch(rt: &impl Abort, alloc: Global, server: &mut Server, name: &str, said: &str) -> String
     ensures { IsLater server.old.changes server.new.changes server.old.compacted server.new.compacted }
 {
-    let patch = operations(rt, alloc, text);
+    let patch = operations(rt, alloc, said);
     if patch.len() > 9 {
         return String::new(alloc);
     }
     let key = key(rt, alloc, name);
-    patch_answered(rt, alloc, server.patch(alloc, &key, &patch))
+    answered(rt, alloc, &server.patch(alloc, &key, &patch))
 }
 
 fn list(rt: &impl Abort, alloc: Global, conn: &mut Conn, params: &ListParams) -> String
@@ -358,7 +267,11 @@ fn watch(
     let answer = conn
         .watch(alloc, params, version, Moment(0))
         .expect(rt, "memory");
-    watch_answered(rt, alloc, &answer)
+    match &answer {
+        Polled::NotReady => owned(rt, alloc, "not ready"),
+        Polled::Ready(Ok(())) => owned(rt, alloc, "opened"),
+        Polled::Ready(Err(error)) => fault(rt, alloc, error),
+    }
 }
 
 fn next(rt: &impl Abort, alloc: Global, conn: &mut Conn) -> String
@@ -376,20 +289,29 @@ fn holds(rt: &impl Abort, alloc: Global, server: &Server) -> String {
     text
 }
 
+/// What is done: its word, and what it is done with.
+#[derive(Clone, Copy)]
+struct Act<'a> {
+    word: &'a str,
+    first: &'a str,
+    second: &'a str,
+}
+
 /// What is done with the server; none where it is an act of the connection.
-fn serve(rt: &impl Abort, alloc: Global, server: &mut Server, act: Act) -> Option<String>
+fn serve(rt: &impl Abort, alloc: Global, server: &mut Server, act: Act<'_>) -> Option<String>
     ensures { IsLater server.old.changes server.new.changes server.old.compacted server.new.compacted }
 {
-    Some(match act {
-        Act::Put(name) => put(rt, alloc, server, metadata(rt, alloc, name)),
-        Act::PutHeld(name) => put(rt, alloc, server, held(rt, alloc, name)),
-        Act::PutUnnamed => put(rt, alloc, server, ObjectMeta::empty()),
-        Act::Remove(name) => remove(rt, alloc, server, name),
-        Act::Delete(name, now) => delete(rt, alloc, server, name, now),
-        Act::Patch(name, text) => patch(rt, alloc, server, name, text),
-        Act::Holds => holds(rt, alloc, server),
-        Act::Compact(revision) => {
-            server.compact(revision);
+    Some(match act.word {
+        "put" | "hold" => {
+            let object = object(rt, alloc, act.first, act.word == "hold");
+            answered(rt, alloc, &server.put(alloc, object))
+        }
+        "remove" => remove(rt, alloc, server, act.first),
+        "delete" => delete(rt, alloc, server, act.first, act.second),
+        "patch" => patch(rt, alloc, server, act.first, act.second),
+        "holds" => holds(rt, alloc, server),
+        "compact" => {
+            server.compact(act.first.parse().unwrap_or(0));
             owned(rt, alloc, "compacted")
         }
         _ => return None,
@@ -397,420 +319,239 @@ fn serve(rt: &impl Abort, alloc: Global, server: &mut Server, act: Act) -> Optio
 }
 
 /// What is asked of the connection.
-fn ask(rt: &impl Abort, alloc: Global, conn: &mut Conn, act: Act) -> String
+fn ask(rt: &impl Abort, alloc: Global, conn: &mut Conn, act: Act<'_>) -> String
     ensures changes { conn.new.changes ≡ conn.old.changes }
     ensures compacted { conn.new.compacted ≡ conn.old.compacted }
 {
-    match act {
-        Act::List(limit, token) => {
-            list(
-                rt,
-                alloc,
-                conn,
-                &list_params(rt, alloc, limit, token, "", ""),
-            )
-        }
-        Act::ListBy(labels, fields) => {
-            list(
-                rt,
-                alloc,
-                conn,
-                &list_params(rt, alloc, 0, "x", labels, fields),
-            )
-        }
-        Act::Watch(version) => {
-            watch(
-                rt,
-                alloc,
-                conn,
-                &watch_params(rt, alloc, false, "", ""),
-                version,
-            )
-        }
-        Act::WatchAll => watch(rt, alloc, conn, &watch_params(rt, alloc, true, "", ""), "x"),
-        Act::WatchBy(labels, fields) => {
-            watch(
-                rt,
-                alloc,
-                conn,
-                &watch_params(rt, alloc, true, labels, fields),
-                "x",
-            )
-        }
+    let (first, second) = (act.first, act.second);
+    match act.word {
+        "list" => list(
+            rt,
+            alloc,
+            conn,
+            &list_params(rt, alloc, first, second, "", ""),
+        ),
+        "list-by" => list(
+            rt,
+            alloc,
+            conn,
+            &list_params(rt, alloc, "0", "x", first, second),
+        ),
+        "watch" => watch(
+            rt,
+            alloc,
+            conn,
+            &watch_params(rt, alloc, false, "", ""),
+            first,
+        ),
+        "watch-by" => watch(
+            rt,
+            alloc,
+            conn,
+            &watch_params(rt, alloc, true, first, second),
+            "x",
+        ),
         _ => next(rt, alloc, conn),
+    }
+}
+
+/// Whether an act feeds the connection.
+#[derive(Clone, Copy)]
+enum Kind {
+    Feed,
+    Other,
+}
+
+fn kind_of(act: Act<'_>) -> Kind {
+    match act.word {
+        "feed" => Kind::Feed,
+        _ => Kind::Other,
     }
 }
 
 /// Does one act, and says what came of it.
 ///
 /// Errors: `NoMemory`, where the connection is fed. Nothing with a drop lives there.
-fn come_of(rt: &impl Abort, alloc: Global, world: &mut World, act: Act) -> Result<String, NoMemory>
+fn come_of(
+    rt: &impl Abort,
+    alloc: Global,
+    world: &mut World,
+    act: Act<'_>,
+) -> Result<String, NoMemory>
     requires { IsLater world.old.conn.changes world.old.server.changes world.old.conn.compacted world.old.server.compacted }
     ensures { IsLater world.new.conn.changes world.new.server.changes world.new.conn.compacted world.new.server.compacted }
 {
     if let Some(text) = serve(rt, alloc, &mut world.server, act) {
         return Ok(text);
     }
-    if let Act::Feed = act {
+    if let Kind::Feed = kind_of(act) {
         world.conn.feed(alloc, &world.server)?;
         return Ok(String::from_str(alloc, "fed")?);
     }
     Ok(ask(rt, alloc, &mut world.conn, act))
 }
 
-/// Each act and what came of it, up to the first of which something else came.
-fn first_other(rt: &impl Abort, alloc: Global, rows: &[Row]) -> String {
+/// The act of a line.
+fn act_of(line: &str) -> Act<'_> {
+    let (word, rest) = line.split_once(' ').unwrap_or((line, ""));
+    let (first, second) = rest.split_once(' ').unwrap_or((rest, ""));
+    Act {
+        word,
+        first,
+        second,
+    }
+}
+
+/// Adds what came of each act, up to the first of which something else came.
+fn first_other(rt: &impl Abort, alloc: Global, script: &str) -> String {
     let mut world = begun(rt, alloc);
-    for (number, (one, wanted)) in rows.iter().enumerate() {
-        let text = come_of(rt, alloc, &mut world, *one).expect(rt, "memory");
-        if text.as_str() != *wanted {
-            return format!(in alloc; "{number}: {text}").expect(rt, "memory");
+    for line in script.split('\n') {
+        let (act, wanted) = line.split_once(" => ").unwrap_or(("", ""));
+        let text = come_of(rt, alloc, &mut world, act_of(act)).expect(rt, "memory");
+        if text.as_str() != wanted {
+            return format!(in alloc; "{line}: {text}").expect(rt, "memory");
         }
     }
     String::new(alloc)
 }
 
-/// Nothing else came.
-fn is_empty(rt: &impl Abort, text: &str) {
-    assert_eq!(rt; text.len(), 0, "{text}");
+/// What is done, and what comes of it, a line each; a new server and connection at each empty line. A selector, a token or a name that
+/// is absent is `-`. In order: a put raises the revision and keeps the uid; pages of a list are of one revision; a watch from a compacted
+/// version is refused once; the last finalizer lets an object go; a patch is all or nothing; a watch is without gaps over a compaction;
+/// selectors of the name alone are supported.
+const SCRIPTS: &str = r##"put a => 1
+put a => 2
+put - => object has no name
+feed => fed
+list 0 - => page - 2 a/uid-1@2/-
+remove b => NotFound
+remove a => 3
+
+put a => 1
+put b => 2
+feed => fed
+list 1 - => page 2:1 - a/uid-1@1/-
+list 1 2:1 => page - 2 b/uid-2@2/-
+list 0 2:1 => page - 2 b/uid-2@2/-
+list 9 2:2 => page - 2
+list 9 1:0 => page - 1 a/uid-1@1/-
+put c => 3
+remove a => 4
+holds => holds b/uid-2@2/- c/uid-3@3/-
+feed => fed
+list 1 2:1 => page - 2 b/uid-2@2/-
+list 0 - => page - 4 b/uid-2@2/- c/uid-3@3/-
+list 1 5:0 => fault 410
+list 1 02:1 => fault 410
+list 1 2:+1 => fault 410
+list 1 2 => fault 410
+list 1 18446744073709551616:0 => fault 410
+compact 3 => compacted
+feed => fed
+list 1 2:1 => fault 410
+list 1 3:2 => page - 3 c/uid-3@3/-
+
+put a => 1
+put b => 2
+compact 2 => compacted
+feed => fed
+watch 1 => opened
+next => error 410 Expired
+next => end
+watch 3 => opened
+next => error 410 Expired
+watch 02 => opened
+next => error 410 Expired
+next => end
+
+hold a => 1
+delete a 7 => 2
+feed => fed
+list 0 - => page - 2 a/uid-1@2/7
+delete a 8 => 2
+patch a remove /metadata/finalizers/0 => 3
+feed => fed
+list 0 - => page - 3
+delete a 9 => NotFound
+watch 3 => opened
+
+patch a => NotFound
+put a => 1
+patch a test /spec/x 1 => TestFailed
+patch a test /spec/x null => 2
+patch a test /spec null; remove /spec => PathMissing
+patch a add /metadata/name "b" => NotAnObject
+feed => fed
+list 0 - => page - 2 a/uid-1@2/-
+patch a add /data {"k":"v"} => 3
+delete a 1 => 4
+
+next => end
+put a => 1
+put b => 2
+feed => fed
+watch-by - - => opened
+next => added a/uid-1@1/-
+put a => 3
+put c => 4
+remove b => 5
+compact 4 => compacted
+feed => fed
+next => added b/uid-2@2/-
+next => bookmark 2 1
+next => modified a/uid-1@3/-
+next => added c/uid-4@4/-
+next => deleted b/uid-2@5/-
+next => not ready
+next => not ready
+put b => 6
+next => not ready
+feed => fed
+next => added b/uid-6@6/-
+watch 4 => opened
+next => deleted b/uid-2@5/-
+watch 6 => opened
+next => not ready
+
+put a => 1
+put b => 2
+feed => fed
+list-by - metadata.name=a => fault 410
+list-by x=y - => selector not supported
+list-by - metadata.namespace=a => selector not supported
+list-by - metadata.name==a => selector not supported
+list-by - metadata.name=a,metadata.uid=b => selector not supported
+watch-by x=y - => selector not supported
+watch-by - spec.x=1 => selector not supported
+next => end
+watch-by - metadata.name=b => opened
+next => added b/uid-2@2/-
+next => bookmark 2 1
+put a => 3
+put b => 4
+feed => fed
+next => modified b/uid-2@4/-
+watch-by x=y - => selector not supported
+next => not ready"##;
+
+fn plays(rt: &impl Abort, alloc: Global, script: &str) {
+    let other = first_other(rt, alloc, script);
+    assert_eq!(rt; other.as_str(), "");
 }
-
-fn plays<R: Abort + AllocGlobal>(rt: &R, rows: &[Row]) {
-    let text = first_other(rt, rt.alloc(), rows);
-    is_empty(rt, text.as_str());
-}
-
-type Row = (Act, &'static str);
-
-const PUTS: [Row; 7] = [
-    (Act::Put("a"), "1"),
-    (Act::Put("a"), "2"),
-    (Act::PutUnnamed, "object has no name"),
-    (Act::Feed, "fed"),
-    (Act::List(0, ""), "page - 2 a/uid-1@2/-"),
-    (Act::Remove("b"), "NotFound"),
-    (Act::Remove("a"), "3"),
-];
 
 #[test]
-fn a_put_raises_the_revision_and_keeps_the_uid(rt: HostRuntime) -> Result<(), Fail> {
-    plays(&rt, &PUTS);
-    Ok(())
-}
-
-const PAGES: [Row; 23] = [
-    (Act::Put("a"), "1"),
-    (Act::Put("b"), "2"),
-    (Act::Feed, "fed"),
-    (Act::List(1, ""), "page 2:1 - a/uid-1@1/-"),
-    (Act::List(1, "2:1"), "page - 2 b/uid-2@2/-"),
-    (Act::List(0, "2:1"), "page - 2 b/uid-2@2/-"),
-    (Act::List(9, "2:2"), "page - 2"),
-    (Act::List(9, "1:0"), "page - 1 a/uid-1@1/-"),
-    (Act::Put("c"), "3"),
-    (Act::Remove("a"), "4"),
-    (Act::Holds, "holds b/uid-2@2/- c/uid-3@3/-"),
-    (Act::Feed, "fed"),
-    (Act::List(1, "2:1"), "page - 2 b/uid-2@2/-"),
-    (Act::List(0, ""), "page - 4 b/uid-2@2/- c/uid-3@3/-"),
-    (Act::List(1, "5:0"), "fault 410"),
-    (Act::List(1, "02:1"), "fault 410"),
-    (Act::List(1, "2:+1"), "fault 410"),
-    (Act::List(1, "2"), "fault 410"),
-    (Act::List(1, "18446744073709551616:0"), "fault 410"),
-    (Act::Compact(3), "compacted"),
-    (Act::Feed, "fed"),
-    (Act::List(1, "2:1"), "fault 410"),
-    (Act::List(1, "3:2"), "page - 3 c/uid-3@3/-"),
-];
-
-#[test]
-fn pages_of_a_list_are_of_one_revision(rt: HostRuntime) -> Result<(), Fail> {
-    plays(&rt, &PAGES);
-    Ok(())
-}
-
-const EXPIRED: [Row; 12] = [
-    (Act::Put("a"), "1"),
-    (Act::Put("b"), "2"),
-    (Act::Compact(2), "compacted"),
-    (Act::Feed, "fed"),
-    (Act::Watch("1"), "opened"),
-    (Act::Next, "error 410 Expired"),
-    (Act::Next, "end"),
-    (Act::Watch("3"), "opened"),
-    (Act::Next, "error 410 Expired"),
-    (Act::Watch("02"), "opened"),
-    (Act::Next, "error 410 Expired"),
-    (Act::Next, "end"),
-];
-
-#[test]
-fn a_watch_from_a_compacted_version_is_refused_once(rt: HostRuntime) -> Result<(), Fail> {
-    plays(&rt, &EXPIRED);
-    Ok(())
-}
-
-const FINALIZED: [Row; 10] = [
-    (Act::PutHeld("a"), "1"),
-    (Act::Delete("a", 7), "2"),
-    (Act::Feed, "fed"),
-    (Act::List(0, ""), "page - 2 a/uid-1@2/7"),
-    (Act::Delete("a", 8), "2"),
-    (
-        Act::Patch("a", r#"[["remove","/metadata/finalizers/0"]]"#),
-        "3",
-    ),
-    (Act::Feed, "fed"),
-    (Act::List(0, ""), "page - 3"),
-    (Act::Delete("a", 9), "NotFound"),
-    (Act::Watch("3"), "opened"),
-];
-
-#[test]
-fn the_last_finalizer_lets_an_object_go(rt: HostRuntime) -> Result<(), Fail> {
-    plays(&rt, &FINALIZED);
-    Ok(())
-}
-
-const PATCHES: [Row; 10] = [
-    (Act::Patch("a", "[]"), "NotFound"),
-    (Act::Put("a"), "1"),
-    (Act::Patch("a", r#"[["test","/spec/x",1]]"#), "TestFailed 0"),
-    (Act::Patch("a", r#"[["test","/spec/x",null]]"#), "2"),
-    (
-        Act::Patch("a", r#"[["test","/spec",null],["remove","/spec"]]"#),
-        "PathMissing 1",
-    ),
-    (
-        Act::Patch("a", r#"[["add","/metadata/name","b"]]"#),
-        "NotAnObject",
-    ),
-    (Act::Feed, "fed"),
-    (Act::List(0, ""), "page - 2 a/uid-1@2/-"),
-    (Act::Patch("a", r#"[["add","/data",{"k":"v"}]]"#), "3"),
-    (Act::Delete("a", 1), "4"),
-];
-
-#[test]
-fn a_patch_is_all_or_nothing(rt: HostRuntime) -> Result<(), Fail> {
-    plays(&rt, &PATCHES);
-    Ok(())
-}
-
-const WATCHES: [Row; 26] = [
-    (Act::Next, "end"),
-    (Act::Put("a"), "1"),
-    (Act::Put("b"), "2"),
-    (Act::Feed, "fed"),
-    (Act::WatchAll, "opened"),
-    (Act::Next, "added a/uid-1@1/-"),
-    (Act::Put("a"), "3"),
-    (Act::Put("c"), "4"),
-    (Act::Remove("b"), "5"),
-    (Act::Compact(4), "compacted"),
-    (Act::Feed, "fed"),
-    (Act::Next, "added b/uid-2@2/-"),
-    (Act::Next, "bookmark 2 1"),
-    (Act::Next, "modified a/uid-1@3/-"),
-    (Act::Next, "added c/uid-4@4/-"),
-    (Act::Next, "deleted b/uid-2@5/-"),
-    (Act::Next, "not ready"),
-    (Act::Next, "not ready"),
-    (Act::Put("b"), "6"),
-    (Act::Next, "not ready"),
-    (Act::Feed, "fed"),
-    (Act::Next, "added b/uid-6@6/-"),
-    (Act::Watch("4"), "opened"),
-    (Act::Next, "deleted b/uid-2@5/-"),
-    (Act::Watch("6"), "opened"),
-    (Act::Next, "not ready"),
-];
-
-#[test]
-fn a_watch_is_without_gaps_over_a_compaction(rt: HostRuntime) -> Result<(), Fail> {
-    plays(&rt, &WATCHES);
-    Ok(())
-}
-
-const SELECTORS: [Row; 20] = [
-    (Act::Put("a"), "1"),
-    (Act::Put("b"), "2"),
-    (Act::Feed, "fed"),
-    (Act::ListBy("", "metadata.name=a"), "fault 410"),
-    (Act::ListBy("x=y", ""), "selector not supported"),
-    (
-        Act::ListBy("", "metadata.namespace=a"),
-        "selector not supported",
-    ),
-    (
-        Act::ListBy("", "metadata.name==a"),
-        "selector not supported",
-    ),
-    (
-        Act::ListBy("", "metadata.name=a,metadata.uid=b"),
-        "selector not supported",
-    ),
-    (Act::WatchBy("x=y", ""), "selector not supported"),
-    (Act::WatchBy("", "spec.x=1"), "selector not supported"),
-    (Act::Next, "end"),
-    (Act::WatchBy("", "metadata.name=b"), "opened"),
-    (Act::Next, "added b/uid-2@2/-"),
-    (Act::Next, "bookmark 2 1"),
-    (Act::Put("a"), "3"),
-    (Act::Put("b"), "4"),
-    (Act::Feed, "fed"),
-    (Act::Next, "modified b/uid-2@4/-"),
-    (Act::WatchBy("x=y", ""), "selector not supported"),
-    (Act::Next, "not ready"),
-];
-
-#[test]
-fn selectors_of_the_name_alone_are_supported(rt: HostRuntime) -> Result<(), Fail> {
-    plays(&rt, &SELECTORS);
-    Ok(())
-}
-
-/// A call to the objects of a server.
-#[derive(Clone, Copy)]
-enum Request {
-    Patch(&'static str, &'static str),
-    Delete(&'static str, u64),
-}
-
-fn patch_told(
-    rt: &impl Abort,
-    alloc: Global,
-    answer: &Polled<PatchAnswer<DynamicObject>>,
-) -> String {
-    match answer {
-        Polled::Ready(PatchAnswer::Done(object)) => with_object(rt, alloc, "done", object),
-        Polled::Ready(PatchAnswer::Refused(refusal)) => refused(rt, alloc, *refusal),
-        _ => owned(rt, alloc, "another answer"),
+fn scripts_come_to_what_they_say(rt: HostRuntime) {
+    for script in SCRIPTS.split("\n\n") {
+        plays(&rt, rt.alloc(), script);
     }
-}
-
-fn delete_told(
-    rt: &impl Abort,
-    alloc: Global,
-    answer: &Polled<DeleteAnswer<DynamicObject>>,
-) -> String {
-    match answer {
-        Polled::Ready(DeleteAnswer::Object(object)) => with_object(rt, alloc, "stays", object),
-        Polled::Ready(DeleteAnswer::Status(status)) => {
-            let (code, uid) = (status.code, or_none(&status.uid));
-            format!(in alloc; "gone {code} {uid}").expect(rt, "memory")
-        }
-        Polled::Ready(DeleteAnswer::NotFound) => owned(rt, alloc, "NotFound"),
-        _ => owned(rt, alloc, "another answer"),
-    }
-}
-
-fn asked_patch(
-    rt: &impl Abort,
-    alloc: Global,
-    objects: &mut ServerObjects,
-    name: &str,
-    text: &str,
-) -> String {
-    let patch = operations(rt, alloc, text);
-    if patch.len() > 9 {
-        return String::new(alloc);
-    }
-    let answer = objects
-        .patch(alloc, name, &patch, Moment(0))
-        .expect(rt, "memory");
-    patch_told(rt, alloc, &answer)
-}
-
-fn asked_delete(
-    rt: &impl Abort,
-    alloc: Global,
-    objects: &mut ServerObjects,
-    name: &str,
-    now: u64,
-) -> String {
-    let answer = objects
-        .delete(alloc, name, Moment(now))
-        .expect(rt, "memory");
-    delete_told(rt, alloc, &answer)
-}
-
-fn asked(rt: &impl Abort, alloc: Global, objects: &mut ServerObjects, ask: Request) -> String {
-    match ask {
-        Request::Patch(name, text) => asked_patch(rt, alloc, objects, name, text),
-        Request::Delete(name, now) => asked_delete(rt, alloc, objects, name, now),
-    }
-}
-
-/// Puts an object that is to be taken.
-fn stores(rt: &impl Abort, alloc: Global, server: &mut Server, metadata: ObjectMeta) {
-    server
-        .put(alloc, DynamicObject::bare(metadata))
-        .expect(rt, "stored");
-}
-
-/// A server with an object `a` that has a finalizer, and one `b` without.
-fn filled(rt: &impl Abort, alloc: Global) -> Server {
-    let mut server = Server::new(alloc, resource(rt, alloc));
-    stores(rt, alloc, &mut server, held(rt, alloc, "a"));
-    stores(rt, alloc, &mut server, metadata(rt, alloc, "b"));
-    server
-}
-
-/// Each call and its answer, up to the first that is answered otherwise.
-fn other_answer(
-    rt: &impl Abort,
-    alloc: Global,
-    objects: &mut ServerObjects,
-    rows: &[(Request, &'static str)],
-) -> String {
-    for (number, (ask, wanted)) in rows.iter().enumerate() {
-        let text = asked(rt, alloc, objects, *ask);
-        if text.as_str() != *wanted {
-            return format!(in alloc; "{number}: {text}").expect(rt, "memory");
-        }
-    }
-    String::new(alloc)
-}
-
-/// The same over a server of its own.
-fn first_other_answer(rt: &impl Abort, alloc: Global, rows: &[(Request, &'static str)]) -> String {
-    let mut server = filled(rt, alloc);
-    let mut objects = server.objects_in(alloc, None).expect(rt, "memory");
-    other_answer(rt, alloc, &mut objects, rows)
-}
-
-const ANSWERS: [(Request, &'static str); 9] = [
-    (Request::Patch("c", "[]"), "NotFound"),
-    (Request::Delete("c", 1), "NotFound"),
-    (
-        Request::Patch("a", r#"[["test","/metadata/finalizers/0","g"]]"#),
-        "TestFailed 0",
-    ),
-    (Request::Delete("a", 5), "stays a/uid-1@3/5"),
-    (Request::Delete("a", 6), "stays a/uid-1@3/5"),
-    (
-        Request::Patch("a", r#"[["remove","/metadata/finalizers"]]"#),
-        "done a/uid-1@4/5",
-    ),
-    (Request::Patch("a", "[]"), "NotFound"),
-    (Request::Delete("b", 7), "gone 200 uid-2"),
-    (Request::Delete("b", 8), "NotFound"),
-];
-
-#[test]
-fn objects_answer_patches_and_deletions(rt: HostRuntime) -> Result<(), Fail> {
-    let text = first_other_answer(&rt, rt.alloc(), &ANSWERS);
-    is_empty(&rt, text.as_str());
-    Ok(())
 }
 
 /// Puts objects with as many names.
 fn put_many(rt: &impl Abort, alloc: Global, server: &mut Server, count: u32) {
     for number in 0..count {
         let name = format!(in alloc; "object-{number}").expect(rt, "memory");
-        stores(rt, alloc, server, metadata(rt, alloc, name.as_str()));
+        let object = object(rt, alloc, name.as_str(), false);
+        server.put(alloc, object).expect(rt, "stored");
     }
 }
 
@@ -852,7 +593,7 @@ fn add_page(
 
 /// Asks for the page of 500 that follows, and adds it.
 fn next_page(rt: &impl Abort, alloc: Global, conn: &mut Conn, pages: &mut Paging) -> Paged {
-    let params = list_params(rt, alloc, 500, pages.token.as_str(), "", "");
+    let params = list_params(rt, alloc, "500", pages.token.as_str(), "", "");
     let answer = conn.list(alloc, &params, Moment(0)).expect(rt, "memory");
     add_page(rt, alloc, pages, &answer)
 }
@@ -861,7 +602,7 @@ fn next_page(rt: &impl Abort, alloc: Global, conn: &mut Conn, pages: &mut Paging
 fn counted_pages(rt: &impl Abort, alloc: Global, conn: &mut Conn) -> String {
     let mut pages = Paging {
         objects: 0,
-        token: Text::new(alloc, "").expect(rt, "memory"),
+        token: made(rt, alloc, ""),
     };
     for page in 1..100_u32 {
         match next_page(rt, alloc, conn, &mut pages) {
@@ -874,14 +615,6 @@ fn counted_pages(rt: &impl Abort, alloc: Global, conn: &mut Conn) -> String {
         }
     }
     owned(rt, alloc, "no end")
-}
-
-/// Opens an initial watch.
-fn open(rt: &impl Abort, alloc: Global, conn: &mut Conn) {
-    let params = watch_params(rt, alloc, true, "", "");
-    let _opened = conn
-        .watch(alloc, &params, "", Moment(0))
-        .expect(rt, "memory");
 }
 
 /// What ends the count of events; nothing where an object was added.
@@ -909,7 +642,7 @@ fn next_event(rt: &impl Abort, alloc: Global, conn: &mut Conn, count: u32) -> Op
 
 /// How many events an initial watch gives before its bookmark.
 fn counted_events(rt: &impl Abort, alloc: Global, conn: &mut Conn) -> String {
-    open(rt, alloc, conn);
+    let _opened = watch(rt, alloc, conn, &watch_params(rt, alloc, true, "", ""), "");
     for count in 0..30_000_u32 {
         if let Some(text) = next_event(rt, alloc, conn, count) {
             return text;
@@ -929,8 +662,7 @@ fn counted(rt: &impl Abort, alloc: Global, count: u32) -> String {
 }
 
 #[test]
-fn twenty_thousand_objects_are_listed_and_watched(rt: HostRuntime) -> Result<(), Fail> {
+fn twenty_thousand_objects_are_listed_and_watched(rt: HostRuntime) {
     let text = counted(&rt, rt.alloc(), 20_000);
     assert_eq!(rt; text.as_str(), "20000 in 40, 20000 at 20000");
-    Ok(())
 }
