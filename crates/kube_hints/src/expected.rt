@@ -29,7 +29,7 @@ const ENDS: &str = r#"/metadata/labels: an object whose members are texts
 /den: a whole number, 1 to 18446744073709551615
 /cap: a whole number, 0 to 18446744073709551615
 /code: a whole number, 0 to 65535
-/at: a whole number, 0 to 18446744073709551615
+/at: a whole number, 0 to 9223372036854775807
 /budget: an array of whole numbers, one for each source
 /budget/*: a whole number, 0 to 4294967295
 /shutdown: "no", "graceful" or "forced"

@@ -15,10 +15,10 @@ not read: /turns/0/finishes/0/error
 missing: /turns/0/on/0/name, a text
 not read: /turns/0/on/0/nam
 # {"kind":K,"root":R,"turns":[{"att":0}]}
-missing: /turns/0/at, a whole number, 0 to 18446744073709551615
+missing: /turns/0/at, a whole number, 0 to 9223372036854775807
 not read: /turns/0/att
 # {"kind":K,"root":R,"turns":[{"at":"0"}]}
-at /turns/0/at: expected a whole number, 0 to 18446744073709551615
+at /turns/0/at: expected a whole number, 0 to 9223372036854775807
 # {"kind":K,"root":R,"turns":[{"at":0,"shutdown":"now"}]}
 at /turns/0/shutdown: expected "no", "graceful" or "forced"
 # {"root":R}

@@ -1,5 +1,5 @@
--- The numbers that the program ends with.
-use Rattle.std.specs.Prelude.{ℕ}
+-- The numbers that the program ends with, and what is told on standard error.
+use Rattle.std.specs.Prelude.{ℕ, List, [], codes}
 use Rattle.kube_run.specs.declared.status.Status.{Status}
 use Rattle.kube_run.specs.declared.status.Status.TheVariants.{Done, Usage, BadScript, BadRun, ReadFault, WriteFault, NoMemory}
 
@@ -11,3 +11,12 @@ number_of BadRun = 4
 number_of ReadFault = 5
 number_of WriteFault = 6
 number_of NoMemory = 7
+
+abbrev pub line_of : Status → List ℕ
+line_of ReadFault = codes "standard input could not be read"
+line_of WriteFault = codes "standard output could not be written"
+line_of NoMemory = codes "there was no memory"
+line_of Done = []
+line_of Usage = []
+line_of BadScript = []
+line_of BadRun = []

@@ -46,9 +46,7 @@ fn run(rt: &HostRuntime, source: &mut Heard<StandardInput>) -> Status {
 fn tell(rt: &HostRuntime, status: Status, read: Option<&[u8]>) {
     match status {
         Status::Usage => tell_line(rt, USAGE),
-        Status::ReadFault => tell_line(rt, "standard input could not be read"),
-        Status::WriteFault => tell_line(rt, "standard output could not be written"),
-        Status::NoMemory => tell_line(rt, "there was no memory"),
+        Status::ReadFault | Status::WriteFault | Status::NoMemory => tell_line(rt, status.line()),
         Status::Done | Status::BadScript | Status::BadRun => tell_hints(rt, status, read),
     }
 }

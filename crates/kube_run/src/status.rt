@@ -1,7 +1,7 @@
 //! How the program ended.
 
 ghost use Rattle.std.specs.Prelude.{◌≡◌};
-ghost use Rattle.kube_run.specs.Numbers.{number_of};
+ghost use Rattle.kube_run.specs.Numbers.{number_of, line_of};
 
 /// How the program ended.
 #[derive(Clone, Copy, Debug, PartialEq, Eq)]
@@ -35,6 +35,18 @@ impl Status {
             Status::ReadFault => 5,
             Status::WriteFault => 6,
             Status::NoMemory => 7,
+        }
+    }
+
+    /// The line for standard error, where nothing on standard output says why the program ended so; nothing for the others.
+    pub fn line(self) -> &'static str
+        ensures { result.now ≡ line_of self }
+    {
+        match self {
+            Status::ReadFault => "standard input could not be read",
+            Status::WriteFault => "standard output could not be written",
+            Status::NoMemory => "there was no memory",
+            Status::Done | Status::Usage | Status::BadScript | Status::BadRun => "",
         }
     }
 }

@@ -8,6 +8,7 @@ mod texts;
 use kube_run::input::{Unread, read_all};
 use kube_run::program::run_program;
 use kube_run::source::{NeverFailsSource, VecSource};
+use kube_run::status::Status;
 use kube_text::output::write_all;
 use kube_text::sink::{NeverFailsSink, VecSink};
 use std::alloc::{AllocError, Global};
@@ -373,6 +374,14 @@ fn writes_what_the_rows_say(rt: HostRuntime) -> Result<(), Fail> {
     }
     assert_eq!(rt; count, 69);
     Ok(())
+}
+
+#[test]
+fn failures_have_a_line(rt: HostRuntime) {
+    assert_eq!(rt; Status::ReadFault.line(), "standard input could not be read");
+    assert_eq!(rt; Status::WriteFault.line(), "standard output could not be written");
+    assert_eq!(rt; Status::NoMemory.line(), "there was no memory");
+    assert_eq!(rt; Status::BadRun.line(), "");
 }
 
 /// Unproved, compiled with checks, it takes longer than the other tests together.
