@@ -1,11 +1,11 @@
 #!/usr/bin/env python3
 """Opens docs/trace.html in a headless Chromium with each trace of examples/scripts, and compares what it shows with the trace.
 
-    tests/viewer/try_viewer.py [--pictures FOLDER] [--large]      # at the top of the repository; needs chromium on the path
+    tests/viewer/try_viewer.py [--pictures FOLDER] [--large PROGRAM]      # at the top of the repository; needs chromium on the path
 
 For each trace: no error on the console; as many asks, takes, finishes, turns and sources as the trace has; the store at its last record
-that shows one. --pictures writes a picture of each. --large makes a trace of 20,000 objects and 2,000 turns and says how many pictures a
-second the page draws while it is panned and zoomed. It is no part of `rt ci`. The last line is `N passed, M failed`."""
+that shows one. --pictures writes a picture of each. --large runs a program, as crates/kube_program/out/kube_program, over a script of 20,000
+objects and 2,000 turns and says how long a picture of its trace takes while it is panned and zoomed. It is no part of `rt ci`. The last line is `N passed, M failed`."""
 import glob
 import json
 import os
@@ -78,25 +78,21 @@ def name_of(item):
     return meta['name'] + (f'.{meta["namespace"]}' if meta.get('namespace') else '')
 
 
-def large(objects=20000, turns=2000):
-    """A trace as a controller with a limit of 10 would leave it."""
+def large(program, objects=20000, turns=2000):
+    """The trace that a program writes of so many objects in pages of 500, a change a turn, and ten that run at once."""
     item = lambda n, v: {'metadata': {'name': f'object-{n:05}', 'namespace': 'default', 'resourceVersion': str(v)}}
-    ref = lambda n: f'ConfigMap.v1./object-{n:05}.default'
-    lines, running, queue = [], [], list(range(objects))
-    for turn in range(turns):
-        asks = []
-        if turn < objects // 500:
-            part = range(turn * 500, turn * 500 + 500)
-            last = turn == objects // 500 - 1
-            asks.append({'answer': 'page', 'call': 'list', 'from': f't{turn}' if turn else None, 'items': [item(n, 1) for n in part], 'requests': [ref(n) for n in range(objects)] if last else [], 'source': 0, 'token': None if last else f't{turn + 1}', 'version': '1' if last else None})
-        else:
-            n = turn * 7919 % objects
-            asks.append({'answer': 'modified', 'call': 'next', 'items': [item(n, turn)], 'requests': [ref(n)], 'source': 0, 'version': str(turn)})
-        is_ready = turn >= objects // 500 - 1
-        taken, queue = (queue[:10], queue[10:]) if is_ready else ([], queue)
-        lines.append(json.dumps({'asks': asks, 'at': turn * 10 ** 9, 'ended': False, 'finished': [{'error': None, 'ref': ref(n), 'requeue': None} for n in running], 'stops': ['budget'], 'taken': [{'found': True, 'object': item(n, 1), 'reason': 'object updated', 'ref': ref(n)} for n in taken], 'turn': turn}))
-        running = taken
-    return '\n'.join(lines) + '\n'
+    finish = lambda n: {'ref': {'name': f'object-{n:05}', 'namespace': 'default'}}
+    pages = objects // 500
+    lists = [{'items': [item(n, 1) for n in range(at * 500, at * 500 + 500)], 'metadata': {'resourceVersion': '1'} if at == pages - 1 else {'continue': f't{at}'}} for at in range(pages)]
+    # (what is changed has ended, and comes again behind all others)
+    changes = [{'type': 'MODIFIED', 'object': item(turn * 7919 % (10 * (turn - pages)), turn)} for turn in range(pages + 1, turns)]
+    script = {'kind': {'group': '', 'version': 'v1', 'kind': 'ConfigMap', 'plural': 'configmaps'}, 'config': {'concurrency': 10},
+              'root': {'lists': lists, 'watches': [[{'events': changes}]]},
+              'turns': [{'at': turn * 10 ** 9, 'budget': [1], 'finishes': [finish(n) for n in range(10 * (turn - pages), 10 * (turn - pages) + 10)] if turn >= pages else []} for turn in range(turns)]}
+    ran = subprocess.run([program, 'run'], input=json.dumps(script), capture_output=True, text=True)
+    if ran.returncode:
+        sys.exit(f'{program}: status {ran.returncode}: {ran.stdout[-200:]}{ran.stderr}')
+    return ran.stdout
 
 
 def main():
@@ -120,7 +116,7 @@ def main():
         if folder:
             opened(page, [script, trace], picture=f'{folder}/{os.path.basename(path)[:-6]}.png')
     if '--large' in words:
-        trace = large()
+        trace = large(words[words.index('--large') + 1])
         told, said = opened(page, [trace], PAN)
         said = [it for it in said if 'willReadFrequently' not in it]  # (what reads the pictures back here)
         is_well = not said and 'error' not in told and told.get('asks') == 2000 and told.get('lanes') == 20001
