@@ -61,7 +61,3 @@ fn named(rt: &impl Abort, alloc: Global, name: &str, namespace: Option<&str>) ->
         ..ObjectMeta::empty()
     })
 }
-
-fn unnamed() -> DynamicObject {
-    DynamicObject::bare(ObjectMeta::empty())
-}

@@ -1,9 +1,5 @@
-//! Delays, properties and adaptors, and each call once.
+//! Adaptors over streams that are written down, values of properties that another program computed, and each call once.
 
-mod adapted;
 mod backoffs;
-mod filtered;
-mod pauses;
 mod predicates;
-mod reflected;
-mod scripted;
+mod streams;

@@ -2,13 +2,12 @@
 
 ghost use Rattle.std.specs.Prelude.{[], codes, refl};
 
-use super::{is, maybe_text, named, resource, text};
+use super::{is, named, resource, text};
 use kube_meta::{
-    ApiResource, DynamicObject, Extra, Lookup, ObjectMeta, ObjectRef, ObjectReference,
-    OwnerReference, PartialObjectMeta, Resource, Text, TypeInfo,
+    ApiResource, DynamicObject, Lookup, ObjectMeta, ObjectRef, ObjectReference, OwnerReference,
+    PartialObjectMeta, Resource, Text, TypeInfo,
 };
 use std::alloc::Global;
-use std::cmp::Ordering;
 use std::hash::{DefaultHasher, Hash, Hasher};
 use std::marker::PhantomData;
 use std::panic::Expect;
@@ -71,35 +70,13 @@ fn shows<K: Resource>(rt: &impl Abort, alloc: Global, reference: &ObjectRef<K>, 
     assert_eq!(rt; shown.as_str(), wanted);
 }
 
-/// Kinds, groups, names and namespaces, and how the references and the `apiVersion` of their types are shown.
-const SHOWN: [(&str, &str, &str, Option<&str>, &str, &str); 5] = [
-    (
-        "Pod",
-        "",
-        "my-pod",
-        Some("my-namespace"),
-        "Pod.v1./my-pod.my-namespace",
-        "v1",
-    ),
-    (
-        "Deployment",
-        "apps",
-        "my-deploy",
-        Some("my-namespace"),
-        "Deployment.v1.apps/my-deploy.my-namespace",
-        "apps/v1",
-    ),
-    ("Node", "", "my-node", None, "Node.v1./my-node", "v1"),
-    ("Node", "", "a", Some(""), "Node.v1./a.", "v1"),
-    (
-        "Deployment",
-        "apps",
-        "d",
-        Some("ns"),
-        "Deployment.v1.apps/d.ns",
-        "apps/v1",
-    ),
-];
+/// Kinds, groups, names and namespaces, and how the references and the `apiVersion` of their types are shown; `-` for an empty text, and
+/// `none` for no namespace.
+const SHOWN: &str = "\
+Pod - my-pod my-namespace Pod.v1./my-pod.my-namespace v1
+Deployment apps my-deploy my-namespace Deployment.v1.apps/my-deploy.my-namespace apps/v1
+Node - my-node none Node.v1./my-node v1
+Node - a - Node.v1./a. v1";
 
 /// A reference is shown so, hashes to this, and is of a type of this `apiVersion`.
 fn is_erased(
@@ -151,15 +128,44 @@ fn of_object(
     object.to_object_ref(alloc, resource).expect(rt, "a name")
 }
 
+/// What stands before the first space, and what behind it.
+fn halves(line: &str) -> (&str, &str) {
+    line.split_once(' ').unwrap_or((line, ""))
+}
+
+fn or_empty(word: &str) -> &str {
+    match word {
+        "-" => "",
+        _ => word,
+    }
+}
+
+fn namespace_of(word: &str) -> Option<&str> {
+    match word {
+        "none" => None,
+        _ => Some(or_empty(word)),
+    }
+}
+
+/// A row is so.
+fn is_shown(rt: &impl Abort, alloc: Global, line: &str) {
+    let (kind, rest) = halves(line);
+    let (group, rest) = halves(rest);
+    let (name, rest) = halves(rest);
+    let (namespace, rest) = halves(rest);
+    let (wanted, api_version) = halves(rest);
+    let (group, namespace) = (or_empty(group), namespace_of(namespace));
+    let reference = of_object(rt, alloc, kind, group, name, namespace);
+    erases(rt, alloc, reference, wanted, api_version);
+}
+
 #[test]
 fn references_are_shown_and_look_the_same_erased(rt: HostRuntime) {
-    let alloc = rt.alloc();
-    for (kind, group, name, namespace, wanted, api_version) in SHOWN {
-        let reference = of_object(&rt, alloc, kind, group, name, namespace);
-        erases(&rt, alloc, reference, wanted, api_version);
+    for line in SHOWN.split('\n') {
+        is_shown(&rt, rt.alloc(), line);
     }
-    let node = ObjectRef::<Node>::new(alloc, "my-node").expect(&rt, "memory");
-    erases(&rt, alloc, node, "Node.v1./my-node", "v1");
+    let node = ObjectRef::<Node>::new(rt.alloc(), "my-node").expect(&rt, "memory");
+    erases(&rt, rt.alloc(), node, "Node.v1./my-node", "v1");
 }
 
 fn pods(rt: &impl Abort, alloc: Global) -> Arc<ApiResource> {
@@ -195,15 +201,6 @@ fn are_alike<R: Abort>(
     assert!(rt; by_name.extra.uid.is_none());
 }
 
-#[test]
-fn extra_is_kept_and_not_compared(rt: HostRuntime) {
-    let alloc = rt.alloc();
-    let pods = pods(&rt, alloc);
-    let of_object = of_pod(&rt, alloc, &pods);
-    let by_name = by_name(&rt, alloc, &pods);
-    are_alike(&rt, &of_object, &by_name);
-}
-
 /// A copy of the reference of a pod that is there.
 fn copied_pod(rt: &impl Abort, alloc: Global, pods: &Arc<ApiResource>) -> ObjectRef<DynamicObject> {
     let of_object = of_pod(rt, alloc, pods);
@@ -217,76 +214,6 @@ fn copies_keep_extra(rt: HostRuntime) {
     let copy = copied_pod(&rt, alloc, &pods);
     let by_name = by_name(&rt, alloc, &pods);
     are_alike(&rt, &copy, &by_name);
-}
-
-#[test]
-fn erased_references_keep_extra(rt: HostRuntime) {
-    let alloc = rt.alloc();
-    let pods = pods(&rt, alloc);
-    let of_object = erased(&rt, alloc, of_pod(&rt, alloc, &pods));
-    let by_name = erased(&rt, alloc, by_name(&rt, alloc, &pods));
-    are_alike(&rt, &of_object, &by_name);
-}
-
-/// Whether the reference of a pod is that of an object of this type, name and namespace.
-fn is_pod(rt: &impl Abort, alloc: Global, kind: &str, namespace: Option<&str>) -> bool {
-    let pod = of_object(rt, alloc, "Pod", "", "a", None);
-    let other = of_object(rt, alloc, kind, "", "a", namespace);
-    pod == other
-}
-
-/// Whether it is that of a pod by name in the namespace `ns`.
-fn is_within(rt: &impl Abort, alloc: Global) -> bool {
-    let pods = pods(rt, alloc);
-    let of_object = of_pod(rt, alloc, &pods);
-    let within = by_name(rt, alloc, &pods)
-        .within(alloc, "ns")
-        .expect(rt, "memory");
-    of_object == within
-}
-
-#[test]
-fn namespaces_and_types_are_compared(rt: HostRuntime) {
-    let alloc = rt.alloc();
-    assert!(rt; is_pod(&rt, alloc, "Pod", None));
-    assert!(rt; !is_pod(&rt, alloc, "Node", None));
-    assert!(rt; !is_pod(&rt, alloc, "Pod", Some("ns")));
-    assert!(rt; !is_within(&rt, alloc));
-}
-
-/// Namespaces and names in their order.
-const IN_ORDER: [(Option<&str>, &str); 7] = [
-    (None, "a"),
-    (None, "aa"),
-    (None, "b"),
-    (Some(""), "a"),
-    (Some("a"), "b"),
-    (Some("a-"), "a"),
-    (Some("é"), "a"),
-];
-
-/// How the references of two pods are to each other.
-fn order(
-    rt: &impl Abort,
-    alloc: Global,
-    a: (Option<&str>, &str),
-    b: (Option<&str>, &str),
-) -> Ordering {
-    let (a_namespace, a_name) = a;
-    let (b_namespace, b_name) = b;
-    let a = of_object(rt, alloc, "Pod", "", a_name, a_namespace);
-    let b = of_object(rt, alloc, "Pod", "", b_name, b_namespace);
-    a.cmp_by_name(&b)
-}
-
-#[test]
-fn none_comes_first_and_then_bytes_decide(rt: HostRuntime) {
-    for i in 0..IN_ORDER.len() {
-        for j in 0..IN_ORDER.len() {
-            let found = order(&rt, rt.alloc(), IN_ORDER[i], IN_ORDER[j]);
-            assert_eq!(rt; found, i.cmp(&j), "{i} {j}");
-        }
-    }
 }
 
 fn deployments(rt: &impl Abort, alloc: Global) -> Arc<ApiResource> {
@@ -352,55 +279,20 @@ fn owners_of_the_type_alone(rt: HostRuntime) {
     );
 }
 
-/// Metadata of the version 7, with the name `n` or none.
-fn metadata(rt: &impl Abort, alloc: Global, is_named: bool) -> ObjectMeta {
-    let name = if is_named { Some("n") } else { None };
+/// Metadata of the version 7, with the name `n`.
+fn metadata(rt: &impl Abort, alloc: Global) -> ObjectMeta {
     ObjectMeta {
-        name: maybe_text(rt, alloc, name),
+        name: Some(text(rt, alloc, "n")),
         resource_version: Some(text(rt, alloc, "7")),
         ..ObjectMeta::empty()
     }
 }
 
-/// A node with the name `n` or none.
-fn a_node(rt: &impl Abort, alloc: Global, is_named: bool) -> Node {
-    Node {
-        metadata: metadata(rt, alloc, is_named),
-    }
-}
-
-/// A node that was given the name `n`.
-fn renamed_node(rt: &impl Abort, alloc: Global) -> Node {
-    let mut node = a_node(rt, alloc, false);
-    node.meta_mut().name = Some(text(rt, alloc, "n"));
-    node
-}
-
-fn has_reference(alloc: Global, node: &Node) -> bool {
-    ObjectRef::from_obj(alloc, node).is_ok()
-}
-
-/// Whether a node without a name has a reference.
-fn unnamed_has_reference(rt: &impl Abort, alloc: Global) -> bool {
-    let node = a_node(rt, alloc, false);
-    has_reference(alloc, &node)
-}
-
-/// Whether a node that was named has a reference, and that name.
-fn naming_helps(rt: &impl Abort, alloc: Global) -> bool {
-    let node = renamed_node(rt, alloc);
-    has_reference(alloc, &node) && Lookup::name(&node) == Some("n")
-}
-
-#[test]
-fn nodes_want_a_name(rt: HostRuntime) {
-    assert!(rt; !unnamed_has_reference(&rt, rt.alloc()));
-    assert!(rt; naming_helps(&rt, rt.alloc()));
-}
-
 /// The reference of a node, taken for that of a deployment.
 fn taken_for_deployment(rt: &impl Abort, alloc: Global) -> ObjectRef<DynamicObject> {
-    let node = a_node(rt, alloc, true);
+    let node = Node {
+        metadata: metadata(rt, alloc),
+    };
     let reference = ObjectRef::from_obj(alloc, &node).expect(rt, "a name");
     reference.into_kind_unchecked::<DynamicObject>(deployments(rt, alloc))
 }
@@ -435,7 +327,7 @@ fn references_become_others(rt: HostRuntime) {
 fn metadata_alone(rt: &impl Abort, alloc: Global) -> PartialObjectMeta<DynamicObject> {
     PartialObjectMeta {
         types: None,
-        metadata: metadata(rt, alloc, true),
+        metadata: metadata(rt, alloc),
         of: PhantomData,
     }
 }
@@ -467,16 +359,9 @@ fn nodes_have_version(rt: &impl Abort, alloc: Global, wanted: &str) -> bool {
     version.as_str() == wanted
 }
 
-/// Whether there is no extra by default.
-fn extra_is_empty() -> bool {
-    let extra = Extra::default();
-    extra.uid.is_none() && extra.resource_version.is_none()
-}
-
 #[test]
 fn metadata_alone_is_an_object(rt: HostRuntime) {
     let alloc = rt.alloc();
-    assert!(rt; extra_is_empty());
     assert!(rt; has_version(&rt, alloc, "apps/v1"));
     assert!(rt; nodes_have_version(&rt, alloc, "v1"));
     let reference = of_metadata_alone(&rt, alloc);

@@ -1,7 +1,7 @@
-//! The small types, and objects without a name.
+//! The small types.
 
-use super::{insert, named, resource, text, unnamed};
-use kube_meta::{Action, DynamicObject, List, Lookup, Moment, RefError, Resource, Text, TextMap};
+use super::insert;
+use kube_meta::{List, Text, TextMap};
 use std::alloc::Global;
 use std::panic::Expect;
 use std::process::Abort;
@@ -51,53 +51,7 @@ fn maps_hold(rt: &impl Abort, alloc: Global) -> bool {
 #[test]
 fn small_types_hold_what_they_are_given(rt: HostRuntime) {
     let alloc = rt.alloc();
-    assert_eq!(rt; Moment(5).plus(u64::MAX), Moment(u64::MAX));
-    assert_eq!(rt; Action::requeue(7).requeue_after(), Some(7));
-    assert_eq!(rt; Action::await_change().requeue_after(), None);
     assert!(rt; lists_hold(&rt, alloc));
     assert!(rt; texts_hold(&rt, alloc, "ab"));
     assert!(rt; maps_hold(&rt, alloc));
-}
-
-/// Whether an object tells no name, namespace, version or uid.
-fn tells_nothing(object: &DynamicObject) -> bool {
-    object.name().is_none()
-        && object.namespace().is_none()
-        && object.resource_version().is_none()
-        && object.uid().is_none()
-}
-
-/// Whether an object without a name tells nothing, and is refused as a reference.
-fn is_refused(rt: &impl Abort, alloc: Global) -> bool {
-    let object = unnamed();
-    let is_silent = tells_nothing(&object);
-    let answer = object.to_object_ref(alloc, resource(rt, alloc, "Pod", "", "things"));
-    is_silent && matches!(&answer, Err(RefError::Unnamed))
-}
-
-#[test]
-fn unnamed_objects_tell_nothing(rt: HostRuntime) {
-    assert!(rt; is_refused(&rt, rt.alloc()));
-}
-
-/// An object that was renamed.
-fn renamed(rt: &impl Abort, alloc: Global, name: &str) -> DynamicObject {
-    let mut object = named(rt, alloc, "a", None);
-    object.meta_mut().name = Some(text(rt, alloc, name));
-    object
-}
-
-#[test]
-fn metadata_can_be_changed(rt: HostRuntime) {
-    let object = renamed(&rt, rt.alloc(), "b");
-    assert_eq!(rt; object.name(), Some("b"));
-}
-
-#[test]
-fn resources_name_types(rt: HostRuntime) {
-    let resource = resource(&rt, rt.alloc(), "Pod", "apps", "things");
-    assert_eq!(rt; <DynamicObject as Resource>::kind(&resource), "Pod");
-    assert_eq!(rt; <DynamicObject as Resource>::group(&resource), "apps");
-    assert_eq!(rt; <DynamicObject as Resource>::version(&resource), "v1");
-    assert_eq!(rt; <DynamicObject as Resource>::plural(&resource), "things");
 }

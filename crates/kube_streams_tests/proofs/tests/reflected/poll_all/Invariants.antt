@@ -1,4 +1,0 @@
-use Rattle.kube_streams_tests.proofs.tests.reflected.poll_all.Given as goal
-
-abbrev pub invariant-loop-poll : goal.invariant-loop-poll
-invariant-loop-poll g l = g.S.EventStream.can_poll l.stream
