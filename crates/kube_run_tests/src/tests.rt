@@ -378,8 +378,14 @@ fn writes_what_the_rows_say(rt: HostRuntime) -> Result<(), Fail> {
 
 #[test]
 fn failures_have_a_line(rt: HostRuntime) {
-    assert_eq!(rt; Status::ReadFault.line(), "standard input could not be read");
-    assert_eq!(rt; Status::WriteFault.line(), "standard output could not be written");
+    assert_eq!(rt;
+        Status::ReadFault.line(),
+        "standard input could not be read"
+    );
+    assert_eq!(rt;
+        Status::WriteFault.line(),
+        "standard output could not be written"
+    );
     assert_eq!(rt; Status::NoMemory.line(), "there was no memory");
     assert_eq!(rt; Status::BadRun.line(), "");
 }
