@@ -12,11 +12,13 @@ pub mod requests;
 pub mod runner;
 pub mod schedule;
 pub mod scheduled;
+mod ranks;
 mod table;
 mod timetable;
 pub mod told_future;
 
 pub use future_hash_map::FutureHashMap;
+pub use held::Due;
 pub use hold::{Hold, HoldUnless};
 pub use request::ScheduleRequest;
 pub use requests::Requests;

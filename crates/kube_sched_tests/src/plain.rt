@@ -19,6 +19,7 @@ pub struct Entry {
     pub message: Message,
     pub time: u64,
     pub number: u64,
+    pub priority: u32,
     pub settle: Option<u64>,
 }
 
@@ -51,16 +52,34 @@ impl Plain {
         None
     }
 
+    fn raise(&mut self, key: u8, priority: u32) {
+        for entry in self.entries.iter_mut() {
+            if entry.message.key == key {
+                entry.priority = priority;
+            }
+        }
+    }
+
     fn clear(&mut self, key: u8) {
         self.entries.retain(|other| other.message.key != key);
     }
 
-    /// A request for a message at a moment, asked now.
-    pub fn request(&mut self, rt: &impl Abort, message: Message, run_at: u64, now: u64) {
+    /// A request for a message at a moment with a priority, asked now.
+    pub fn request(
+        &mut self,
+        rt: &impl Abort,
+        message: Message,
+        run_at: u64,
+        priority: u32,
+        now: u64,
+    ) {
         let number = self.requests;
         self.requests = number.wrapping_add(1);
+        let mut greatest = priority;
         if let Some(old) = self.entry(message.key) {
+            greatest = greatest.max(old.priority);
             if old.settle.is_some() || old.time < run_at {
+                self.raise(message.key, greatest);
                 return;
             }
         }
@@ -69,6 +88,7 @@ impl Plain {
             message,
             time: run_at.saturating_add(self.debounce).min(longest),
             number,
+            priority: greatest,
             settle: None,
         };
         self.clear(message.key);
@@ -85,8 +105,8 @@ impl Plain {
         self.settles = self.settles.wrapping_add(1);
     }
 
-    /// The first waiting message whose key is at least `least`, which is then gone.
-    pub fn take(&mut self, least: u8) -> Option<u64> {
+    /// The first waiting message whose key is at least `least`, with its priority. It is then gone.
+    pub fn take(&mut self, least: u8) -> Option<(u64, u32)> {
         let mut first: Option<Entry> = None;
         for entry in &self.entries {
             if entry.settle.is_some() && entry.message.key >= least && goes_first(entry, &first) {
@@ -96,7 +116,7 @@ impl Plain {
         match first {
             Some(entry) => {
                 self.clear(entry.message.key);
-                Some(entry.message.tag)
+                Some((entry.message.tag, entry.priority))
             }
             None => None,
         }
@@ -124,11 +144,14 @@ impl Plain {
     }
 }
 
-/// By settle, then time, then number.
+/// By priority, the greatest first, then by settle, then time, then number.
 fn goes_first(entry: &Entry, first: &Option<Entry>) -> bool {
     match first {
         Some(first) => {
-            (entry.settle, entry.time, entry.number) < (first.settle, first.time, first.number)
+            entry.priority > first.priority
+                || entry.priority == first.priority
+                    && (entry.settle, entry.time, entry.number)
+                        < (first.settle, first.time, first.number)
         }
         None => true,
     }

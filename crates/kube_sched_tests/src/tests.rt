@@ -7,7 +7,7 @@ mod waiting;
 
 use crate::plain::{Message, Plain};
 use kube_meta::{Moment, Next, NoMemory};
-use kube_sched::{Requests, ScheduleRequest, Scheduled, Scheduler, debounced_scheduler, scheduler};
+use kube_sched::{Due, Requests, ScheduleRequest, Scheduled, Scheduler, debounced_scheduler, scheduler};
 use std::alloc::Global;
 use std::panic::Expect;
 use std::process::Abort;
@@ -16,16 +16,21 @@ use std::test::Fail;
 const SECOND: u64 = 1_000_000_000;
 
 fn request(key: u8, tag: u64, run_at: u64) -> ScheduleRequest<Message> {
+    with_priority(key, tag, run_at, 0)
+}
+
+fn with_priority(key: u8, tag: u64, run_at: u64, priority: u32) -> ScheduleRequest<Message> {
     ScheduleRequest {
         message: Message { key, tag },
         run_at: Moment(run_at),
+        priority,
     }
 }
 
-/// The tag of a message.
-fn tag_of(message: Option<&Message>) -> Option<u64> {
-    match message {
-        Some(message) => Some(message.tag),
+/// The tag of a message that was taken, and its priority.
+fn tag_of(due: Option<&Due<Message>>) -> Option<(u64, u32)> {
+    match due {
+        Some(due) => Some((due.message.tag, due.priority)),
         None => None,
     }
 }
@@ -33,8 +38,8 @@ fn tag_of(message: Option<&Message>) -> Option<u64> {
 /// The tag of the first message that waits at a moment.
 fn taken(scheduler: &mut Scheduler<Message>, at: u64) -> Option<u64> {
     scheduler.settle(Moment(at));
-    let message = scheduler.take_first(|_| true)?;
-    Some(message.tag)
+    let due = scheduler.take_first(|_| true)?;
+    Some(due.message.tag)
 }
 
 /// A step on a scheduler of messages of key 1, with what it is to give.
@@ -202,18 +207,32 @@ fn any_run_at(state: &mut u64, now: u64) -> u64 {
     }
 }
 
-/// The tags of the first messages that wait in both and have at least this key, which are taken.
+/// What was taken of each: a tag and a priority.
+type Both = (Option<(u64, u32)>, Option<(u64, u32)>);
+
+/// The first messages that wait in both and have at least this key, which are taken. Now and then a look finds it first, and
+/// what it put aside is let back.
 fn take_both(
     rt: &impl Abort,
     key: u8,
+    looks: bool,
     scheduler: &mut Scheduler<Message>,
     plain: &mut Plain,
-) -> (Option<u64>, Option<u64>) {
+) -> Both {
     let passes = |message: &Message| message.key >= key;
-    let seen = tag_of(scheduler.first(passes));
-    let mine = tag_of(scheduler.take_first(passes).as_ref());
-    assert_eq!(rt; mine, seen, "another one is taken than was seen");
-    (seen, plain.take(key))
+    if !looks {
+        return (
+            tag_of(scheduler.take_first(passes).as_ref()),
+            plain.take(key),
+        );
+    }
+    let found = scheduler.look(&passes);
+    assert_eq!(rt; scheduler.head().is_some(), found);
+    let due = scheduler.take_head();
+    for other in 0..key {
+        scheduler.let_back(&Message { key: other, tag: 0 });
+    }
+    (tag_of(due.as_ref()), plain.take(key))
 }
 
 /// One step on both: a request, a settle or a take. What was taken by each.
@@ -224,26 +243,31 @@ fn take_step(
     now: u64,
     scheduler: &mut Scheduler<Message>,
     plain: &mut Plain,
-) -> (Option<u64>, Option<u64>) {
+) -> Both {
     let tag = next_number(state);
     let key = (next_number(state) % 6) as u8;
+    let priority = (next_number(state) % 4) as u32;
     let run_at = any_run_at(state, now);
     match next_number(state) % 8 {
         0 => {
             scheduler.settle(Moment(now));
             plain.settle(now);
         }
-        1 => return take_both(rt, key, scheduler, plain),
+        1 => return take_both(rt, key, tag % 2 == 0, scheduler, plain),
         2 if scheduler.spare() > 0 => {
-            scheduler.schedule_reserved(request(key, tag, run_at), Moment(now));
-            plain.request(rt, Message { key, tag }, run_at, now);
+            scheduler.schedule_reserved(with_priority(key, tag, run_at, priority), Moment(now));
+            plain.request(rt, Message { key, tag }, run_at, priority, now);
         }
         3 => scheduler.reserve(alloc, 1).expect(rt, "memory"),
         _ => {
             scheduler
-                .schedule(alloc, request(key, tag, run_at), Moment(now))
+                .schedule(
+                    alloc,
+                    with_priority(key, tag, run_at, priority),
+                    Moment(now),
+                )
                 .expect(rt, "memory");
-            plain.request(rt, Message { key, tag }, run_at, now);
+            plain.request(rt, Message { key, tag }, run_at, priority, now);
         }
     }
     (None, None)

@@ -23,6 +23,7 @@ fn request_all(rt: &impl Abort, alloc: Global, scheduler: &mut Scheduler<u32>, c
         let request = ScheduleRequest {
             message,
             run_at: TEN_SECONDS,
+            priority: 0,
         };
         scheduler
             .schedule(alloc, request, Moment(0))
