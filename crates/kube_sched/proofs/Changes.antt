@@ -82,6 +82,10 @@ module _ {M : Type 0} (same : M → M → Bool) where
     counted = k.counted;
   }
 
+  -- in another order
+  pub ranked-moved : (rows : List (Row M)) (heap : List (Reverse Place)) (ranks ranks' : List Rank) (next : ℕ) → IsKept same rows heap ranks next → IsPermutation ranks ranks' → IsKept same rows heap ranks' next
+  ranked-moved rows heap ranks ranks' next k moves = ranked-by rows heap ranks ranks' next k (λ s c h d. Contains-permutation ranks ranks' (rank_of s.1) moves d)
+
   -- more ranks
   pub ranked-more : (rows : List (Row M)) (heap : List (Reverse Place)) (ranks ranks' : List Rank) (next : ℕ) (q : Rank) → IsKept same rows heap ranks next → IsPermutation (q ∷ ranks) ranks' → IsKept same rows heap ranks' next
   ranked-more rows heap ranks ranks' next q k moves =

@@ -1,7 +1,7 @@
 -- A timetable whose parts belong together, as its methods need it.
 use Rattle.std.proofs.Common.{◌≡◌, ℕ, ◌+◌, ◌<◌, ◌≤◌, max, Bool, true, false, not, cond, List, [], ◌∷◌, ◌++◌, length, get_or, remove, Contains, Some, None, Option, option_map, if◌then◌else◌, ◌||◌, ◌&&◌, refl, sym, ap, ap₂, subst, ◌∙◌, arith, append_assoc, inl, inr, ◌⊎◌, map}
 use Rattle.std.specs.Prelude.{nat_eq, nat_lt, filter, slice_get, sum_by, IsPermutation}
-use Rattle.std.specs.List.{AllByRecursion, IsDistinct, cons_option}
+use Rattle.std.specs.List.{AllByRecursion, IsDistinct, cons_option, list_any}
 use Rattle.std.specs.Cmp.{IsEquivalence}
 use Rattle.std.specs.Map.{keys_of, lookup}
 use Rattle.std.specs.Ordering.{is_lt}
@@ -19,7 +19,7 @@ use Rattle.kube_sched.specs.declared.timetable.Place.{Place}
 use Rattle.kube_sched.specs.Held.{comes_before, is_due}
 use Rattle.kube_sched.specs.Tables.{Row, at, entry_is_over, held_in, is_in, is_over, is_ranked, listed, number_of, of_state, order_of, passed_over, place_of, place_order, rank_of, scheduled_in, unranked, waiting_in, IsKept, TakenAt}
 use Rattle.kube_sched.proofs.Rows.{Written, at-contains, at-order, some-is, none-is-some, absent-all, lookup-moved, lookup-none, place-contains, written}
-use Rattle.kube_sched.proofs.Numbers.{due-least, filter-less}
+use Rattle.kube_sched.proofs.Numbers.{due-least, filter-less, none-given}
 use Rattle.kube_sched.proofs.Changes.{Stated, all-contains, contains-cases, contains-head, contains-tail, heap-apart, heap-less, heap-more, in-row, in-rows, its-part, later, listed-last, listed-next, messages-apart, number-apart, other-messages, other-numbers, others-part, part, ranked-less, ranked-more, row-below, row-cases, rows-part, same-part, scheduled-less, scheduled-same, state-none, state-some, stated, waiting-less, waiting-same, with, without}
 use Rattle.kube_sched.proofs.Freezes.{not-true, order-least}
 
@@ -64,8 +64,8 @@ module _ {M : Type 0} (same : M → M → Bool) (equiv : IsEquivalence same) (ro
     unranked-new : is_ranked e ≡ false
     unranked-new = ap (λ b. b && not e.is_parked) free
 
-    one-new : (if is_ranked e then 0 else 1) ≡ 1
-    one-new = ap (λ (c : Bool). if c then 0 else 1) unranked-new
+    one-new : ◌≡◌ {A = ℕ} (if is_ranked e then 0 else 1) 1
+    one-new = ap {B = ℕ} (λ (c : Bool). if c then 0 else 1) unranked-new
 
     pub more-unranked : unranked more ≡ unranked rows + 1
     more-unranked =
@@ -124,7 +124,7 @@ module _ {M : Type 0} (same : M → M → Bool) (equiv : IsEquivalence same) (ro
             ∙ sym (ap (entry_is_over []) (lookup-none same equiv others n r.0 (equiv.symm r.0 n ∙ h) (other-messages same rows others heap ranks next r moves k equiv)))
         go false h = ap (λ b. entry_is_over [] (cond b (Some r.1) (lookup (same n) others))) h
 
-    pub less-unranked : unranked others + (if is_ranked r.1 then 0 else 1) ≡ unranked rows
+    pub less-unranked : ◌≡◌ {A = ℕ} (unranked others + (if is_ranked r.1 then 0 else 1)) (unranked rows)
     less-unranked = sum_by_popped (λ (y : Row M). if is_ranked y.1 then 0 else 1) r rows others moves
 
   -- The first place of the heap is taken, and its entry waits now.
@@ -194,11 +194,11 @@ module _ {M : Type 0} (same : M → M → Bool) (equiv : IsEquivalence same) (ro
       ranked-now : is_ranked w ≡ true
       ranked-now = ap₂ (λ a b. a && not b) waits unparked
 
-      one-now : (if is_ranked w then 0 else 1) ≡ 0
-      one-now = ap (λ (d : Bool). if d then 0 else 1) ranked-now
+      one-now : ◌≡◌ {A = ℕ} (if is_ranked w then 0 else 1) 0
+      one-now = ap {B = ℕ} (λ (d : Bool). if d then 0 else 1) ranked-now
 
-      one-was : (if is_ranked r.1 then 0 else 1) ≡ 1
-      one-was = ap (λ (d : Bool). if d && not r.1.is_parked then 0 else 1) alive.1
+      one-was : ◌≡◌ {A = ℕ} (if is_ranked r.1 then 0 else 1) 1
+      one-was = ap {B = ℕ} (λ (d : Bool). if d && not r.1.is_parked then 0 else 1) alive.1
 
       pub frozen-unranked : unranked anew + 1 ≡ unranked rows
       frozen-unranked =
@@ -291,3 +291,8 @@ module _ {M : Type 0} (same : M → M → Bool) (equiv : IsEquivalence same) (ro
             ap (filter (λ z. not (is_due now z))) scheduled-now
             ∙ sym (filter-less (λ z. not (is_due now z)) before behind (held_in r) (ap not due-row))
             ∙ ap (filter (λ z. not (is_due now z))) (sym scheduled-was)
+
+pub none-numbers : {M : Type 0} (same : M → M → Bool) (rows : List (Row M)) (heap : List (Reverse Place)) (ranks : List Rank) (next : ℕ) → IsKept same rows heap ranks next → list_any (nat_eq next) (map number_of rows) ≡ false
+none-numbers same rows heap ranks next k =
+    none-given (nat_eq next) (map number_of rows)
+    (all-into_map (λ j. nat_eq next j ≡ false) number_of rows (all-map (λ (r : Row _). (r.1.number < next) × (r.1.order < next)) (λ r. nat_eq next r.1.number ≡ false) (λ r l. ne_eqb next r.1.number (λ q. let b = l.0 in omega arith)) rows k.below))

@@ -21,3 +21,5 @@ pub mod Heads
 pub mod Touches
 pub mod Freezes
 pub mod Kept
+pub mod Raises
+pub mod Looks

@@ -118,7 +118,7 @@ module _ {M : Type 0} (same : M → M → Bool) where
     state-same true = waits
     state-same false = ap not waits
 
-    touched-length : (b : Bool) → length (listed b anew next) ≡ length (listed b rows next)
+    pub touched-length : (b : Bool) → length (listed b anew next) ≡ length (listed b rows next)
     touched-length b =
         ap length (touched-listed b) ∙ go (is_in b r.1) refl ∙ sym (ap length (rows-part same rows rest heap ranks next r at_place.was k b))
       where

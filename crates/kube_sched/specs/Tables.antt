@@ -99,6 +99,12 @@ pub record MessageAt {M : Type 0} (rows : List (Row M)) (place : ℕ) (message :
   pub there : slice_get rows place ≡ Some row
   pub is : message ≡ row.0
 
+-- the row at a place is of an equal message
+pub record EqualAt {M : Type 0} (same : M → M → Bool) (rows : List (Row M)) (place : ℕ) (message : M) : Type 0 where
+  pub row : Row M
+  pub there : slice_get rows place ≡ Some row
+  pub equal : same message row.0 ≡ true
+
 -- the row at a place waits at this place of the ranks
 pub record RankAt {M : Type 0} (rows : List (Row M)) (place : ℕ) (rank : Rank) : Type 0 where
   pub row : Row M

@@ -13,7 +13,7 @@ ghost use Rattle.indexmap.specs.IndexSet.{spare as spare_of};
 ghost use Rattle.kube_model.specs.Queue.{sorted_by};
 ghost use Rattle.kube_sched.specs.Held.{comes_before, is_due, is_later, is_of, raised, requested_with};
 ghost use Rattle.kube_sched.specs.Ranks.{ranks_len};
-ghost use Rattle.kube_sched.specs.Tables.{IsHead, MessageAt, RankAt, Row, has_rank, is_over, is_ranked, place_order, rank_of};
+ghost use Rattle.kube_sched.specs.Tables.{EqualAt, IsHead, MessageAt, RankAt, Row, has_rank, is_over, is_ranked, place_order, rank_of};
 ghost use Rattle.kube_sched.specs.Timetables.{EqualFails, HoldsSame, IsKept, IsWhole, NonePasses, TakesFirst, TakesPassing, first_of, first_rank, head_of, is_parked_in, rows_of, scheduled_of, stale_of, waiting_of};
 
 use crate::counting::Steps;
@@ -222,8 +222,8 @@ impl<T: Eq + Hash + Drop> Timetable<T> {
         requires place { place < length (rows_of self.old) }
         requires room { 1 ≤ self.old.spare }
         ensures whole { IsWhole T.eq self.new }
-        ensures waiting { (m : T) → MessageAt (rows_of self.old) place m → waiting_of self.new ≡ raised T.eq m priority (waiting_of self.old) }
-        ensures scheduled { (m : T) → MessageAt (rows_of self.old) place m → scheduled_of self.new ≡ raised T.eq m priority (scheduled_of self.old) }
+        ensures waiting { (m : T) → EqualAt T.eq (rows_of self.old) place m → waiting_of self.new ≡ raised T.eq m priority (waiting_of self.old) }
+        ensures scheduled { (m : T) → EqualAt T.eq (rows_of self.old) place m → scheduled_of self.new ≡ raised T.eq m priority (scheduled_of self.old) }
         ensures parked { (m : T) → is_parked_in T.eq self.new m ≡ is_parked_in T.eq self.old m }
         ensures heap { heap_items self.new.heap ≡ heap_items self.old.heap }
         ensures spare { self.old.spare ≤ self.new.spare + 1 }
