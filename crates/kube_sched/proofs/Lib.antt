@@ -23,3 +23,4 @@ pub mod Freezes
 pub mod Kept
 pub mod Raises
 pub mod Looks
+pub mod Takings

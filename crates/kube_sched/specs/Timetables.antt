@@ -1,5 +1,5 @@
 -- A timetable as a contract sees it.
-use Rattle.std.specs.Prelude.{◌≡◌, ℕ, not, ◌+◌, ◌-◌, ◌*◌, ◌<◌, ◌≤◌, ◌^◌, Bool, true, false, List, [], ◌++◌, length, find, get_or, remove, Option, Some, None}
+use Rattle.std.specs.Prelude.{◌≡◌, ℕ, not, ◌+◌, ◌-◌, ◌*◌, ◌<◌, ◌≤◌, ◌^◌, Bool, true, false, List, [], ◌++◌, length, find, get_or, remove, slice_get, Option, Some, None}
 use Rattle.std.specs.Option.{option_map}
 use Rattle.std.specs.BinaryHeap.{IsHeap, heap_items, heap_len, heap_capacity}
 use Rattle.std.specs.VecDeque.{deque_capacity}
@@ -15,7 +15,7 @@ use Rattle.kube_model.specs.Queue.{sorted_by}
 use Rattle.kube_sched.specs.Held.{is_above, messages}
 use Rattle.kube_sched.specs.Schedule.{IsFirst}
 use Rattle.kube_sched.specs.Urgent.{most_urgent}
-use Rattle.kube_sched.specs.Tables.{Row, IsIndexed, IsKept as AreKept, has_rank, passed_over, place_order, scheduled_in, unranked, waiting_in}
+use Rattle.kube_sched.specs.Tables.{Row, IsIndexed, IsKept as AreKept, has_rank, held_in, passed_over, place_order, scheduled_in, unranked, waiting_in}
 
 module _ {M : Type 0} where
   abbrev pub rows_of : Timetable M → List (Row M)
@@ -91,6 +91,13 @@ pub record Takes {M : Type 0} (t u : Timetable M) (due : Due M) : Type 0 where
   pub within : place < length (waiting_of t)
   pub there : held ≡ get_or (waiting_of t) place held
   pub waiting : waiting_of u ≡ remove (waiting_of t) place
+
+-- that of the row at a place was taken
+pub record TakesAt {M : Type 0} (t u : Timetable M) (due : Due M) (at : ℕ) : Type 0 where
+  pub takes : Takes t u due
+  pub row : Row M
+  pub row_there : slice_get (rows_of t) at ≡ Some row
+  pub held_is : takes.held ≡ held_in row
 
 -- the first that isn't passed over was taken
 pub record TakesFirst {M : Type 0} (same : M → M → Bool) (t u : Timetable M) (due : Due M) : Type 0 where

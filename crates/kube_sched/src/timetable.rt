@@ -14,7 +14,7 @@ ghost use Rattle.kube_model.specs.Queue.{sorted_by};
 ghost use Rattle.kube_sched.specs.Held.{comes_before, is_due, is_later, is_of, raised, requested_with};
 ghost use Rattle.kube_sched.specs.Ranks.{ranks_len};
 ghost use Rattle.kube_sched.specs.Tables.{EqualAt, IsHead, MessageAt, RankAt, Row, has_rank, is_over, is_ranked, place_order, rank_of};
-ghost use Rattle.kube_sched.specs.Timetables.{EqualFails, HoldsSame, IsKept, IsWhole, NonePasses, TakesFirst, TakesPassing, first_of, first_rank, head_of, is_parked_in, rows_of, scheduled_of, stale_of, waiting_of};
+ghost use Rattle.kube_sched.specs.Timetables.{EqualFails, HoldsSame, IsKept, IsWhole, NonePasses, TakesAt, TakesFirst, TakesPassing, first_of, first_rank, head_of, is_parked_in, rows_of, scheduled_of, stale_of, waiting_of};
 
 use crate::counting::Steps;
 use crate::held::{Due, Held, lets_pass};
@@ -361,10 +361,11 @@ impl<T: Eq + Hash + Drop> Timetable<T> {
         requires place { place < length (rows_of self.old) }
         requires head { IsHead (rows_of self.old) self.old.aside.items (first_rank self.old) place }
         ensures kept { IsKept T.eq self.new }
-        ensures taken { TakesFirst T.eq self.old self.new result }
+        ensures taken { TakesAt self.old self.new result place }
         ensures scheduled { scheduled_of self.new ≡ scheduled_of self.old }
         ensures parked { (m : T) → is_parked_in T.eq self.new m ≡ is_parked_in T.eq self.old m }
         ensures aside { self.new.aside ≡ self.old.aside }
+        ensures next { self.new.next ≡ self.old.next }
         ensures stale { stale_of self.new ≡ stale_of self.old }
         ensures spare { self.new.spare ≡ self.old.spare }
     {
