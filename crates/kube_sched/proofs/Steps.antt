@@ -17,9 +17,9 @@ use Rattle.kube_model.proofs.Priorities.{priority-requested, priority-settled, p
 use Rattle.kube_model.proofs.Waits.{frozen-own, priority-alike}
 use Rattle.kube_sched.specs.declared.held.Held.{Held}
 use Rattle.kube_sched.specs.declared.request.ScheduleRequest.{ScheduleRequest}
-use Rattle.kube_sched.specs.Held.{is_above, is_of, is_due, is_earlier, comes_before, set_in, messages, raised, priority_among, IsFirstAt}
+use Rattle.kube_sched.specs.Held.{is_above, is_of, is_due, is_earlier, comes_before, set_in, messages, raised, priority_among}
 use Rattle.kube_sched.specs.Entries.{unfrozen, is_set_before, entries, scheduled}
-use Rattle.kube_sched.specs.Schedule.{Schedule, Stands, waiting_messages, held_of, held_of_frozen, held_of_entry, with_request, with_settle, with_take, IsFirst}
+use Rattle.kube_sched.specs.Schedule.{Schedule, Stands, waiting_messages, held_of, held_of_frozen, held_of_entry, with_request, with_settle, with_take}
 use Rattle.kube_sched.proofs.Listings.{map-filter, any-map, none-passes, one-passes}
 use Rattle.kube_sched.proofs.Queues.{message_of, unfrozen_in, unfrozen-entry, unfrozen-items, Scheduled, scheduled-lists, frozen-once, frozen-among, frozen_in, one-more, waiting-lists}
 use Rattle.kube_sched.proofs.Asked.{sets, raised as raised-entry, waiting-kept, scheduled-kept, waiting-set, scheduled-set}
@@ -398,28 +398,3 @@ module _ {M : Type 0} (same : M → M → Bool) (equiv : IsEquivalence same) whe
       go : (fs : List (Frozen M)) → AllByRecursion (λ f. frozen_in same equiv s.debounce es f.entry.message ≡ Some f) fs → AllByRecursion (λ x. x.priority ≡ priority same es x.message) (map held_of_frozen fs)
       go [] k = tt
       go (f ∷ fs) k = ((frozen-own same equiv s.debounce es f.entry.message f k.0).0.2, go fs k.1)
-
--- The first that passes.
-
-first-some : {M : Type 0} (passes : M → Bool → Type 0) (hs : List (Held M)) (i : ℕ) (d : Held M) → i < length hs → IsFirstAt passes (messages hs) (Some i)
-    → IsFirst passes (messages hs) (Some (get_or hs i d).message)
-first-some passes [] i d l h = absurd (omega arith)
-first-some passes (x ∷ hs) zero d l h = inl (h, refl)
-first-some passes (x ∷ hs) (suc i) d l h = inr (h.0, first-some passes hs i d (omega arith) h.1)
-
-first-none : {M : Type 0} (passes : M → Bool → Type 0) (ms : List M) → IsFirstAt passes ms None → IsFirst passes ms None
-first-none passes [] h = refl
-first-none passes (m ∷ ms) h = inr (h.0, first-none passes ms h.1)
-
-module _ {M : Type 0} (same : M → M → Bool) (passes : M → Bool → Type 0) (s : Schedule M) (es : List (QueueEvent M)) (h : Stands same s es) where
-  messages-are : messages s.waiting ≡ map (λ f. f.entry.message) (as_frozen same s.debounce es)
-  messages-are = ap messages h.waits ∙ messages-waiting (as_frozen same s.debounce es)
-
-  pub takes-some : (i : ℕ) (x : Held M) → i < length s.waiting → x ≡ get_or s.waiting i x → IsFirstAt passes (messages s.waiting) (Some i)
-      → IsFirst passes (map (λ f. f.entry.message) (as_frozen same s.debounce es)) (Some x.message)
-  takes-some i x l at f =
-      subst (λ ms. IsFirst passes ms (Some x.message)) messages-are
-      (subst (λ y. IsFirst passes (messages s.waiting) (Some y.message)) (sym at) (first-some passes s.waiting i x l f))
-
-  pub takes-none : IsFirstAt passes (messages s.waiting) None → IsFirst passes (map (λ f. f.entry.message) (as_frozen same s.debounce es)) None
-  takes-none f = subst (λ ms. IsFirst passes ms None) messages-are (first-none passes (messages s.waiting) f)

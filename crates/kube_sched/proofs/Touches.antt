@@ -1,5 +1,5 @@
 -- An entry is written anew, in the place of one of its number and order.
-use Rattle.std.proofs.Common.{◌≡◌, ◌≢◌, ℕ, ◌+◌, ◌<◌, ◌≤◌, max, Bool, true, false, not, cond, List, [], ◌∷◌, ◌++◌, map, length, Contains, Option, Some, None, if◌then◌else◌, ◌||◌, ◌&&◌, refl, sym, ap, ap₂, subst, ◌∙◌, arith, length-append, inl, inr, ◌⊎◌}
+use Rattle.std.proofs.Common.{◌≡◌, ◌≢◌, ℕ, suc, ◌+◌, ◌<◌, ◌≤◌, max, Bool, true, false, not, cond, List, [], ◌∷◌, ◌++◌, map, length, Contains, Option, Some, None, if◌then◌else◌, ◌||◌, ◌&&◌, refl, sym, ap, ap₂, subst, ◌∙◌, arith, length-append, inl, inr, ◌⊎◌}
 use Rattle.std.specs.Prelude.{nat_eq, nat_lt, nat_le, filter, slice_get, sum_by, IsPermutation}
 use Rattle.std.specs.List.{AllByRecursion, IsDistinct, cons_option}
 use Rattle.std.specs.Cmp.{IsEquivalence}
@@ -29,6 +29,10 @@ module _ {M : Type 0} (same : M → M → Bool) where
   pub raised-none : (m : M) (p : ℕ) (hs : List (Held M)) → AllByRecursion (λ h. same m h.message ≡ false) hs → raised same m p hs ≡ hs
   raised-none m p [] k = refl
   raised-none m p (h ∷ hs) k = ap₂ (λ x xs. x ∷ xs) (ap (λ b. if b then record h { priority = max h.priority p } else h) k.0) (raised-none m p hs k.1)
+
+  pub raised-length : (m : M) (p : ℕ) (hs : List (Held M)) → length (raised same m p hs) ≡ length hs
+  raised-length m p [] = refl
+  raised-length m p (h ∷ hs) = ap suc (raised-length m p hs)
 
   raised-append : (m : M) (p : ℕ) (xs ys : List (Held M)) → raised same m p (xs ++ ys) ≡ raised same m p xs ++ raised same m p ys
   raised-append m p [] ys = refl
