@@ -66,9 +66,12 @@ is_ranked e = e.is_waiting && not e.is_parked
 abbrev pub rank_of : Entry → Rank
 rank_of e = record { priority = e.priority; order = record { 0 = e.order }; number = e.number }
 
--- whether a row waits at this place
+-- whether this is its place, and whether a row waits at this place
+abbrev pub stands_at : Rank → Entry → Bool
+stands_at q e = is_ranked e && (nat_eq q.priority e.priority && (nat_eq q.order.0 e.order && nat_eq q.number e.number))
+
 abbrev pub has_rank : {M : Type 0} → Rank → Row M → Bool
-has_rank q r = is_ranked r.1 && (nat_eq q.priority r.1.priority && (nat_eq q.order.0 r.1.order && nat_eq q.number r.1.number))
+has_rank q r = stands_at q r.1
 
 -- whether a message is passed over: it was put aside, or its place is among these
 abbrev pub is_over : List Rank → Entry → Bool
@@ -110,6 +113,12 @@ pub record RankAt {M : Type 0} (rows : List (Row M)) (place : ℕ) (rank : Rank)
   pub row : Row M
   pub there : slice_get rows place ≡ Some row
   pub has : has_rank rank row ≡ true
+
+-- whether the row at a place waits at this place of the ranks
+pub record HasRankAt {M : Type 0} (rows : List (Row M)) (place : ℕ) (rank : Rank) (waits : Bool) : Type 0 where
+  pub row : Row M
+  pub there : slice_get rows place ≡ Some row
+  pub is : waits ≡ has_rank rank row
 
 -- the row at a place was taken out: the others are the rest, in some order
 pub record TakenAt {M : Type 0} (rows rest : List (Row M)) (place : ℕ) (message : M) : Type 0 where

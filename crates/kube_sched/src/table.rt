@@ -4,7 +4,7 @@ ghost use Rattle.std.specs.Prelude.{◌≡◌, ◌+◌, ◌<◌, ◌≤◌, ◌+
 ghost use Rattle.std.specs.List.{AllByRecursion, list_any};
 ghost use Rattle.indexmap.specs.IndexMap.{get, set_value_at, spare};
 ghost use Rattle.indexmap.specs.IndexSet.{spare as spare_of};
-ghost use Rattle.kube_sched.specs.Tables.{EntryAt, IsIndexed, MessageAt, RowAt, TakenAt, number_of, is_ranked as has_rank, rank_of};
+ghost use Rattle.kube_sched.specs.Tables.{EntryAt, HasRankAt, IsIndexed, MessageAt, RowAt, TakenAt, number_of, is_ranked as has_rank, rank_of, stands_at};
 
 use crate::ranks::Rank;
 use indexmap::{IndexMap, IndexSet};
@@ -36,6 +36,15 @@ impl Entry {
         ensures { result ≡ has_rank self.now }
     {
         self.is_waiting && !self.is_parked
+    }
+
+    /// Whether this is its place among those that wait.
+    pub fn stands_at(&self, rank: &Rank) -> bool
+        ensures { result ≡ stands_at rank.now self.now }
+    {
+        self.is_ranked()
+            && (rank.priority == self.priority
+                && (rank.order.0 == self.order && rank.number == self.number))
     }
 
     /// Its place among those that wait.
@@ -126,6 +135,14 @@ impl<T: Eq + Hash + Drop> Table<T> {
             Some((_message, entry)) => *entry,
             None => unreachable!(),
         }
+    }
+
+    /// Whether the entry at a place waits at this place of the ranks.
+    pub fn is_at(&self, place: usize, rank: &Rank) -> bool
+        requires place { place < length self.now.entries.entries }
+        ensures { HasRankAt self.now.entries.entries place rank.now result }
+    {
+        self.entry_at(place).stands_at(rank)
     }
 
     /// The message at a place.

@@ -323,12 +323,10 @@ impl<T: Eq + Hash + Drop> Timetable<T> {
         ensures within { IfSome result (λ place. place < length (rows_of self.now)) }
         ensures none { IfNone result (AllByRecursion (λ r. has_rank rank.now r ≡ false) (rows_of self.now)) }
     {
-        let place = self.table.find(rank.number)?;
-        let entry = self.table.entry_at(place);
-        if entry.is_ranked()
-            && rank.priority == entry.priority
-            && rank.order.0 == entry.order
-        {
+        let Some(place) = self.table.find(rank.number) else {
+            return None;
+        };
+        if self.table.is_at(place, rank) {
             Some(place)
         } else {
             None
@@ -500,8 +498,12 @@ impl<T: Eq + Hash + Drop> Timetable<T> {
         requires whole { IsWhole T.eq self.now }
         ensures { option_copied result ≡ head_of self.now }
     {
-        let rank = self.ranks.first()?;
-        let place = self.ranked_at(&rank)?;
+        let Some(rank) = self.ranks.first() else {
+            return None;
+        };
+        let Some(place) = self.ranked_at(&rank) else {
+            return None;
+        };
         Some(self.table.message_at(place))
     }
 
@@ -517,8 +519,12 @@ impl<T: Eq + Hash + Drop> Timetable<T> {
         ensures stale { stale_of self.new ≡ stale_of self.old }
         ensures spare { self.new.spare ≡ self.old.spare }
     {
-        let rank = self.ranks.first()?;
-        let place = self.ranked_at(&rank)?;
+        let Some(rank) = self.ranks.first() else {
+            return None;
+        };
+        let Some(place) = self.ranked_at(&rank) else {
+            return None;
+        };
         Some(self.take_head(place))
     }
 
