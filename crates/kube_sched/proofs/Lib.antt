@@ -24,3 +24,7 @@ pub mod Kept
 pub mod Raises
 pub mod Looks
 pub mod Takings
+pub mod Finds
+pub mod Backs
+pub mod Nothing
+pub mod Rooms

@@ -1,6 +1,6 @@
 //! Messages with their entries, by message and by number.
 
-ghost use Rattle.std.specs.Prelude.{◌≡◌, ◌+◌, ◌<◌, ◌≤◌, ◌++◌, ◌∷◌, [], true, false, length, map, nat_eq, slice_get, Some, None, IfSome, IfNone, OnOk};
+ghost use Rattle.std.specs.Prelude.{◌≡◌, ◌&&◌, ◌+◌, ◌<◌, ◌≤◌, ◌++◌, ◌∷◌, [], true, false, length, map, nat_eq, slice_get, Some, None, IfSome, IfNone, OnOk};
 ghost use Rattle.std.specs.List.{AllByRecursion, list_any};
 ghost use Rattle.indexmap.specs.IndexMap.{get, set_value_at, spare};
 ghost use Rattle.indexmap.specs.IndexSet.{spare as spare_of};
@@ -36,6 +36,13 @@ impl Entry {
         ensures { result ≡ has_rank self.now }
     {
         self.is_waiting && !self.is_parked
+    }
+
+    /// Whether it waits and is passed over.
+    pub fn is_aside(&self) -> bool
+        ensures { result ≡ (self.now.is_waiting && self.now.is_parked) }
+    {
+        self.is_waiting && self.is_parked
     }
 
     /// Whether this is its place among those that wait.

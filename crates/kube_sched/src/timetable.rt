@@ -1,6 +1,6 @@
 //! Messages with their times: by message, by time, and in the order in which they wait.
 
-ghost use Rattle.std.specs.Prelude.{◌≡◌, ◌+◌, ◌<◌, ◌≤◌, ◌++◌, ◌∷◌, [], false, true, not, is_some, length, Contains, Some, None, IfSome, IfNone, OnOk, OnErr, IsPermutation, if◌then◌else◌, ◌||◌, ◌&&◌, ◌⊎◌, nat_lt, option_copied};
+ghost use Rattle.std.specs.Prelude.{◌≡◌, ◌+◌, ◌<◌, ◌≤◌, ◌^◌, ◌++◌, ◌∷◌, [], false, true, not, is_some, length, Contains, Some, None, IfSome, IfNone, OnOk, OnErr, IsPermutation, if◌then◌else◌, ◌||◌, ◌&&◌, ◌⊎◌, nat_lt, option_copied};
 ghost use Rattle.std.specs.BinaryHeap.{heap_items, heap_len, heap_capacity, IsHeap};
 ghost use Rattle.std.specs.Fn.{FnReturnsAt};
 ghost use Rattle.std.specs.List.{AllByRecursion, filter, list_any};
@@ -118,20 +118,26 @@ impl<T: Eq + Hash + Drop> Timetable<T> {
         ensures more { self.old.spare ≤ self.new.spare }
         ensures err { OnErr result (self.new.spare ≡ self.old.spare) }
     {
-        let Some(places) = self.table.entries.len().checked_add(n) else {
-            return Err(NoMemory);
-        };
-        let Some(numbers) = places.checked_add(n) else {
+        let Some(places) = self.places_for(n) else {
             return Err(NoMemory);
         };
         self.take_memory(n, places)?;
-        if u64::MAX - self.next < numbers as u64 {
-            return Err(NoMemory);
-        }
-        if self.spare < n {
-            self.spare = n;
-        }
+        self.spare = self.spare.max(n);
         Ok(())
+    }
+
+    /// How many places of those that wait are wanted for so many more entries; none where there are no numbers for them.
+    fn places_for(&self, n: usize) -> Option<usize>
+        ensures places { IfSome result (λ p. p ≡ length (rows_of self.now) + n) }
+        ensures numbers { IfSome result (λ p. self.now.next + p + n < 2 ^ 64) }
+    {
+        let places = self.table.entries.len().checked_add(n)?;
+        let numbers = places.checked_add(n)?;
+        if u64::MAX - self.next < numbers as u64 {
+            None
+        } else {
+            Some(places)
+        }
     }
 
     /// Takes memory for so many more entries, and for so many more places of those that wait.
@@ -427,6 +433,26 @@ impl<T: Eq + Hash + Drop> Timetable<T> {
         }
     }
 
+    /// Takes the first message that waits, isn't put aside and passes. The places of those before it are passed over.
+    fn take_one<C: Fn(&T) -> bool>(&mut self, passes: &C) -> Option<Due<T>>
+        requires call { C.IsAlwaysCallable passes.now }
+        requires whole { IsWhole T.eq self.old }
+        ensures kept { IsKept T.eq self.new }
+        ensures taken { IfSome result (λ due. TakesPassing T.eq (FnReturnsAt C.Fn passes.now) self.old self.new due) }
+        ensures none { IfNone result (NonePasses T.eq (FnReturnsAt C.Fn passes.now) self.old) }
+        ensures rows { IfNone result (rows_of self.new ≡ rows_of self.old) }
+        ensures next { self.new.next ≡ self.old.next }
+        ensures scheduled { scheduled_of self.new ≡ scheduled_of self.old }
+        ensures parked { (m : T) → is_parked_in T.eq self.new m ≡ is_parked_in T.eq self.old m }
+        ensures stale { stale_of self.new ≡ stale_of self.old }
+        ensures spare { self.new.spare ≡ self.old.spare }
+    {
+        let Some(place) = self.first_passing(passes) else {
+            return None;
+        };
+        Some(self.take_head(place))
+    }
+
     /// Takes the first message that waits, isn't put aside and passes. It looks at those before it alone, and takes no memory.
     pub fn take_passing<C: Fn(&T) -> bool>(&mut self, passes: &C) -> Option<Due<T>>
         requires call { C.IsAlwaysCallable passes.now }
@@ -441,10 +467,7 @@ impl<T: Eq + Hash + Drop> Timetable<T> {
         ensures stale { stale_of self.new ≡ stale_of self.old }
         ensures spare { self.new.spare ≡ self.old.spare }
     {
-        let due = match self.first_passing(passes) {
-            Some(place) => Some(self.take_head(place)),
-            None => None,
-        };
+        let due = self.take_one(passes);
         self.go_back();
         due
     }
@@ -541,7 +564,7 @@ impl<T: Eq + Hash + Drop> Timetable<T> {
         let Some((place, _message, entry)) = self.table.entries.get_full(message) else {
             return;
         };
-        if entry.is_waiting && entry.is_parked {
+        if entry.is_aside() {
             let entry = Entry {
                 is_parked: false,
                 ..*entry
