@@ -122,7 +122,8 @@ impl<T: Eq + Hash + Drop> Timetable<T> {
             return Err(NoMemory);
         };
         self.take_memory(n, places)?;
-        self.spare = self.spare.max(n);
+        let spare = self.spare.max(n);
+        self.spare = spare;
         Ok(())
     }
 
@@ -265,7 +266,8 @@ impl<T: Eq + Hash + Drop> Timetable<T> {
                     self.raise(place, held.priority);
                     return;
                 }
-                held.priority = held.priority.max(entry.priority);
+                let priority = held.priority.max(entry.priority);
+                held.priority = priority;
                 self.table.take(place);
                 self.add(held);
             }

@@ -35,23 +35,26 @@ returns-clause-whole g c =
     let scheduled = ap (λ xs. length (scheduled_in xs (t.next + 1))) entries ∙ more-length eq laws rows heap ranks t.next k.parts c.args.held.message e c.requires.absent refl refl refl in
     let unranks = ap unranked entries ∙ more-unranked eq laws rows heap ranks t.next k.parts c.args.held.message e c.requires.absent refl refl refl in
     let one = c.requires.room in
-    record {
-      parts = subst (λ xs. AreKept eq xs (heap_items c.push.new.self) ranks (t.next + 1)) (sym entries) (more-kept eq laws rows heap ranks t.next k.parts c.args.held.message e c.requires.absent refl refl refl (heap_items c.push.new.self) put);
-      indexed = c.add.ensures.indexed;
-      ordered = on-ok c.push.result _ ok c.push.ensures.heap_order k.ordered;
-      ranks = k.ranks;
-      waits = k.waits ∙ sym (ap length (ap (λ xs. waiting_in xs (t.next + 1)) entries ∙ more-waiting eq laws rows heap ranks t.next k.parts c.args.held.message e c.requires.absent refl refl refl));
-      room =
-          record {
-            entries = (let a = room.entries in let b = c.add.ensures.room in omega arith);
-            numbers = (let a = room.numbers in let b = c.add.ensures.numbers_room in omega arith);
-            heap = (let a = room.heap in let b = on-ok c.push.result _ ok c.push.ensures.len in let f = c.push.ensures.capacity in omega arith);
-            line = (let a = room.line in omega (arith, a, unranks, one));
-            ranks = (let a = room.ranks in omega (arith, a, unranks, one));
-            aside = (let a = room.aside in omega (arith, a, unranks, one));
-            next = (let a = room.next in omega (arith, a, scheduled, one));
-          };
-    }
+    (
+      record {
+        parts = subst (λ xs. AreKept eq xs (heap_items c.push.new.self) ranks (t.next + 1)) (sym entries) (more-kept eq laws rows heap ranks t.next k.parts c.args.held.message e c.requires.absent refl refl refl (heap_items c.push.new.self) put);
+        indexed = c.add.ensures.indexed;
+        ordered = on-ok c.push.result _ ok c.push.ensures.heap_order k.ordered;
+        ranks = k.ranks;
+        waits = k.waits ∙ sym (ap length (ap (λ xs. waiting_in xs (t.next + 1)) entries ∙ more-waiting eq laws rows heap ranks t.next k.parts c.args.held.message e c.requires.absent refl refl refl));
+        room =
+            record {
+              entries = (let a = room.entries in let b = c.add.ensures.room in omega arith);
+              numbers = (let a = room.numbers in let b = c.add.ensures.numbers_room in omega arith);
+              heap = (let a = room.heap in let b = on-ok c.push.result _ ok c.push.ensures.len in let f = c.push.ensures.capacity in omega arith);
+              line = (let a = room.line in omega (arith, a, unranks, one));
+              ranks = (let a = room.ranks in omega (arith, a, unranks, one));
+              aside = (let a = room.aside in omega (arith, a, unranks, one));
+              next = (let a = room.next in omega (arith, a, scheduled, one));
+            };
+      },
+      c.requires.whole.1
+    )
 
 pub returns-clause-waiting : goal.returns-clause-waiting
 returns-clause-waiting g c =

@@ -175,23 +175,26 @@ returns-then-is_ranked-clause-whole g c =
     let more = λ q d. Contains-permutation (rank_of w ∷ ranks) (t.aside.items ++ ranks_in c.push.new.self) q all (contains-tail (rank_of w) q ranks d) in
     let mine = λ _. Contains-permutation (rank_of w ∷ ranks) (t.aside.items ++ ranks_in c.push.new.self) (rank_of w) all (contains-head (rank_of w) ranks) in
     let len = c.push.ensures.len in
-    record {
-      parts = subst (λ xs. AreKept eq xs heap (t.aside.items ++ ranks_in c.push.new.self) t.next) (sym entries) (raised-kept eq laws rows heap ranks t.next c.args.place row.0 e there k.parts c.args.priority (let l = c.if-priority-entry.false in omega arith) (t.aside.items ++ ranks_in c.push.new.self) more mine);
-      indexed = c.write.ensures.indexed;
-      ordered = k.ordered;
-      ranks = c.push.ensures.ordered;
-      waits = k.waits ∙ sym waits;
-      room =
-          record {
-            entries = (let a = room.entries in let b = c.write.ensures.room in omega (arith, a, b, one));
-            numbers = (let a = room.numbers in let b = ap spare_of c.write.ensures.numbers in omega (arith, a, b, one));
-            heap = (let a = room.heap in omega (arith, a, one));
-            line = (let a = room.line in let b = c.push.ensures.line_room in omega (arith, a, b, len, unranks, one));
-            ranks = (let a = room.ranks in let b = c.push.ensures.heap_room in omega (arith, a, b, len, unranks, one));
-            aside = (let a = room.aside in omega (arith, a, len, unranks, one));
-            next = (let a = room.next in omega (arith, a, schedules, one));
-          };
-    }
+    (
+      record {
+        parts = subst (λ xs. AreKept eq xs heap (t.aside.items ++ ranks_in c.push.new.self) t.next) (sym entries) (raised-kept eq laws rows heap ranks t.next c.args.place row.0 e there k.parts c.args.priority (let l = c.if-priority-entry.false in omega arith) (t.aside.items ++ ranks_in c.push.new.self) more mine);
+        indexed = c.write.ensures.indexed;
+        ordered = k.ordered;
+        ranks = c.push.ensures.ordered;
+        waits = k.waits ∙ sym waits;
+        room =
+            record {
+              entries = (let a = room.entries in let b = c.write.ensures.room in omega (arith, a, b, one));
+              numbers = (let a = room.numbers in let b = ap spare_of c.write.ensures.numbers in omega (arith, a, b, one));
+              heap = (let a = room.heap in omega (arith, a, one));
+              line = (let a = room.line in let b = c.push.ensures.line_room in omega (arith, a, b, len, unranks, one));
+              ranks = (let a = room.ranks in let b = c.push.ensures.heap_room in omega (arith, a, b, len, unranks, one));
+              aside = (let a = room.aside in omega (arith, a, len, unranks, one));
+              next = (let a = room.next in omega (arith, a, schedules, one));
+            };
+      },
+      c.requires.whole.1
+    )
 
 pub returns-else-is_ranked-clause-whole : goal.returns-else-is_ranked-clause-whole
 returns-else-is_ranked-clause-whole g c =
@@ -215,20 +218,23 @@ returns-else-is_ranked-clause-whole g c =
     let one = c.requires.room in
     let more = λ (q : Rank) d. d in
     let mine = λ h. absurd (false≢true (sym (sym c.is_ranked.ensures ∙ c.if-is_ranked.false) ∙ h)) in
-    record {
-      parts = subst (λ xs. AreKept eq xs heap ranks t.next) (sym entries) (raised-kept eq laws rows heap ranks t.next c.args.place row.0 e there k.parts c.args.priority (let l = c.if-priority-entry.false in omega arith) ranks more mine);
-      indexed = c.write.ensures.indexed;
-      ordered = k.ordered;
-      ranks = k.ranks;
-      waits = k.waits ∙ sym waits;
-      room =
-          record {
-            entries = (let a = room.entries in let b = c.write.ensures.room in omega (arith, a, b));
-            numbers = (let a = room.numbers in let b = ap spare_of c.write.ensures.numbers in omega (arith, a, b));
-            heap = room.heap;
-            line = (let a = room.line in omega (arith, a, unranks));
-            ranks = (let a = room.ranks in omega (arith, a, unranks));
-            aside = (let a = room.aside in omega (arith, a, unranks));
-            next = (let a = room.next in omega (arith, a, schedules));
-          };
-    }
+    (
+      record {
+        parts = subst (λ xs. AreKept eq xs heap ranks t.next) (sym entries) (raised-kept eq laws rows heap ranks t.next c.args.place row.0 e there k.parts c.args.priority (let l = c.if-priority-entry.false in omega arith) ranks more mine);
+        indexed = c.write.ensures.indexed;
+        ordered = k.ordered;
+        ranks = k.ranks;
+        waits = k.waits ∙ sym waits;
+        room =
+            record {
+              entries = (let a = room.entries in let b = c.write.ensures.room in omega (arith, a, b));
+              numbers = (let a = room.numbers in let b = ap spare_of c.write.ensures.numbers in omega (arith, a, b));
+              heap = room.heap;
+              line = (let a = room.line in omega (arith, a, unranks));
+              ranks = (let a = room.ranks in omega (arith, a, unranks));
+              aside = (let a = room.aside in omega (arith, a, unranks));
+              next = (let a = room.next in omega (arith, a, schedules));
+            };
+      },
+      c.requires.whole.1
+    )

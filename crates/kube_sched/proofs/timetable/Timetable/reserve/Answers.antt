@@ -62,14 +62,14 @@ returns-clause-whole g c =
     let aside = m.aside_len in
     let spares = m.spare in
     let ok = c.in_ok-take_memory.ensures in
-    let most = c.max.ensures in
+    let most = c.max-spare.ensures in
     let places = c.in-Some.ensures.places in
     let numbers = c.in-Some.ensures.numbers in
     let few = unranked-few t.table.entries.entries in
     let counted = c.requires.whole.0.parts.counted in
     let none = ap length c.requires.whole.1 in
     let long = t.aside.ok.0 in
-    let v = record u { spare = c.max.result } in
+    let v = record u { spare = c.max-spare.result } in
     whole-same g.T.PartialEq.eq t v m.entries m.heap m.line m.ranks m.aside m.next m.numbers m.waits
     (record {
       entries = (let a = room.entries in let b = m.entries_room in let d = ok.entries_ok in omega (arith, a, b, d, most, spares));

@@ -8,6 +8,7 @@ use Rattle.kube_sched.proofs.Rows.{found-key, some-is, written}
 use Rattle.kube_sched.proofs.Changes.{scheduled-less, waiting-same, without}
 use Rattle.kube_sched.proofs.Freezes.{set-free, set-later, set-new, set-none-waiting, set-old, set-stays, set-waiting}
 use Rattle.kube_sched.proofs.Kept.{less-over, less-unranked}
+use Rattle.kube_sched.proofs.Touches.{raised-length}
 use Rattle.kube_sched.proofs.timetable.Timetable.set.Goals as goal
 
 pub returns-then-stays-clause-waiting : goal.returns-then-stays-clause-waiting
@@ -43,6 +44,27 @@ returns-then-stays-clause-scheduled g c =
     c.raise.ensures.scheduled h.message (record { row = r; there = there; equal = e })
     ∙ set-stays eq laws rows heap ranks t.next k.parts c.args.run_at h w.others r w.was e stays
 
+pub returns-then-stays-clause-len : goal.returns-then-stays-clause-len
+returns-then-stays-clause-len g c =
+    let t = c.args.self.now in
+    let eq = g.T.PartialEq.eq in
+    let h = c.args.held in
+    let e = found-key eq g.met.T.Eq.laws h.message c.in-Some._message.now t.table.entries.entries (sym c.in-Some.ensures.key) in
+    let a = ap length (c.raise.ensures.scheduled h.message (record { row = (c.in-Some._message.now, c.in-Some.entry.now); there = c.in-Some.ensures.entry; equal = e })) in
+    let b = raised-length eq h.message h.priority (scheduled_in t.table.entries.entries t.next) in
+    omega (arith, a, b)
+
+pub returns-then-stays-clause-stale : goal.returns-then-stays-clause-stale
+returns-then-stays-clause-stale g c =
+    let t = c.args.self.now in
+    let eq = g.T.PartialEq.eq in
+    let h = c.args.held in
+    let e = found-key eq g.met.T.Eq.laws h.message c.in-Some._message.now t.table.entries.entries (sym c.in-Some.ensures.key) in
+    let a = ap length (c.raise.ensures.scheduled h.message (record { row = (c.in-Some._message.now, c.in-Some.entry.now); there = c.in-Some.ensures.entry; equal = e })) in
+    let b = raised-length eq h.message h.priority (scheduled_in t.table.entries.entries t.next) in
+    let d = ap length c.raise.ensures.heap in
+    omega (arith, a, b, d)
+
 pub add-requires-clause-whole : goal.add-requires-clause-whole
 add-requires-clause-whole g c =
     let t = c.args.self.now in
@@ -65,23 +87,26 @@ add-requires-clause-whole g c =
     let room = k.room in
     let unranks = less-unranked eq laws rows heap ranks t.next k.parts rest r moves in
     let fewer = scheduled-less eq rows rest heap ranks t.next r moves k.parts waits in
-    record {
-      parts = without eq rows rest heap ranks t.next r moves k.parts laws;
-      indexed = c.take.ensures.indexed;
-      ordered = k.ordered;
-      ranks = k.ranks;
-      waits = k.waits ∙ sym (ap length (waiting-same eq rows rest heap ranks t.next r moves k.parts waits));
-      room =
-          record {
-            entries = (let a = room.entries in let b = c.take.ensures.room in omega (arith, a, b));
-            numbers = (let a = room.numbers in let b = c.take.ensures.numbers_room in omega (arith, a, b));
-            heap = room.heap;
-            line = (let a = room.line in omega (arith, a, unranks));
-            ranks = (let a = room.ranks in omega (arith, a, unranks));
-            aside = (let a = room.aside in omega (arith, a, unranks));
-            next = (let a = room.next in omega (arith, a, fewer));
-          };
-    }
+    (
+      record {
+        parts = without eq rows rest heap ranks t.next r moves k.parts laws;
+        indexed = c.take.ensures.indexed;
+        ordered = k.ordered;
+        ranks = k.ranks;
+        waits = k.waits ∙ sym (ap length (waiting-same eq rows rest heap ranks t.next r moves k.parts waits));
+        room =
+            record {
+              entries = (let a = room.entries in let b = c.take.ensures.room in omega (arith, a, b));
+              numbers = (let a = room.numbers in let b = c.take.ensures.numbers_room in omega (arith, a, b));
+              heap = room.heap;
+              line = (let a = room.line in omega (arith, a, unranks));
+              ranks = (let a = room.ranks in omega (arith, a, unranks));
+              aside = (let a = room.aside in omega (arith, a, unranks));
+              next = (let a = room.next in omega (arith, a, fewer));
+            };
+      },
+      c.requires.whole.1
+    )
 
 pub add-requires-clause-absent : goal.add-requires-clause-absent
 add-requires-clause-absent g c =
@@ -144,7 +169,7 @@ returns-else-stays-clause-scheduled g c =
     let same-row : taken.row ≡ r = some-is (sym taken.there ∙ there) in
     let moves : IsPermutation rows (r ∷ rest) = subst (λ (y : Row g.row.T.Denot). IsPermutation rows (y ∷ rest)) same-row taken.moves in
     let waits = set-free eq laws rows heap ranks t.next k.parts c.args.run_at h rest r moves e free in
-    c.add.ensures.scheduled ∙ sym (set-old eq laws rows heap ranks t.next k.parts c.args.run_at h rest r moves e free _ c.max.ensures)
+    c.add.ensures.scheduled ∙ sym (set-old eq laws rows heap ranks t.next k.parts c.args.run_at h rest r moves e free _ c.max-priority.ensures)
 
 pub returns-else-stays-clause-parked : goal.returns-else-stays-clause-parked
 returns-else-stays-clause-parked g c n =

@@ -119,23 +119,26 @@ returns-in-Some-find-clause-whole g c =
     let more = frozen-more eq laws rows heap ranks t.next k.parts rest p c.in-Some.ensures.taken place r there mine w refl refl refl refl refl refl in
     let more-now = ap (λ xs. length (waiting_in xs (t.next + 1))) entries in
     let room = k.room in
-    record {
-      parts = subst (λ xs. AreKept eq xs rest (t.aside.items ++ ranks_in c.push.new.self) (t.next + 1)) (sym entries) (frozen-kept eq laws rows heap ranks t.next k.parts rest p c.in-Some.ensures.taken place r there mine w refl refl refl refl refl refl (t.aside.items ++ ranks_in c.push.new.self) all);
-      indexed = c.write.ensures.indexed;
-      ordered = c.pop_due.ensures.heap;
-      ranks = c.push.ensures.ordered;
-      waits = (let a = k.waits in omega (arith, a, more, more-now));
-      room =
-          record {
-            entries = (let a = room.entries in let b = c.write.ensures.room in omega (arith, a, b));
-            numbers = (let a = room.numbers in let b = ap spare_of c.write.ensures.numbers in omega (arith, a, b));
-            heap = (let a = room.heap in let b = c.in-Some.ensures.len in let d = c.pop_due.ensures.capacity in omega (arith, a, b, d));
-            line = (let a = room.line in let b = c.push.ensures.line_room in omega (arith, a, b, len, unranks, unranks-now));
-            ranks = (let a = room.ranks in let b = c.push.ensures.heap_room in omega (arith, a, b, len, unranks, unranks-now));
-            aside = (let a = room.aside in omega (arith, a, len, unranks, unranks-now));
-            next = (let a = room.next in omega (arith, a, fewer, fewer-now));
-          };
-    }
+    (
+      record {
+        parts = subst (λ xs. AreKept eq xs rest (t.aside.items ++ ranks_in c.push.new.self) (t.next + 1)) (sym entries) (frozen-kept eq laws rows heap ranks t.next k.parts rest p c.in-Some.ensures.taken place r there mine w refl refl refl refl refl refl (t.aside.items ++ ranks_in c.push.new.self) all);
+        indexed = c.write.ensures.indexed;
+        ordered = c.pop_due.ensures.heap;
+        ranks = c.push.ensures.ordered;
+        waits = (let a = k.waits in omega (arith, a, more, more-now));
+        room =
+            record {
+              entries = (let a = room.entries in let b = c.write.ensures.room in omega (arith, a, b));
+              numbers = (let a = room.numbers in let b = ap spare_of c.write.ensures.numbers in omega (arith, a, b));
+              heap = (let a = room.heap in let b = c.in-Some.ensures.len in let d = c.pop_due.ensures.capacity in omega (arith, a, b, d));
+              line = (let a = room.line in let b = c.push.ensures.line_room in omega (arith, a, b, len, unranks, unranks-now));
+              ranks = (let a = room.ranks in let b = c.push.ensures.heap_room in omega (arith, a, b, len, unranks, unranks-now));
+              aside = (let a = room.aside in omega (arith, a, len, unranks, unranks-now));
+              next = (let a = room.next in omega (arith, a, fewer, fewer-now));
+            };
+      },
+      c.requires.whole.1
+    )
 
 pub returns-in-Some-find-clause-first : goal.returns-in-Some-find-clause-first
 returns-in-Some-find-clause-first g c =
@@ -264,22 +267,25 @@ returns-in_default-find-clause-whole g c =
     let ranks = ranks_of t in
     let room = k.room in
     let p : Reverse Place = record { 0 = c.in-Some.due } in
-    record {
-      parts =
-          heap-less eq rows heap (heap_items c.pop_due.new.heap) ranks t.next p k.parts c.in-Some.ensures.taken
-          (none-numbered rows c.in-Some.due.number c.in_default-find.ensures.none);
-      indexed = k.indexed;
-      ordered = c.pop_due.ensures.heap;
-      ranks = k.ranks;
-      waits = k.waits;
-      room =
-          record {
-            entries = room.entries;
-            numbers = room.numbers;
-            heap = (let a = room.heap in let b = c.in-Some.ensures.len in let d = c.pop_due.ensures.capacity in omega (arith, a, b, d));
-            line = room.line;
-            ranks = room.ranks;
-            aside = room.aside;
-            next = room.next;
-          };
-    }
+    (
+      record {
+        parts =
+            heap-less eq rows heap (heap_items c.pop_due.new.heap) ranks t.next p k.parts c.in-Some.ensures.taken
+            (none-numbered rows c.in-Some.due.number c.in_default-find.ensures.none);
+        indexed = k.indexed;
+        ordered = c.pop_due.ensures.heap;
+        ranks = k.ranks;
+        waits = k.waits;
+        room =
+            record {
+              entries = room.entries;
+              numbers = room.numbers;
+              heap = (let a = room.heap in let b = c.in-Some.ensures.len in let d = c.pop_due.ensures.capacity in omega (arith, a, b, d));
+              line = room.line;
+              ranks = room.ranks;
+              aside = room.aside;
+              next = room.next;
+            };
+      },
+      c.requires.whole.1
+    )
