@@ -28,7 +28,7 @@ use Rattle.kube_sched.proofs.Urgent.{first-urgent}
 module _ {M : Type 0} where
   -- The most urgent one, by its place.
 
-  urgent-all : (p : Held M → Bool) (P : Held M → Type 0) (ys : List (Held M)) (z : Held M) → AllByRecursion (λ y. p y ≡ true → P y) ys → most_urgent p ys ≡ Some z → P z
+  pub urgent-all : (p : Held M → Bool) (P : Held M → Type 0) (ys : List (Held M)) (z : Held M) → AllByRecursion (λ y. p y ≡ true → P y) ys → most_urgent p ys ≡ Some z → P z
   urgent-all p P [] z h e = absurd (none-is-some e)
   urgent-all p P (y ∷ ys) z h e = go (p y) refl (most_urgent p ys) (λ x f. urgent-all p P ys x h.1 f) e
     where

@@ -28,3 +28,4 @@ pub mod Finds
 pub mod Backs
 pub mod Nothing
 pub mod Rooms
+pub mod Views

@@ -52,3 +52,28 @@ module _ {M : Type 0} (same : M → M → Bool) (t u : Timetable M) (r : rows_of
     },
     a ∙ k.1,
   )
+
+-- with less room
+pub whole-less : {M : Type 0} (same : M → M → Bool) (t : Timetable M) (n : ℕ) → n ≤ t.spare → IsWhole same t → IsWhole same (record t { spare = n })
+whole-less same t n l k =
+    let room = k.0.room in
+    (
+      record {
+        parts = k.0.parts;
+        indexed = k.0.indexed;
+        ordered = k.0.ordered;
+        ranks = k.0.ranks;
+        waits = k.0.waits;
+        room =
+            record {
+              entries = (let a = room.entries in omega (arith, a, l));
+              numbers = (let a = room.numbers in omega (arith, a, l));
+              heap = (let a = room.heap in omega (arith, a, l));
+              line = (let a = room.line in omega (arith, a, l));
+              ranks = (let a = room.ranks in omega (arith, a, l));
+              aside = (let a = room.aside in omega (arith, a, l));
+              next = (let a = room.next in omega (arith, a, l));
+            };
+      },
+      k.1
+    )

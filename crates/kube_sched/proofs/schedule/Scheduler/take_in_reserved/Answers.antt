@@ -38,3 +38,6 @@ returns-clause-held g c =
     let d = ap (λ (s : Schedule g.row.T.Denot). length s.waiting) c.self.view_is in
     let e = ap (λ (s : Schedule g.row.T.Denot). length s.scheduled) c.self.view_is in
     omega arith
+
+pub returns-clause-parked : goal.returns-clause-parked
+returns-clause-parked g c m = c.set.ensures.parked m ∙ ap (λ (s : Schedule g.row.T.Denot). s.parked m) c.self.view_is
