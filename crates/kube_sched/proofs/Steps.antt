@@ -10,7 +10,7 @@ use Rattle.kube_meta.specs.declared.moment.Moment.{Moment}
 use Rattle.kube_model.specs.Queue.{Request, QueueEvent, Took, Entry, Frozen, entry, entry_of, frozen, goes_before, has_greater_priority, insert_by, priority, sorted_by, distinct, requested_message, waiting, plus, longest_wait}
 use Rattle.kube_model.specs.ByPriority.{as_frozen}
 use Rattle.kube_model.specs.WaitingOnce.{is_frozen}
-use Rattle.kube_model.proofs.Sorted.{length-sorted}
+use Rattle.kube_model.proofs.Sorted.{all-sorted, length-sorted}
 use Rattle.kube_model.proofs.Alls.{or-left, or-right}
 use Rattle.kube_model.proofs.ByRank.{waiting-by_priority}
 use Rattle.kube_model.proofs.Priorities.{priority-requested, priority-settled, priority-took, priority-none}
@@ -398,3 +398,13 @@ module _ {M : Type 0} (same : M → M → Bool) (equiv : IsEquivalence same) whe
       go : (fs : List (Frozen M)) → AllByRecursion (λ f. frozen_in same equiv s.debounce es f.entry.message ≡ Some f) fs → AllByRecursion (λ x. x.priority ≡ priority same es x.message) (map held_of_frozen fs)
       go [] k = tt
       go (f ∷ fs) k = ((frozen-own same equiv s.debounce es f.entry.message f k.0).0.2, go fs k.1)
+
+  -- and so has each in their order
+  pub waiting-priorities : (debounce : ℕ) (es : List (QueueEvent M)) → AllByRecursion (λ f. f.priority ≡ priority same es f.entry.message) (waiting same debounce es)
+  waiting-priorities debounce es =
+      subst (AllByRecursion (λ f. f.priority ≡ priority same es f.entry.message)) (sym (waiting-by_priority same debounce es))
+      (all-sorted has_greater_priority (λ f. f.priority ≡ priority same es f.entry.message) (as_frozen same debounce es) (go (as_frozen same debounce es) (waiting-lists same equiv debounce es).own))
+    where
+      go : (fs : List (Frozen M)) → AllByRecursion (λ f. frozen_in same equiv debounce es f.entry.message ≡ Some f) fs → AllByRecursion (λ f. f.priority ≡ priority same es f.entry.message) fs
+      go [] k = tt
+      go (f ∷ fs) k = ((frozen-own same equiv debounce es f.entry.message f k.0).0.2, go fs k.1)
