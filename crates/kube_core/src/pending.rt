@@ -102,8 +102,8 @@ impl<K: Resource> Pending<K> {
             → Stands K.type_of core self.new (with_requests qs now.0 (record { message = message_of K.type_of request; run_at = run_at.0; priority = request.priority } ∷ [])) rs) }
         ensures err { OnErr result (self.new ≡ self.old) }
     {
-        self.schedule
-            .schedule(alloc, scheduled_at(request, run_at), now)
+        let request = scheduled_at(request, run_at);
+        self.schedule.schedule(alloc, request, now)
     }
 
     /// Takes places for this many requests, beside those that are kept.
@@ -156,8 +156,8 @@ impl<K: Resource> Pending<K> {
         ensures running { self.new.running ≡ self.old.running }
         ensures room { self.old.schedule.spare ≤ self.new.schedule.spare + 1 }
     {
-        self.schedule
-            .schedule_reserved(scheduled_at(request, run_at), now);
+        let request = scheduled_at(request, run_at);
+        self.schedule.schedule_reserved(request, now);
     }
 
     /// Lets what is due wait. It takes no memory.

@@ -24,7 +24,7 @@ returns-clause-stands g c =
     on_ok_weaker c.schedule.result
     (λ h core qs rs s.
     requested type_of core _ _ c.args.request c.args.run_at c.args.now qs rs refl c.schedule.ensures.debounce refl
-    (λ es z. seen type_of u _ (subst (λ r. Scheduled (same_request type_of) u (with_request es r c.args.now)) c.scheduled_at.ensures (h es (unseen type_of c.self.inside.schedule es z))))
+    (λ es z. seen type_of u _ (subst (λ r. Scheduled (same_request type_of) u (with_request es r c.args.now)) c.scheduled_at-request.ensures (h es (unseen type_of c.self.inside.schedule es z))))
     (subst (λ p. Stands type_of core p qs rs) (sym c.self.view_is) s))
     c.schedule.ensures.stands
 

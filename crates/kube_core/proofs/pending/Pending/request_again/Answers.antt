@@ -22,5 +22,5 @@ returns-clause-stands g c core qs rs s =
     let type_of = g.K.Resource.type_of in
     let u = c.schedule_reserved.new.self in
     requested type_of core _ _ c.args.request c.args.run_at c.args.now qs rs refl c.schedule_reserved.ensures.debounce refl
-    (λ es z. seen type_of u _ (subst (λ r. Scheduled (same_request type_of) u (with_request es r c.args.now)) c.scheduled_at.ensures (c.schedule_reserved.ensures.stands es (unseen type_of c.self.inside.schedule es z))))
+    (λ es z. seen type_of u _ (subst (λ r. Scheduled (same_request type_of) u (with_request es r c.args.now)) c.scheduled_at-request.ensures (c.schedule_reserved.ensures.stands es (unseen type_of c.self.inside.schedule es z))))
     (subst (λ p. Stands type_of core p qs rs) (sym c.self.view_is) s)
