@@ -25,9 +25,9 @@ pub record Parts (K D : Type 0) : Type 0 where
   pub running : List (ObjectRef K D × Arc K Global)
   pub limit : ℕ
 
--- a schedule without what looks have put aside or found: what it holds is the same
+-- a schedule without what looks have put aside or found, and without the count of its stale places: what it holds is the same
 abbrev pub without_looks : {M : Type 0} → Schedule M → Schedule M
-without_looks s = record s { parked = λ m. false; head = None }
+without_looks s = record s { stale = 0; parked = λ m. false; head = None }
 
 module _ {K D : Type 0} (type_of : D → ObjectType) where
   -- whether no equal reference is among these

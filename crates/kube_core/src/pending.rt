@@ -119,6 +119,7 @@ impl<K: Resource> Pending<K> {
         let Some(places) = self.running.len().checked_add(n) else {
             return Err(NoMemory);
         };
+        self.schedule.drop_stale(alloc);
         self.schedule.reserve(alloc, places)
     }
 

@@ -29,3 +29,4 @@ pub mod Backs
 pub mod Nothing
 pub mod Rooms
 pub mod Views
+pub mod Anew

@@ -8,11 +8,11 @@ use Rattle.kube_sched.specs.declared.ranks.Rank.{Rank}
 use Rattle.kube_sched.specs.declared.timetable.Place.{Place}
 use Rattle.kube_sched.specs.Tables.{Row, at, listed, of_state, scheduled_in, unranked, upto, waiting_in, IsKept}
 
-distinct-none : {X : Type 0} (eq : X → X → Bool) → IsDistinct eq []
+pub distinct-none : {X : Type 0} (eq : X → X → Bool) → IsDistinct eq []
 unfolding IsDistinct
 distinct-none eq = tt
 
-nothing-in : {X : Type 0} (x : X) → Contains [] x → ⊥
+pub nothing-in : {X : Type 0} (x : X) → Contains [] x → ⊥
 nothing-in x c = let l = c.1 in omega arith
 
 pub no-items : {X : Type 0} (xs : List X) → length xs ≡ 0 → xs ≡ []

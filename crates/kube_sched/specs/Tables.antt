@@ -59,6 +59,13 @@ place_of e = record { 0 = record { time = e.time.0; number = e.number } }
 abbrev pub place_order : Reverse Place → Reverse Place → Ordering
 place_order a b = ordering_then (nat_cmp b.0.time a.0.time) (nat_cmp b.0.number a.0.number)
 
+-- the places of the rows that don't wait
+abbrev pub place_in : {M : Type 0} → Row M → Option (Reverse Place)
+place_in r = if r.1.is_waiting then None else Some (place_of r.1)
+
+abbrev pub places_in : {M : Type 0} → List (Row M) → List (Reverse Place)
+places_in rows = filter_map place_in rows
+
 -- whether it waits and isn't put aside, and its place then
 abbrev pub is_ranked : Entry → Bool
 is_ranked e = e.is_waiting && not e.is_parked
@@ -72,6 +79,13 @@ stands_at q e = is_ranked e && (nat_eq q.priority e.priority && (nat_eq q.order.
 
 abbrev pub has_rank : {M : Type 0} → Rank → Row M → Bool
 has_rank q r = stands_at q r.1
+
+-- the ranks of the rows that have one
+abbrev pub rank_in : {M : Type 0} → Row M → Option Rank
+rank_in r = if is_ranked r.1 then Some (rank_of r.1) else None
+
+abbrev pub all_ranks_in : {M : Type 0} → List (Row M) → List Rank
+all_ranks_in rows = filter_map rank_in rows
 
 -- whether a message is passed over: it was put aside, or its place is among these
 abbrev pub is_over : List Rank → Entry → Bool

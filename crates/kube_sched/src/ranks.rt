@@ -1,6 +1,6 @@
 //! The places of messages that wait. The first of them is found, in whatever order they were put.
 
-ghost use Rattle.std.specs.Prelude.{◌≡◌, ◌+◌, ◌<◌, ◌≤◌, ◌++◌, ◌∷◌, [], true, Some, None, IfSome, OnOk, IsPermutation, slice_get};
+ghost use Rattle.std.specs.Prelude.{◌≡◌, ◌+◌, ◌-◌, ◌^◌, ◌<◌, ◌≤◌, min, ◌++◌, ◌∷◌, [], true, Some, None, IfSome, OnOk, IsPermutation, slice_get};
 ghost use Rattle.std.specs.BinaryHeap.{heap_items, heap_capacity};
 ghost use Rattle.std.specs.List.{AllByRecursion};
 ghost use Rattle.std.specs.VecDeque.{deque_capacity};
@@ -72,6 +72,13 @@ impl Ranks {
         self.line.reserve(for_line)?;
         self.heap.reserve(for_heap)?;
         Ok(())
+    }
+
+    /// How many there are, or the greatest number where they are more.
+    pub fn len(&self) -> usize
+        ensures { result ≡ min (ranks_len self.now) (2 ^ 64 - 1) }
+    {
+        self.line.len().saturating_add(self.heap.len())
     }
 
     /// Whether the first one stands in the line.

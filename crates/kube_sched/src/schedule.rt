@@ -109,6 +109,7 @@ impl<T: Eq + Hash + Drop> Scheduler<T> {
         self.reserve(alloc, places)?;
         self.take_in_reserved(request, now);
         self.times.spare = spare;
+        self.times.drop_stale(alloc);
         Ok(())
     }
 
@@ -162,6 +163,15 @@ impl<T: Eq + Hash + Drop> Scheduler<T> {
         ensures err { OnErr result (self.new ≡ self.old) }
     {
         self.times.reserve(n)
+    }
+
+    /// Drops the places that were left by entries that were set anew or got a greater priority, where they are more than the
+    /// others and there is memory for the rest. What is held stays.
+    pub fn drop_stale(&mut self, alloc: Global)
+        ensures stale { self.new.stale ≤ self.old.stale }
+        ensures same { self.new ≡ record self.old { stale = self.new.stale; head = self.new.head } }
+    {
+        self.times.drop_stale(alloc);
     }
 
     /// For how many more messages memory is taken.

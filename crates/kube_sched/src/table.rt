@@ -4,9 +4,10 @@ ghost use Rattle.std.specs.Prelude.{◌≡◌, ◌&&◌, ◌+◌, ◌<◌, ◌�
 ghost use Rattle.std.specs.List.{AllByRecursion, list_any};
 ghost use Rattle.indexmap.specs.IndexMap.{get, set_value_at, spare};
 ghost use Rattle.indexmap.specs.IndexSet.{spare as spare_of};
-ghost use Rattle.kube_sched.specs.Tables.{EntryAt, HasRankAt, IsIndexed, MessageAt, RowAt, TakenAt, number_of, is_ranked as has_rank, rank_of, stands_at};
+ghost use Rattle.kube_sched.specs.Tables.{EntryAt, HasRankAt, IsIndexed, MessageAt, RowAt, TakenAt, number_of, is_ranked as has_rank, place_of, rank_of, stands_at};
 
 use crate::ranks::Rank;
+use crate::timetable::Place;
 use indexmap::{IndexMap, IndexSet};
 use kube_meta::{Moment, NoMemory};
 use std::alloc::Global;
@@ -52,6 +53,16 @@ impl Entry {
         self.is_ranked()
             && (rank.priority == self.priority
                 && (rank.order.0 == self.order && rank.number == self.number))
+    }
+
+    /// Its place among the times.
+    pub fn place(&self) -> Place
+        ensures { record { 0 = result } ≡ place_of self.now }
+    {
+        Place {
+            time: self.time.0,
+            number: self.number,
+        }
     }
 
     /// Its place among those that wait.

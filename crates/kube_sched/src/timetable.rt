@@ -1,9 +1,9 @@
 //! Messages with their times: by message, by time, and in the order in which they wait.
 
-ghost use Rattle.std.specs.Prelude.{◌≡◌, ◌+◌, ◌<◌, ◌≤◌, ◌^◌, ◌++◌, ◌∷◌, [], false, true, not, is_some, length, Contains, Some, None, IfSome, IfNone, OnOk, OnErr, IsPermutation, if◌then◌else◌, ◌||◌, ◌&&◌, ◌⊎◌, nat_lt, option_copied};
+ghost use Rattle.std.specs.Prelude.{◌≡◌, ◌+◌, ◌<◌, ◌≤◌, ◌^◌, ◌++◌, ◌∷◌, [], false, true, not, is_some, length, Contains, Some, None, IfSome, IfNone, IfOk, OnOk, OnErr, IsPermutation, if◌then◌else◌, ◌||◌, ◌&&◌, ◌⊎◌, nat_lt, option_copied};
 ghost use Rattle.std.specs.BinaryHeap.{heap_items, heap_len, heap_capacity, IsHeap};
 ghost use Rattle.std.specs.Fn.{FnReturnsAt};
-ghost use Rattle.std.specs.List.{AllByRecursion, filter, list_any};
+ghost use Rattle.std.specs.List.{AllByRecursion, cons_option, filter, list_any};
 ghost use Rattle.std.specs.Option.{option_map};
 ghost use Rattle.std.specs.Ordering.{is_lt};
 ghost use Rattle.std.specs.Vec.{vec_capacity, vec_len};
@@ -12,8 +12,8 @@ ghost use Rattle.indexmap.specs.IndexMap.{get, spare};
 ghost use Rattle.indexmap.specs.IndexSet.{spare as spare_of};
 ghost use Rattle.kube_model.specs.Queue.{sorted_by};
 ghost use Rattle.kube_sched.specs.Held.{comes_before, is_due, is_later, is_of, raised, requested_with};
-ghost use Rattle.kube_sched.specs.Ranks.{ranks_len};
-ghost use Rattle.kube_sched.specs.Tables.{EqualAt, IsHead, MessageAt, RankAt, Row, has_rank, is_over, is_ranked, place_order, rank_of};
+ghost use Rattle.kube_sched.specs.Ranks.{IsOrdered, ranks_in, ranks_len};
+ghost use Rattle.kube_sched.specs.Tables.{EqualAt, IsHead, MessageAt, RankAt, Row, all_ranks_in, has_rank, is_over, is_ranked, place_of, place_order, places_in, rank_of};
 ghost use Rattle.kube_sched.specs.Timetables.{EqualFails, HoldsSame, IsKept, IsWhole, NonePasses, TakesAt, TakesFirst, TakesPassing, first_of, first_rank, head_of, is_parked_in, rows_of, scheduled_of, stale_of, waiting_of};
 
 use crate::counting::Steps;
@@ -83,6 +83,40 @@ fn stays(entry: &Entry, run_at: Moment) -> bool
     ensures { result ≡ (entry.now.is_waiting || nat_lt entry.now.time.0 run_at.0) }
 {
     entry.is_waiting || entry.time.0 < run_at.0
+}
+
+/// Puts the place of an entry, where it doesn't wait.
+///
+/// # Errors
+///
+/// `NoMemory` where there is none for it.
+fn put_place(heap: &mut BinaryHeap<Reverse<Place>>, entry: &Entry) -> Result<(), NoMemory>
+    ensures items { OnOk result (IsPermutation (cons_option (if entry.now.is_waiting then None else Some (place_of entry.now)) (heap_items heap.old)) (heap_items heap.new)) }
+    ensures ordered { OnOk result (IsHeap place_order (heap_items heap.old) → IsHeap place_order (heap_items heap.new)) }
+    ensures len { OnOk result (heap_len heap.new ≤ heap_len heap.old + 1) }
+    ensures capacity { heap_capacity heap.old ≤ heap_capacity heap.new }
+{
+    if entry.is_waiting {
+        return Ok(());
+    }
+    heap.push(Reverse(entry.place()))?;
+    Ok(())
+}
+
+/// Puts the place of an entry among those that wait, where it waits and isn't put aside.
+fn put_rank(ranks: &mut Ranks, entry: &Entry)
+    requires ordered { IsOrdered ranks.old }
+    requires line_room { ranks_len ranks.old < deque_capacity ranks.old.line }
+    requires heap_room { ranks_len ranks.old < heap_capacity ranks.old.heap }
+    ensures ordered { IsOrdered ranks.new }
+    ensures items { IsPermutation (cons_option (if is_ranked entry.now then Some (rank_of entry.now) else None) (ranks_in ranks.old)) (ranks_in ranks.new) }
+    ensures len { ranks_len ranks.new ≤ ranks_len ranks.old + 1 }
+    ensures line_room { deque_capacity ranks.new.line ≡ deque_capacity ranks.old.line }
+    ensures heap_room { heap_capacity ranks.old.heap ≤ heap_capacity ranks.new.heap }
+{
+    if entry.is_ranked() {
+        ranks.push(entry.rank());
+    }
 }
 
 impl<T: Eq + Hash + Drop> Timetable<T> {
@@ -574,6 +608,105 @@ impl<T: Eq + Hash + Drop> Timetable<T> {
             self.table.write(place, entry);
             self.ranks.push(entry.rank());
         }
+    }
+
+    /// The places of the entries that don't wait, with room for as many more as are spare.
+    ///
+    /// # Errors
+    ///
+    /// `NoMemory` where there is none for them.
+    fn times_anew(&self, alloc: Global) -> Result<BinaryHeap<Reverse<Place>>, NoMemory>
+        ensures items { IfOk result (λ h. IsPermutation (places_in (rows_of self.now)) (heap_items h)) }
+        ensures ordered { IfOk result (λ h. IsHeap place_order (heap_items h)) }
+        ensures room { IfOk result (λ h. heap_len h + self.now.spare ≤ heap_capacity h) }
+    {
+        let count = self.table.entries.len();
+        let Some(room) = count.checked_add(self.spare) else {
+            return Err(NoMemory);
+        };
+        let mut heap = BinaryHeap::with_capacity(alloc, room)?;
+        for place in 0..count {
+            put_place(&mut heap, &self.table.entry_at(place))?;
+        }
+        Ok(heap)
+    }
+
+    /// The places of the entries that wait and aren't put aside, with room for all entries and as many more as are spare.
+    ///
+    /// # Errors
+    ///
+    /// `NoMemory` where there is none for them.
+    fn ranks_anew(&self, alloc: Global) -> Result<Ranks, NoMemory>
+        ensures items { IfOk result (λ r. IsPermutation (all_ranks_in (rows_of self.now)) (ranks_in r)) }
+        ensures ordered { IfOk result (λ r. IsOrdered r) }
+        ensures len { IfOk result (λ r. ranks_len r ≤ length (rows_of self.now)) }
+        ensures line_room { IfOk result (λ r. length (rows_of self.now) + (length (rows_of self.now) + self.now.spare) ≤ deque_capacity r.line) }
+        ensures heap_room { IfOk result (λ r. length (rows_of self.now) + (length (rows_of self.now) + self.now.spare) ≤ heap_capacity r.heap) }
+    {
+        let count = self.table.entries.len();
+        let Some(more) = count.checked_add(self.spare) else {
+            return Err(NoMemory);
+        };
+        let Some(room) = count.checked_add(more) else {
+            return Err(NoMemory);
+        };
+        let mut ranks = Ranks::new(alloc);
+        ranks.reserve(room)?;
+        for place in 0..count {
+            put_rank(&mut ranks, &self.table.entry_at(place));
+        }
+        Ok(ranks)
+    }
+
+    /// Drops the stale places of the heap, where they are more than the others and there is memory for the rest.
+    fn drop_stale_times(&mut self, alloc: Global)
+        requires whole { IsWhole T.eq self.old }
+        ensures whole { IsWhole T.eq self.new }
+        ensures rest { self.new ≡ record self.old { heap = self.new.heap } }
+        ensures stale { stale_of self.new ≤ stale_of self.old }
+    {
+        let live = self.table.entries.len().saturating_sub(self.waits);
+        if self.heap.len().saturating_sub(live) <= live {
+            return;
+        }
+        let Ok(heap) = self.times_anew(alloc) else {
+            return;
+        };
+        let size = heap.len();
+        let old = self.heap.len();
+        if size < old {
+            self.heap = heap;
+        }
+    }
+
+    /// Drops the stale places of those that wait, where they are more than the messages that wait and there is memory for the rest.
+    fn drop_stale_ranks(&mut self, alloc: Global)
+        requires whole { IsWhole T.eq self.old }
+        ensures whole { IsWhole T.eq self.new }
+        ensures rest { self.new ≡ record self.old { ranks = self.new.ranks } }
+    {
+        let places = self.ranks.len();
+        if places.saturating_sub(self.waits) <= self.waits {
+            return;
+        }
+        let Ok(ranks) = self.ranks_anew(alloc) else {
+            return;
+        };
+        let size = ranks.len();
+        if size < places {
+            self.ranks = ranks;
+        }
+    }
+
+    /// Drops the stale places, where they are more than the others and there is memory for the rest.
+    pub fn drop_stale(&mut self, alloc: Global)
+        requires whole { IsWhole T.eq self.old }
+        ensures whole { IsWhole T.eq self.new }
+        ensures rest { self.new ≡ record self.old { heap = self.new.heap; ranks = self.new.ranks } }
+        ensures stale { stale_of self.new ≤ stale_of self.old }
+    {
+        self.drop_stale_times(alloc);
+        self.drop_stale_ranks(alloc);
     }
 
     /// Whether an equal message waits.
