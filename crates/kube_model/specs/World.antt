@@ -94,6 +94,9 @@ pub record World (O B : Type 0) : Type 0 where
 abbrev pub feed_of : {O B : Type 0} → World O B → ℕ → Feed
 feed_of w source = unwrap_or (slice_get w.feeds source) Streamed
 
--- the priority that was set for a source, if one was
+-- the priority that was set for a source, if one was, where these were set
+abbrev pub priority_at : List (Option ℕ) → ℕ → Option ℕ
+priority_at priorities source = unwrap_or (slice_get priorities source) None
+
 abbrev pub priority_of : {O B : Type 0} → World O B → ℕ → Option ℕ
-priority_of w source = unwrap_or (slice_get w.priorities source) None
+priority_of w source = priority_at w.priorities source
