@@ -40,6 +40,9 @@ set_at [] (suc source) priority = None ∷ set_at [] source priority
 set_at (set ∷ sets) zero priority = Some priority ∷ sets
 set_at (set ∷ sets) (suc source) priority = set ∷ set_at sets source priority
 
+abbrev pub with_priority_of : {R S B : Type 0} → Asking R S B → ℕ → ℕ → Asking R S B
+with_priority_of a source priority = record a { priorities = set_at a.priorities source priority }
+
 abbrev pub with_marks : {R S B : Type 0} → Asking R S B → List Bool → List Bool → Asking R S B
 with_marks a quiet dry = record a { kept = record a.kept { quiet = quiet; dry = dry } }
 
