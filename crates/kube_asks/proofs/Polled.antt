@@ -1,5 +1,5 @@
 -- What a poll of a source makes of what the sources stand for.
-use Rattle.std.proofs.Common.{◌≡◌, ◌≢◌, ℕ, suc, ◌<◌, ◌==◌, Bool, true, false, not, List, [], ◌∷◌, ◌++◌, Option, refl, sym, ap, subst, ◌∙◌, arith}
+use Rattle.std.proofs.Common.{◌≡◌, ◌≢◌, ℕ, zero, suc, ◌<◌, ◌==◌, Bool, true, false, not, List, [], ◌∷◌, ◌++◌, Option, refl, sym, ap, subst, ◌∙◌, arith}
 use Rattle.std.proofs.lemmas.Bool.{eq-eqb, eqb-true, true≢false}
 use Rattle.kube_meta.specs.Reference.{ObjectType}
 use Rattle.kube_meta.specs.declared.metadata.ObjectMeta.{ObjectMeta}
@@ -8,8 +8,16 @@ use Rattle.kube_model.specs.History.{Dated, Exchange, dated_of}
 use Rattle.kube_model.specs.Fits.{IsFitting}
 use Rattle.kube_watch.specs.Polls.{dated_now}
 use Rattle.kube_asks.specs.Sources.{IsRelatedNext, IsRootNext, IsSamePassed, feed_at, is_stream, with_priority}
-use Rattle.kube_asks.specs.Asking.{IsWorldOf, SourcesStand, of_source}
+use Rattle.kube_asks.specs.Asking.{IsWorldOf, SourcesStand, IsPolledAt, IsPolledWith, IsPlacePolledWith, of_source}
 use Rattle.kube_asks.proofs.FitLemmas.{root-fits, related-fits, feed-root, feed-related, priority-is, own-push, other-push}
+
+-- which source was polled stays so once its priority is set
+pub polled-with : {O R S : Type 0} (root_polls : R → List (Dated O) → ℕ → Exchange O → R → Type 0) (related_polls : S → ℕ → List (Dated O) → ℕ → Exchange O → S → Type 0) (priorities : List (Option ℕ))
+    (ds : List (Dated O)) (at : ℕ) (x y : Exchange O) (root root' : R) (related related' : S) (source : ℕ) → y ≡ with_priority (priority_at priorities source) x
+    → IsPolledAt root_polls related_polls ds at x root related root' related' source
+    → IsPolledAt (IsPolledWith (priority_at priorities 0) root_polls) (IsPlacePolledWith priorities related_polls) ds at y root related root' related' source
+polled-with root_polls related_polls priorities ds at x y root root' related related' zero e p = ((x, e, p.0), p.1)
+polled-with root_polls related_polls priorities ds at x y root root' related related' (suc place) e p = ((x, e, p.0), p.1)
 
 module _ {O B : Type 0} (w : World O B) (t : ObjectType) (meta : O → ObjectMeta) (feed : Feed) (feeds : List (Option Settings)) (priorities : List (Option ℕ))
     (delay : B → ℕ → Option ℕ) (delayed : B → ℕ → B) (restarted : B → B) (world : IsWorldOf w t meta feed feeds priorities delay delayed restarted) (ds : List (Dated O)) (at : ℕ) (x : Exchange O) where

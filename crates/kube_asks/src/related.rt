@@ -7,8 +7,9 @@ use std::alloc::Global;
 
 /// A source whose objects are mapped to references of the root's type (the triggers of kube-runtime's controller).
 ///
-/// What it stands for is told by its own exchanges alone. It doesn't know its number: what it stands for is the same
-/// whatever the source of an exchange.
+/// What it stands for is told by its own exchanges alone. It knows neither its number nor the priority that was set for it:
+/// what it stands for is the same whatever the source of an exchange and whatever priority is set on its requests. Its own
+/// have priority 0.
 pub trait Related<K: Resource>: Drop {
     ghost use Rattle.std.specs.Prelude.{ℕ, List, Option, Some, Err, ◌∷◌, [], ◌++◌, IfOk, IsErrOf, ◌≡◌, ⊤};
     ghost use Rattle.kube_model.specs.World.{Settings};

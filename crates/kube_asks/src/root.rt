@@ -52,7 +52,8 @@ pub trait RootSource: Drop {
     fn is_queue(&self) -> bool
         ensures { result ≡ is_queue (feed self.now) };
 
-    /// Makes the exchange that is next for it, at a moment. Its source is 0.
+    /// Makes the exchange that is next for it, at a moment. Its source is 0, and its requests have priority 0, or their own
+    /// where they came on a queue. What it stands for is the same whatever priority is set on them.
     ///
     /// Errors: `Unnamed` where an item of that exchange must become a reference and has no name; `NoMemory`. After one
     /// only that, and nothing is asked.

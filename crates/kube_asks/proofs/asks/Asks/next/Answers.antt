@@ -1,9 +1,9 @@
 use Rattle.std.proofs.Common.{◌≡◌, ℕ, ◌<◌, ◌+◌, ◌++◌, [], ◌∷◌, Some, not, nat_lt, slice_index, length, sym, ap, subst, ◌∙◌}
-use Rattle.kube_model.specs.World.{feed_of, is_watched}
+use Rattle.kube_model.specs.World.{feed_of, is_watched, priority_at}
 use Rattle.kube_turn.specs.Views.{exchange_of}
 use Rattle.kube_watch.specs.Polls.{dated_now}
 use Rattle.kube_asks.specs.Kept.{AskKept, noted, is_root_queue, spent_at, total}
-use Rattle.kube_asks.specs.Asking.{Asking, SourcesStand, IsWorldOf, IsPolledAt, IsBrokenAt, IfUnnamed}
+use Rattle.kube_asks.specs.Asking.{Asking, SourcesStand, IsWorldOf, IsPolledAt, IsPolledWith, IsPlacePolledWith, IsBrokenAt, IfUnnamed}
 use Rattle.std.proofs.lemmas.Result.{err_from_is_err_and}
 use Rattle.kube_asks.specs.declared.asks.AskFault.{AskFault}
 use Rattle.kube_asks.specs.declared.asks.AskFault.TheVariants.{NoMemory, Unnamed, Spent}
@@ -69,10 +69,10 @@ returns-clause-polled g c ds h =
     let sources' = subst (λ (a : Asking g.row.R.Denot g.row.S.Denot g.row.B.Denot). SourcesStand (g.R.RootSource.stands a.root) (g.S.RelatedSet.stands a.related) (length (g.S.RelatedSet.feeds a.related)) ds) (sym c.self.view_is) h in
     let root : c.poll.new.self.root ≡ c.self-2.inside.root = sym (ap (λ (a : Asking g.row.R.Denot g.row.S.Denot g.row.B.Denot). a.root) c.self-2.view_is ∙ c.note.ensures.root) in
     let related : c.poll.new.self.related ≡ c.self-2.inside.related = sym (ap (λ (a : Asking g.row.R.Denot g.row.S.Denot g.row.B.Denot). a.related) c.self-2.view_is ∙ c.note.ensures.related) in
-    subst (λ s. IsPolledAt g.R.RootSource.polls g.S.RelatedSet.polls ds c.args.now.0 x c.args.self.now.root c.args.self.now.related c.self-2.inside.root c.self-2.inside.related s) (sym from)
-    (subst (λ r. IsPolledAt g.R.RootSource.polls g.S.RelatedSet.polls ds c.args.now.0 x c.args.self.now.root c.args.self.now.related r c.self-2.inside.related c.in-Some.source) root
-    (subst (λ r. IsPolledAt g.R.RootSource.polls g.S.RelatedSet.polls ds c.args.now.0 x c.args.self.now.root c.args.self.now.related c.poll.new.self.root r c.in-Some.source) related
-    (subst (λ (a : Asking g.row.R.Denot g.row.S.Denot g.row.B.Denot). IsPolledAt g.R.RootSource.polls g.S.RelatedSet.polls ds c.args.now.0 x a.root a.related c.poll.new.self.root c.poll.new.self.related c.in-Some.source) c.self.view_is
+    subst (λ s. IsPolledAt (IsPolledWith (priority_at c.args.self.now.priorities 0) g.R.RootSource.polls) (IsPlacePolledWith c.args.self.now.priorities g.S.RelatedSet.polls) ds c.args.now.0 x c.args.self.now.root c.args.self.now.related c.self-2.inside.root c.self-2.inside.related s) (sym from)
+    (subst (λ r. IsPolledAt (IsPolledWith (priority_at c.args.self.now.priorities 0) g.R.RootSource.polls) (IsPlacePolledWith c.args.self.now.priorities g.S.RelatedSet.polls) ds c.args.now.0 x c.args.self.now.root c.args.self.now.related r c.self-2.inside.related c.in-Some.source) root
+    (subst (λ r. IsPolledAt (IsPolledWith (priority_at c.args.self.now.priorities 0) g.R.RootSource.polls) (IsPlacePolledWith c.args.self.now.priorities g.S.RelatedSet.polls) ds c.args.now.0 x c.args.self.now.root c.args.self.now.related c.poll.new.self.root r c.in-Some.source) related
+    (subst (λ (a : Asking g.row.R.Denot g.row.S.Denot g.row.B.Denot). IsPolledAt (IsPolledWith (priority_at a.priorities 0) g.R.RootSource.polls) (IsPlacePolledWith a.priorities g.S.RelatedSet.polls) ds c.args.now.0 x a.root a.related c.poll.new.self.root c.poll.new.self.related c.in-Some.source) c.self.view_is
     (c.in_ok-exchange.ensures.polled ds sources'))))
 
 unnamed-weaker : (f : AskFault) (P Q : ℕ → Type 0) → ((s : ℕ) → P s → Q s) → IfUnnamed f P → IfUnnamed f Q
