@@ -45,7 +45,7 @@ owed-form named version settings own call answer raw owes ok c a =
 
 -- Requests of a root for which no priority was set.
 module _ {V : Type 0} (t : ObjectType) (meta : V → ObjectMeta) where
-  messages-are : (os : List V) → messages_of (map (request_of t meta) os) ≡ map (updated_of t meta) os
+  pub messages-are : (os : List V) → messages_of (map (request_of t meta) os) ≡ map (updated_of t meta) os
   messages-are [] = refl
   messages-are (o ∷ os) = ap (λ ms. updated_of t meta o ∷ ms) (messages-are os)
 
@@ -53,7 +53,7 @@ module _ {V : Type 0} (t : ObjectType) (meta : V → ObjectMeta) where
   messages-if true os ps = messages-are os
   messages-if false os ps = messages-are ps
 
-  none-fit : (os : List V) → PrioritiesFit false None (map (request_of t meta) os)
+  pub none-fit : (os : List V) → PrioritiesFit false None (map (request_of t meta) os)
   none-fit [] = tt
   none-fit (o ∷ os) = (refl, none-fit os)
 
