@@ -51,12 +51,12 @@ module _ (set : Option ℕ) where
     next (x ∷ xs) zero d v (q ∷ qs) h e k =
         let head : f x ≡ q = cc in
         let tail : map f xs ≡ qs = cc in
-        ap₂ (λ a as. a ∷ as) (k ∙ ap passed head) tail
+        ap₂ (λ b bs. b ∷ bs) (k ∙ ap passed head) tail
     next (x ∷ xs) (suc i) d v [] h e k = absurd (cc)
     next (x ∷ xs) (suc i) d v (q ∷ qs) h e k =
         let head : f x ≡ passed q = cc in
         let tail : map f xs ≡ passed_to i qs = cc in
-        ap₂ (λ a as. a ∷ as) head (next xs i d v qs (omega arith) tail k)
+        ap₂ (λ b bs. b ∷ bs) head (next xs i d v qs (omega arith) tail k)
 
     pub passed-more : (xs : List R) (i : ℕ) (d v : R) (qs : List Prioritized) → i < length xs → map f xs ≡ passed_to i qs → f v ≡ passed (f (get_or xs i d)) → map f (slice_set xs i v) ≡ passed_to (i + 1) qs
     passed-more xs i d v qs h e k = let n : suc i ≡ i + 1 = omega arith in subst (λ m. map f (slice_set xs i v) ≡ passed_to m qs) n (next xs i d v qs h e k)

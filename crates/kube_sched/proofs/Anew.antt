@@ -91,7 +91,11 @@ module _ {M : Type 0} where
     -- the places of the rows alone
     pub times-kept : (heap' : List (Reverse Place)) → IsPermutation (places_in rows) heap' → IsKept same rows heap' ranks next
     times-kept heap' moves = record {
-      numbers = k.numbers; orders = k.orders; unique = k.unique; below = k.below; level = k.level;
+      numbers = k.numbers;
+      orders = k.orders;
+      unique = k.unique;
+      below = k.below;
+      level = k.level;
       bounded = all-by-contains (λ p. p.0.number < next) heap' (λ p c. let g = of p c in subst (λ (q : Reverse Place). q.0.number < next) (sym g.1.1) (all-contains (λ (s : Row M). (s.1.number < next) × (s.1.order < next)) rows g.0.from k.below g.0.among).0);
       different =
           IsDistinct-IsPermutation nat_eq nat_eq_equiv.symm (map (λ (p : Reverse Place). p.0.number) (places_in rows)) (map (λ (p : Reverse Place). p.0.number) heap')

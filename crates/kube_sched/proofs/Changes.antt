@@ -77,7 +77,15 @@ module _ {M : Type 0} (same : M → M → Bool) where
   pub ranked-by : (rows : List (Row M)) (heap : List (Reverse Place)) (ranks ranks' : List Rank) (next : ℕ) → IsKept same rows heap ranks next
       → ((s : Row M) → Contains rows s → is_ranked s.1 ≡ true → Contains ranks (rank_of s.1) → Contains ranks' (rank_of s.1)) → IsKept same rows heap ranks' next
   ranked-by rows heap ranks ranks' next k f = record {
-    numbers = k.numbers; orders = k.orders; unique = k.unique; below = k.below; level = k.level; bounded = k.bounded; different = k.different; live = k.live; placed = k.placed;
+    numbers = k.numbers;
+    orders = k.orders;
+    unique = k.unique;
+    below = k.below;
+    level = k.level;
+    bounded = k.bounded;
+    different = k.different;
+    live = k.live;
+    placed = k.placed;
     ranked = λ s c h. f s c h (k.ranked s c h);
     counted = k.counted;
   }
@@ -121,11 +129,16 @@ module _ {M : Type 0} (same : M → M → Bool) where
 
     pub later : IsKept same rows heap ranks (next + 1)
     later = record {
-      numbers = k.numbers; orders = k.orders; unique = k.unique;
+      numbers = k.numbers;
+      orders = k.orders;
+      unique = k.unique;
       below = all-map (λ (r : Row M). (r.1.number < next) × (r.1.order < next)) (λ r. (r.1.number < next + 1) × (r.1.order < next + 1)) (λ r l. (let a = l.0 in omega arith, let a = l.1 in omega arith)) rows k.below;
       level = k.level;
       bounded = all-map (λ p. p.0.number < next) (λ p. p.0.number < next + 1) (λ p l. omega arith) heap k.bounded;
-      different = k.different; live = k.live; placed = k.placed; ranked = k.ranked;
+      different = k.different;
+      live = k.live;
+      placed = k.placed;
+      ranked = k.ranked;
       counted = k.counted ∙ sym (ap (λ n. n + length (scheduled_in rows (next + 1))) (ap length (listed-next true)) ∙ ap (λ n. length (waiting_in rows next) + n) (ap length (listed-next false)));
     }
 
@@ -135,7 +148,11 @@ module _ {M : Type 0} (same : M → M → Bool) where
       → IsPermutation (p ∷ heap) heap' → p.0.number < next → AllByRecursion (λ j. nat_eq p.0.number j ≡ false) (map (λ (q : Reverse Place). q.0.number) heap)
       → ((r : Row M) → Contains rows r → p.0.number ≡ r.1.number → ⊥) → IsKept same rows heap' ranks next
   heap-more rows heap heap' ranks next p k moves below other gone = record {
-    numbers = k.numbers; orders = k.orders; unique = k.unique; below = k.below; level = k.level;
+    numbers = k.numbers;
+    orders = k.orders;
+    unique = k.unique;
+    below = k.below;
+    level = k.level;
     bounded = all-permuted (λ (q : Reverse Place). q.0.number < next) (p ∷ heap) heap' moves (below, k.bounded);
     different =
         IsDistinct-IsPermutation nat_eq nat_eq_equiv.symm (map (λ (q : Reverse Place). q.0.number) (p ∷ heap)) (map (λ (q : Reverse Place). q.0.number) heap') (IsPermutation-map (λ (q : Reverse Place). q.0.number) (p ∷ heap) heap' moves)
@@ -153,7 +170,11 @@ module _ {M : Type 0} (same : M → M → Bool) where
   pub heap-less : (rows : List (Row M)) (heap heap' : List (Reverse Place)) (ranks : List Rank) (next : ℕ) (p : Reverse Place) → IsKept same rows heap ranks next
       → IsPermutation heap (p ∷ heap') → ((r : Row M) → Contains rows r → p.0.number ≡ r.1.number → ⊥) → IsKept same rows heap' ranks next
   heap-less rows heap heap' ranks next p k moves gone = record {
-    numbers = k.numbers; orders = k.orders; unique = k.unique; below = k.below; level = k.level;
+    numbers = k.numbers;
+    orders = k.orders;
+    unique = k.unique;
+    below = k.below;
+    level = k.level;
     bounded = (all-permuted (λ (q : Reverse Place). q.0.number < next) heap (p ∷ heap') moves k.bounded).1;
     different =
         IsDistinct-tail nat_eq p.0.number (map (λ (q : Reverse Place). q.0.number) heap')

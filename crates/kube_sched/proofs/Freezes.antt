@@ -214,11 +214,11 @@ module _ {M : Type 0} (same : M → M → Bool) (equiv : IsEquivalence same) (ro
     by-cases : (b c : Bool) → list_any (is_of same h.message) (waiting_in rows next) ≡ b → list_any (is_earlier same h.message run_at) (scheduled_in rows next) ≡ c
         → requested_with same run_at h (waiting_in rows next) (scheduled_in rows next)
         ≡ (if b then scheduled_in rows next else if c then raised same h.message h.priority (scheduled_in rows next)
-           else filter (λ x. not (same x.message h.message)) (scheduled_in rows next) ++ record h { priority = max (priority_among same h.message (scheduled_in rows next)) h.priority } ∷ [])
+        else filter (λ x. not (same x.message h.message)) (scheduled_in rows next) ++ record h { priority = max (priority_among same h.message (scheduled_in rows next)) h.priority } ∷ [])
     by-cases b c w e =
         ap (λ b. if b then scheduled_in rows next else set_in same run_at h (scheduled_in rows next)) w
         ∙ ap (λ c. if b then scheduled_in rows next else if c then raised same h.message h.priority (scheduled_in rows next)
-           else filter (λ x. not (same x.message h.message)) (scheduled_in rows next) ++ record h { priority = max (priority_among same h.message (scheduled_in rows next)) h.priority } ∷ []) e
+        else filter (λ x. not (same x.message h.message)) (scheduled_in rows next) ++ record h { priority = max (priority_among same h.message (scheduled_in rows next)) h.priority } ∷ []) e
 
     module _ (others : List (Row M)) (r : Row M) (moves : IsPermutation rows (r ∷ others)) (e : same h.message r.0 ≡ true) where
       pub set-stays : r.1.is_waiting || nat_lt r.1.time.0 run_at.0 ≡ true → raised same h.message h.priority (scheduled_in rows next) ≡ requested_with same run_at h (waiting_in rows next) (scheduled_in rows next)

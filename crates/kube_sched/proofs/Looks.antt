@@ -109,11 +109,10 @@ module _ {M : Type 0} where
   -- no row has a rank with a number that none has
   pub none-ranked : (rows : List (Row M)) (q : Rank) → list_any (nat_eq q.number) (map number_of rows) ≡ false → AllByRecursion (λ r. has_rank q r ≡ false) rows
   none-ranked [] q h = tt
-  none-ranked (r ∷ rows) q h =
-      (
-        last-false (is_ranked r.1) (nat_eq q.priority r.1.priority) (nat_eq q.order.0 r.1.order) (nat_eq q.number r.1.number) (or-left (nat_eq q.number r.1.number) (list_any (nat_eq q.number) (map number_of rows)) h),
-        none-ranked rows q (or-right (nat_eq q.number r.1.number) (list_any (nat_eq q.number) (map number_of rows)) h)
-      )
+  none-ranked (r ∷ rows) q h = (
+    last-false (is_ranked r.1) (nat_eq q.priority r.1.priority) (nat_eq q.order.0 r.1.order) (nat_eq q.number r.1.number) (or-left (nat_eq q.number r.1.number) (list_any (nat_eq q.number) (map number_of rows)) h),
+    none-ranked rows q (or-right (nat_eq q.number r.1.number) (list_any (nat_eq q.number) (map number_of rows)) h),
+  )
 
   -- nor where that of its number hasn't
   module _ (same : M → M → Bool) (rows : List (Row M)) (heap : List (Reverse Place)) (ranks : List Rank) (next : ℕ) (k : IsKept same rows heap ranks next) (q : Rank) (place : ℕ) (r : Row M) (there : slice_get rows place ≡ Some r)

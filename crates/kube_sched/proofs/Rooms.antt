@@ -56,8 +56,7 @@ module _ {M : Type 0} (same : M → M → Bool) (t u : Timetable M) (r : rows_of
 -- with less room
 pub whole-less : {M : Type 0} (same : M → M → Bool) (t : Timetable M) (n : ℕ) → n ≤ t.spare → IsWhole same t → IsWhole same (record t { spare = n })
 whole-less same t n l k =
-    let room = k.0.room in
-    (
+    let room = k.0.room in (
       record {
         parts = k.0.parts;
         indexed = k.0.indexed;
@@ -75,5 +74,5 @@ whole-less same t n l k =
               next = (let a = room.next in omega (arith, a, l));
             };
       },
-      k.1
+      k.1,
     )

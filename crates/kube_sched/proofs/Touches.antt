@@ -157,11 +157,10 @@ module _ {M : Type 0} (same : M → M → Bool) where
 
     -- what is passed over
     lookups : (m : M) → (lookup (same m) rows ≡ cond (same m r.0) (Some r.1) (lookup (same m) rest)) × (lookup (same m) anew ≡ cond (same m r.0) (Some w) (lookup (same m) rest))
-    lookups m =
-        (
-          sym (lookup-moved same equiv rows (r ∷ rest) at_place.was (messages-apart same rows rest heap ranks next r at_place.was k equiv) m),
-          lookup-moved same equiv (x ∷ rest) anew at_place.is (keys-anew) m
-        )
+    lookups m = (
+      sym (lookup-moved same equiv rows (r ∷ rest) at_place.was (messages-apart same rows rest heap ranks next r at_place.was k equiv) m),
+      lookup-moved same equiv (x ∷ rest) anew at_place.is (keys-anew) m,
+    )
       where
         keys-anew : IsDistinct same (keys_of anew)
         keys-anew =

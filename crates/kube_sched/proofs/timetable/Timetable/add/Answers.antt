@@ -34,8 +34,7 @@ returns-clause-whole g c =
     let entries = c.add.ensures.entries in
     let scheduled = ap (λ xs. length (scheduled_in xs (t.next + 1))) entries ∙ more-length eq laws rows heap ranks t.next k.parts c.args.held.message e c.requires.absent refl refl refl in
     let unranks = ap unranked entries ∙ more-unranked eq laws rows heap ranks t.next k.parts c.args.held.message e c.requires.absent refl refl refl in
-    let one = c.requires.room in
-    (
+    let one = c.requires.room in (
       record {
         parts = subst (λ xs. AreKept eq xs (heap_items c.push.new.self) ranks (t.next + 1)) (sym entries) (more-kept eq laws rows heap ranks t.next k.parts c.args.held.message e c.requires.absent refl refl refl (heap_items c.push.new.self) put);
         indexed = c.add.ensures.indexed;
@@ -53,7 +52,7 @@ returns-clause-whole g c =
               next = (let a = room.next in omega (arith, a, scheduled, one));
             };
       },
-      c.requires.whole.1
+      c.requires.whole.1,
     )
 
 pub returns-clause-waiting : goal.returns-clause-waiting

@@ -13,8 +13,7 @@ returns-clause-whole g c =
     let unranks = nothing-unranked c.clear.new.self.entries rows in
     let schedules = ap length (nothing-scheduled c.clear.new.self.entries t.next rows) in
     let ranks = c.clear-4.ensures.len in
-    let aside = c.clear-5.ensures.len in
-    (
+    let aside = c.clear-5.ensures.len in (
       record {
         parts = nothing-kept g.T.PartialEq.eq c.clear.new.self.entries (heap_items c.clear-3.new.self) (c.clear-5.new.self.items ++ ranks_in c.clear-4.new.self) t.next rows c.clear-3.ensures.items;
         indexed = record { numbered = c.clear-2.ensures.empty ∙ sym (ap (map number_of) rows); apart = c.clear-2.ensures.unique; unique = c.clear.ensures.unique };
@@ -32,7 +31,7 @@ returns-clause-whole g c =
               next = (let a = room.next in omega (arith, a, schedules));
             };
       },
-      c.clear-5.ensures.items
+      c.clear-5.ensures.items,
     )
 
 pub returns-clause-waiting : goal.returns-clause-waiting

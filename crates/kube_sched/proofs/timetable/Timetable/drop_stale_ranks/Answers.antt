@@ -21,8 +21,7 @@ returns-then-size-places-clause-whole g c =
     let len = made.len in
     let less = c.if-size-places.true in
     let size = c.len-size.ensures in
-    let old = c.len-places.ensures in
-    (
+    let old = c.len-places.ensures in (
       record {
         parts =
             ranks-kept g.T.PartialEq.eq rows (heap_items t.heap) (ranks_of t) t.next k.parts (t.aside.items ++ ranks_in c.in-Ok.ranks)
@@ -42,5 +41,5 @@ returns-then-size-places-clause-whole g c =
               next = room.next;
             };
       },
-      c.requires.whole.1
+      c.requires.whole.1,
     )

@@ -10,8 +10,7 @@ returns-then-size-old-clause-whole g c =
     let k = c.requires.whole.0 in
     let room = k.room in
     let made = c.in-Ok.ensures in
-    let fits = made.room in
-    (
+    let fits = made.room in (
       record {
         parts = times-kept g.T.PartialEq.eq t.table.entries.entries (heap_items t.heap) (ranks_of t) t.next k.parts (heap_items c.in-Ok.heap) made.items;
         indexed = k.indexed;
@@ -29,7 +28,7 @@ returns-then-size-old-clause-whole g c =
               next = room.next;
             };
       },
-      c.requires.whole.1
+      c.requires.whole.1,
     )
 
 pub returns-then-size-old-clause-stale : goal.returns-then-size-old-clause-stale

@@ -70,8 +70,7 @@ returns-clause-whole g c =
     let room = k.room in
     let left = c.pop.new.self in
     let z = c.in_default.ensures.cases in
-    let l = left.ok.0 in
-    (
+    let l = left.ok.0 in (
       record {
         parts = subst (λ xs. AreKept g.T.PartialEq.eq t.table.entries.entries (heap_items t.heap) (xs ++ ranks_in t.ranks) t.next) (c.in_default.ensures.items ∙ append-nil left.items) k.parts;
         indexed = k.indexed;
@@ -89,5 +88,5 @@ returns-clause-whole g c =
               next = room.next;
             };
       },
-      no-items left.items (omega (arith, l, z.1))
+      no-items left.items (omega (arith, l, z.1)),
     )

@@ -123,8 +123,7 @@ returns-then-is_aside-clause-whole g c =
     let len = c.push.ensures.len in
     let lists = ap (λ xs. length (waiting_in xs t.next)) entries ∙ touched-length eq laws rows heap ranks new t.next c.in-Some.place r w there refl refl refl refl k.parts true in
     let schedules = ap (λ xs. length (scheduled_in xs t.next)) entries ∙ touched-length eq laws rows heap ranks new t.next c.in-Some.place r w there refl refl refl refl k.parts false in
-    let room = k.room in
-    (
+    let room = k.room in (
       record {
         parts =
             subst (λ xs. AreKept eq xs heap new t.next) (sym entries)
@@ -146,7 +145,7 @@ returns-then-is_aside-clause-whole g c =
               next = (let a = room.next in omega (arith, a, schedules));
             };
       },
-      c.requires.whole.1
+      c.requires.whole.1,
     )
 
 pub returns-then-is_aside-clause-waiting : goal.returns-then-is_aside-clause-waiting

@@ -12,8 +12,7 @@ returns-clause-whole g c =
     let schedules = ap length (nothing-scheduled c.new.result.entries.entries 0 rows) in
     let heap = c.new-2.ensures.len in
     let ranks = c.new-3.ensures.len in
-    let aside = c.new-4.ensures.len in
-    (
+    let aside = c.new-4.ensures.len in (
       record {
         parts = nothing-kept g.T.PartialEq.eq c.new.result.entries.entries (heap_items c.new-2.result) (c.new-4.result.items ++ ranks_in c.new-3.result) 0 rows c.new-2.ensures.items;
         indexed = c.new.ensures.indexed;
@@ -31,7 +30,7 @@ returns-clause-whole g c =
               next = omega (arith, schedules);
             };
       },
-      c.new-4.ensures.items
+      c.new-4.ensures.items,
     )
 
 pub returns-clause-waiting : goal.returns-clause-waiting

@@ -47,8 +47,7 @@ returns-clause-whole g c =
     let other = unranked-counts w (parked-unranked e waits) in
     let lists = ap (λ xs. length (waiting_in xs t.next)) entries ∙ touched-length eq laws rows heap ranks new t.next c.args.place r w there refl refl refl refl k.parts true in
     let schedules = ap (λ xs. length (scheduled_in xs t.next)) entries ∙ touched-length eq laws rows heap ranks new t.next c.args.place r w there refl refl refl refl k.parts false in
-    let room = k.room in
-    (
+    let room = k.room in (
       record {
         parts =
             subst (λ xs. AreKept eq xs heap new t.next) (sym entries)
@@ -70,7 +69,7 @@ returns-clause-whole g c =
               next = (let a = room.next in omega (arith, a, schedules));
             };
       },
-      c.requires.whole.1
+      c.requires.whole.1,
     )
 
 pub returns-clause-waiting : goal.returns-clause-waiting

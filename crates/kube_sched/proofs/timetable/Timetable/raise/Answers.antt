@@ -174,8 +174,7 @@ returns-then-is_ranked-clause-whole g c =
     let all = put-behind t.aside.items (ranks_in t.ranks) (ranks_in c.push.new.self) (rank_of w) put in
     let more = λ q d. Contains-permutation (rank_of w ∷ ranks) (t.aside.items ++ ranks_in c.push.new.self) q all (contains-tail (rank_of w) q ranks d) in
     let mine = λ _. Contains-permutation (rank_of w ∷ ranks) (t.aside.items ++ ranks_in c.push.new.self) (rank_of w) all (contains-head (rank_of w) ranks) in
-    let len = c.push.ensures.len in
-    (
+    let len = c.push.ensures.len in (
       record {
         parts = subst (λ xs. AreKept eq xs heap (t.aside.items ++ ranks_in c.push.new.self) t.next) (sym entries) (raised-kept eq laws rows heap ranks t.next c.args.place row.0 e there k.parts c.args.priority (let l = c.if-priority-entry.false in omega arith) (t.aside.items ++ ranks_in c.push.new.self) more mine);
         indexed = c.write.ensures.indexed;
@@ -193,7 +192,7 @@ returns-then-is_ranked-clause-whole g c =
               next = (let a = room.next in omega (arith, a, schedules, one));
             };
       },
-      c.requires.whole.1
+      c.requires.whole.1,
     )
 
 pub returns-else-is_ranked-clause-whole : goal.returns-else-is_ranked-clause-whole
@@ -217,8 +216,7 @@ returns-else-is_ranked-clause-whole g c =
     let room = k.room in
     let one = c.requires.room in
     let more = λ (q : Rank) d. d in
-    let mine = λ h. absurd (false≢true (sym (sym c.is_ranked.ensures ∙ c.if-is_ranked.false) ∙ h)) in
-    (
+    let mine = λ h. absurd (false≢true (sym (sym c.is_ranked.ensures ∙ c.if-is_ranked.false) ∙ h)) in (
       record {
         parts = subst (λ xs. AreKept eq xs heap ranks t.next) (sym entries) (raised-kept eq laws rows heap ranks t.next c.args.place row.0 e there k.parts c.args.priority (let l = c.if-priority-entry.false in omega arith) ranks more mine);
         indexed = c.write.ensures.indexed;
@@ -236,5 +234,5 @@ returns-else-is_ranked-clause-whole g c =
               next = (let a = room.next in omega (arith, a, schedules));
             };
       },
-      c.requires.whole.1
+      c.requires.whole.1,
     )

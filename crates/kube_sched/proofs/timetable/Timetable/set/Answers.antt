@@ -86,8 +86,7 @@ add-requires-clause-whole g c =
     let waits = set-free eq laws rows heap ranks t.next k.parts c.args.run_at h rest r moves e free in
     let room = k.room in
     let unranks = less-unranked eq laws rows heap ranks t.next k.parts rest r moves in
-    let fewer = scheduled-less eq rows rest heap ranks t.next r moves k.parts waits in
-    (
+    let fewer = scheduled-less eq rows rest heap ranks t.next r moves k.parts waits in (
       record {
         parts = without eq rows rest heap ranks t.next r moves k.parts laws;
         indexed = c.take.ensures.indexed;
@@ -105,7 +104,7 @@ add-requires-clause-whole g c =
               next = (let a = room.next in omega (arith, a, fewer));
             };
       },
-      c.requires.whole.1
+      c.requires.whole.1,
     )
 
 pub add-requires-clause-absent : goal.add-requires-clause-absent

@@ -118,8 +118,7 @@ returns-in-Some-find-clause-whole g c =
     let fewer-now = ap (λ xs. length (scheduled_in xs (t.next + 1))) entries in
     let more = frozen-more eq laws rows heap ranks t.next k.parts rest p c.in-Some.ensures.taken place r there mine w refl refl refl refl refl refl in
     let more-now = ap (λ xs. length (waiting_in xs (t.next + 1))) entries in
-    let room = k.room in
-    (
+    let room = k.room in (
       record {
         parts = subst (λ xs. AreKept eq xs rest (t.aside.items ++ ranks_in c.push.new.self) (t.next + 1)) (sym entries) (frozen-kept eq laws rows heap ranks t.next k.parts rest p c.in-Some.ensures.taken place r there mine w refl refl refl refl refl refl (t.aside.items ++ ranks_in c.push.new.self) all);
         indexed = c.write.ensures.indexed;
@@ -137,7 +136,7 @@ returns-in-Some-find-clause-whole g c =
               next = (let a = room.next in omega (arith, a, fewer, fewer-now));
             };
       },
-      c.requires.whole.1
+      c.requires.whole.1,
     )
 
 pub returns-in-Some-find-clause-first : goal.returns-in-Some-find-clause-first
@@ -266,8 +265,7 @@ returns-in_default-find-clause-whole g c =
     let heap = heap_items t.heap in
     let ranks = ranks_of t in
     let room = k.room in
-    let p : Reverse Place = record { 0 = c.in-Some.due } in
-    (
+    let p : Reverse Place = record { 0 = c.in-Some.due } in (
       record {
         parts =
             heap-less eq rows heap (heap_items c.pop_due.new.heap) ranks t.next p k.parts c.in-Some.ensures.taken
@@ -287,5 +285,5 @@ returns-in_default-find-clause-whole g c =
               next = room.next;
             };
       },
-      c.requires.whole.1
+      c.requires.whole.1,
     )
