@@ -1,7 +1,10 @@
-use Rattle.std.proofs.Common.{◌≡◌, ◌≤◌, ◌+◌, ◌∷◌, [], ◌++◌, length, true, false, Some, None, IfSome, option_copied, option_map, is_some, refl, sym, ap, subst, ◌∙◌, arith}
+use Rattle.std.proofs.Common.{◌≡◌, ◌≤◌, ◌+◌, ◌∷◌, [], ◌++◌, List, length, true, false, Some, None, IfSome, option_copied, option_map, is_some, refl, sym, ap, subst, ◌∙◌, arith}
 use Rattle.std.specs.Arc.{arc_value}
+use Rattle.std.specs.declared.sync.Arc.{Arc}
+use Rattle.std.specs.declared.alloc.Global.{Global}
 use Rattle.indexmap.specs.IndexMap.{insert_entry}
 use Rattle.kube_meta.specs.Keys.{reference_of}
+use Rattle.kube_meta.specs.declared.object_ref.ObjectRef.{ObjectRef}
 use Rattle.kube_meta.specs.Reference.{same_reference}
 use Rattle.kube_model.proofs.Results.{on_err}
 use Rattle.kube_model.specs.Takes.{has_room}
@@ -11,7 +14,7 @@ use Rattle.kube_sched.proofs.Steps.{stands-alike}
 use Rattle.kube_history.specs.CoreEvents.{next_candidate}
 use Rattle.kube_turn.specs.declared.request.ReconcileRequest.{ReconcileRequest}
 use Rattle.kube_turn.specs.Views.{message_of, prioritized_of, same_request}
-use Rattle.kube_core.specs.Pendings.{FirstIs, ParkedRun, Parts, Stands, without_looks}
+use Rattle.kube_core.specs.Pendings.{FirstIs, IsKept, ParkedRun, Parts, Stands, without_looks}
 use Rattle.kube_core.proofs.RunningSteps.{put-length}
 use Rattle.kube_core.proofs.PendingSteps.{begun, due-candidate, first-message, no-room, none-of, parked-more, parked-same, some-is}
 use Rattle.kube_core.proofs.pending.Pending.start_candidate.Goals as goal
@@ -38,6 +41,44 @@ invariant_of-self-in_default-checked_add g c =
     record {
       places = subst (λ n. length c.self.inside.running.entries ≤ n) (sym (ap (λ (s : Schedule (ReconcileRequest g.row.K.Denot g.row.K-DynamicType.Denot)). s.spare) c.look_idle.ensures.same)) c.self.invariant.places;
       parked = c.look_idle.ensures.parked;
+    }
+
+pub invariant_of-self-in_err-reserve : goal.invariant_of-self-in_err-reserve
+invariant_of-self-in_err-reserve g c =
+    let type_of = g.K.Resource.type_of in
+    let kept : IsKept type_of c.look_idle.new.schedule c.self.inside.running.entries =
+    record {
+      places = subst (λ n. length c.self.inside.running.entries ≤ n) (sym (ap (λ (s : Schedule (ReconcileRequest g.row.K.Denot g.row.K-DynamicType.Denot)). s.spare) c.look_idle.ensures.same)) c.self.invariant.places;
+      parked = c.look_idle.ensures.parked;
+    } in
+    subst (IsKept type_of c.look_idle.new.schedule) (sym c.in_err-reserve.ensures.entries) kept
+
+pub invariant_of-self-in_err-reserve-2 : goal.invariant_of-self-in_err-reserve-2
+invariant_of-self-in_err-reserve-2 g c =
+    let type_of = g.K.Resource.type_of in
+    let kept : IsKept type_of c.look_idle.new.schedule c.self.inside.running.entries =
+    record {
+      places = subst (λ n. length c.self.inside.running.entries ≤ n) (sym (ap (λ (s : Schedule (ReconcileRequest g.row.K.Denot g.row.K-DynamicType.Denot)). s.spare) c.look_idle.ensures.same)) c.self.invariant.places;
+      parked = c.look_idle.ensures.parked;
+    } in
+    subst (IsKept type_of c.reserve-2.new.self) (sym c.in_ok-reserve.ensures.entries) (subst (λ s. IsKept type_of s c.self.inside.running.entries) (sym c.in_err-reserve-2.ensures.err) kept)
+
+pub invariant_of-self-in_default-take_head : goal.invariant_of-self-in_default-take_head
+invariant_of-self-in_default-take_head g c =
+    let type_of = g.K.Resource.type_of in
+    let old = c.self.inside.running.entries in
+    let u = c.take_head.new.self in
+    let same = c.in_ok-reserve.ensures.entries in
+    let now = ap length same in
+    let most = c.in_ok-reserve-2.ensures.room in
+    let sum = c.in-Some-checked_add.ensures.1 in
+    let len = c.len.ensures.len in
+    let spare = c.take_head.ensures.spare in
+    record {
+      places = omega (arith, now, most, sum, len, spare);
+      parked =
+          subst (ParkedRun type_of u) (sym same)
+          (parked-same type_of c.look_idle.new.schedule u old (λ q. c.take_head.ensures.parked q ∙ ap (λ (s : Schedule (ReconcileRequest g.row.K.Denot g.row.K-DynamicType.Denot)). s.parked q) c.in_ok-reserve-2.ensures.same) c.look_idle.ensures.parked);
     }
 
 pub invariant_of-self : goal.invariant_of-self
@@ -86,6 +127,21 @@ returns-in_err-reference-clause-err g c = on_err c.from_residual.result _ (ap (�
 
 pub returns-in_default-checked_add-clause-err : goal.returns-in_default-checked_add-clause-err
 returns-in_default-checked_add-clause-err g c = ap (λ (z : Schedule (ReconcileRequest g.row.K.Denot g.row.K-DynamicType.Denot)). record { schedule = without_looks z; running = c.self.inside.running.entries; limit = c.self.inside.limit }) c.look_idle.ensures.same ∙ c.self.view_is
+
+pub returns-in_err-reserve-clause-err : goal.returns-in_err-reserve-clause-err
+returns-in_err-reserve-clause-err g c =
+    let parts : Schedule (ReconcileRequest g.row.K.Denot g.row.K-DynamicType.Denot) → List (ObjectRef g.row.K.Denot g.row.K-DynamicType.Denot × Arc g.row.K.Denot Global) → Parts g.row.K.Denot g.row.K-DynamicType.Denot =
+    λ z es. record { schedule = without_looks z; running = es; limit = c.self.inside.limit } in
+    on_err c.from_residual-in_err-reserve.result _
+    (ap (parts c.look_idle.new.schedule) c.in_err-reserve.ensures.entries ∙ (ap (λ z. parts z c.self.inside.running.entries) c.look_idle.ensures.same ∙ c.self.view_is))
+
+pub returns-in_err-reserve-2-clause-err : goal.returns-in_err-reserve-2-clause-err
+returns-in_err-reserve-2-clause-err g c =
+    let parts : Schedule (ReconcileRequest g.row.K.Denot g.row.K-DynamicType.Denot) → List (ObjectRef g.row.K.Denot g.row.K-DynamicType.Denot × Arc g.row.K.Denot Global) → Parts g.row.K.Denot g.row.K-DynamicType.Denot =
+    λ z es. record { schedule = without_looks z; running = es; limit = c.self.inside.limit } in
+    on_err c.from_residual-in_err-reserve-2.result _
+    (ap (λ z. parts z c.reserve.new.self.entries) c.in_err-reserve-2.ensures.err
+    ∙ (ap (parts c.look_idle.new.schedule) c.in_ok-reserve.ensures.entries ∙ (ap (λ z. parts z c.self.inside.running.entries) c.look_idle.ensures.same ∙ c.self.view_is)))
 
 pub returns-in_default-take_head-clause-first : goal.returns-in_default-take_head-clause-first
 returns-in_default-take_head-clause-first g c core qs rs s =
