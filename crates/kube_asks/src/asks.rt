@@ -1,6 +1,6 @@
 //! Who is asked next.
 
-ghost use Rattle.std.specs.Prelude.{◌≡◌, ◌≢◌, ◌≤◌, ◌<◌, ◌^◌, ◌+◌, ◌-◌, ◌++◌, ◌∷◌, ◌||◌, [], List, length, map, option_map, OnOk, OnErr, IfOk, IfErr, IsErrOf, IfSome, IsErr, Ok, Err, ℕ, min, true, false, not, slice_index, if◌then◌else◌, nat_lt, Some, None, is_some, vec_capacity};
+ghost use Rattle.std.specs.Prelude.{◌≡◌, ◌≢◌, ◌≤◌, ◌<◌, ◌^◌, ◌+◌, ◌-◌, ◌++◌, ◌∷◌, ◌||◌, [], List, length, map, option_map, Option, OnOk, OnErr, IfOk, IfErr, IsErrOf, IfSome, IsErr, Ok, Err, ℕ, min, true, false, not, slice_index, if◌then◌else◌, nat_lt, Some, None, is_some, vec_capacity};
 ghost use Rattle.std.specs.List.{find, range_with_len};
 ghost use Rattle.std.specs.Option.{option_or};
 ghost use Rattle.kube_model.specs.World.{World, is_queue, is_watched, feed_of, priority_at};
@@ -536,8 +536,8 @@ impl<R: RootSource, S: RelatedSet<R::Object>, B: Backoff> Asks<R, S, B> {
 
     /// A root, its related sources and a backoff, before the first turn.
     pub fn new(alloc: Global, root: R, related: S, backoff: B) -> Asks<R, S, B>
-        ensures stands { (w : World R.Object B)
-            → IsWorldOf w (R.kind root) R.Object.meta_of (R.feed root) (S.feeds related) [] B.delay B.delayed B.restarted → w.backoff ≡ backoff
+        ensures stands { (w : World R.Object B) (priorities : List (Option ℕ))
+            → IsWorldOf w (R.kind root) R.Object.meta_of (R.feed root) (S.feeds related) priorities B.delay B.delayed B.restarted → w.backoff ≡ backoff
             → SourcesStand (R.stands root) (S.stands related) (length (S.feeds related)) []
             → AskStands w (R.stands result.root) (S.stands result.related) (length (S.feeds result.related)) [] [] [] result.kept }
         ensures root { result.root ≡ root }
@@ -546,6 +546,13 @@ impl<R: RootSource, S: RelatedSet<R::Object>, B: Backoff> Asks<R, S, B> {
         ensures unspent { result.is_spent ≡ false }
     {
         make(alloc, root, related, backoff)
+    }
+
+    /// Keeps these priorities of the sources, the root first, in place of those that were set. For one that is missing none is.
+    pub fn set_priorities(&mut self, priorities: Vec<Option<u32>>)
+        ensures { self.new ≡ record self.old { priorities = priorities.items } }
+    {
+        self.priorities = priorities;
     }
 
     /// Sets the priority with which a source's requests are asked from now on, in place of one that was set before: the root is
@@ -759,11 +766,14 @@ impl<R: RootSource, S: RelatedSet<R::Object>, B: Backoff> Asks<R, S, B> {
 }
 
 impl<R, S, B> Asks<R, S, B> {
-    /// The root, the related sources and the backoff as they are now.
-    pub fn into_sources(self) -> (R, S, B)
-        ensures { result ≡ (self.root, self.related, self.kept.pause.backoff) }
+    /// The root, the related sources and the backoff as they are now, and the priorities that were set.
+    pub fn into_sources(self) -> (R, S, B, Vec<Option<u32>>)
+        ensures root { result.0 ≡ self.root }
+        ensures related { result.1 ≡ self.related }
+        ensures backoff { result.2 ≡ self.kept.pause.backoff }
+        ensures priorities { result.3.items ≡ self.priorities }
     {
-        (self.root, self.related, self.backoff)
+        (self.root, self.related, self.backoff, self.priorities)
     }
 }
 
