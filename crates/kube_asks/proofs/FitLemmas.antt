@@ -1,5 +1,5 @@
 -- What its own exchanges say of an exchange, among all exchanges of a controller.
-use Rattle.std.proofs.Common.{◌≡◌, ◌≢◌, ℕ, zero, suc, ◌+◌, ◌-◌, ◌<◌, ◌≤◌, ◌==◌, Bool, true, false, List, [], ◌∷◌, ◌++◌, map, length, Option, Some, None, is_some, unwrap_or, slice_get, IsTrue, refl, sym, ap, subst, ◌∙◌, arith}
+use Rattle.std.proofs.Common.{◌≡◌, ◌≢◌, ℕ, zero, suc, ◌+◌, ◌-◌, ◌<◌, ◌≤◌, ◌==◌, Bool, true, false, List, [], ◌∷◌, ◌++◌, map, length, Option, Some, None, is_some, unwrap_or, slice_get, IsTrue, refl, sym, ap, ap₂, subst, ◌∙◌, arith}
 use Rattle.std.specs.List.{AllByRecursion}
 use Rattle.std.proofs.lemmas.Bool.{eq-eqb, ne_eqb}
 use Rattle.kube_meta.specs.Reference.{ObjectType, Reference}
@@ -8,7 +8,7 @@ use Rattle.kube_meta.specs.Keys.{key_of}
 use Rattle.kube_model.specs.declared.call.Answer.{Answer}
 use Rattle.kube_model.specs.declared.call.Answer.TheVariants.{Page, Opened, Added, Modified, Deleted, Bookmark, ErrorItem, Fault, End, NotReady, Idle, Item, Spent}
 use Rattle.kube_model.specs.World.{World, Feed, Settings, Watched, Streamed, Queued, is_queue, feed_of, priority_of, priority_at}
-use Rattle.kube_model.specs.History.{Dated, Exchange, Prioritized, messages_of, passed_by, dated_of, exchanges_of}
+use Rattle.kube_model.specs.History.{Dated, Exchange, Prioritized, asked_by, messages_of, passed_by, dated_of, exchanges_of}
 use Rattle.kube_model.specs.Owed.{mark}
 use Rattle.kube_model.specs.Fits.{IsFitting, IsAnswered, IsOfRelated, IsOfRoot, IsOneOf, WatchItemsFit, RelatedRequestsFit, QueuedRequestsFit, PrioritiesFit, has_references, is_related, requests_of_watch, nonempty}
 use Rattle.kube_model.specs.Reason.{ObjectUpdated}
@@ -55,6 +55,11 @@ priorities-passed : (queue : Bool) (set : Option ℕ) (qs : List Prioritized) �
 priorities-passed queue set [] p = tt
 priorities-passed queue None (q ∷ qs) p = (p.0, priorities-passed queue None qs p.1)
 priorities-passed queue (Some n) (q ∷ qs) p = (refl, priorities-passed queue (Some n) qs p.1)
+
+-- without a queue the messages say all
+pub asked-is : (set : Option ℕ) (qs : List Prioritized) → PrioritiesFit false set qs → qs ≡ asked_by set (messages_of qs)
+asked-is set [] p = refl
+asked-is set (q ∷ qs) p = ap₂ (λ z zs. z ∷ zs) (λ i. record { message = q.message; priority = p.0 i }) (asked-is set qs p.1)
 
 -- where none was set they have their own
 pub passed-none : (qs : List Prioritized) → passed_by None qs ≡ qs
