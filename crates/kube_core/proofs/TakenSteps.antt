@@ -62,3 +62,7 @@ none-found key store (Some q) e = absurd (cc)
 pub some-message : (n : Message) (m : Option Prioritized) → Some n ≡ option_map (λ (q : Prioritized). q.message) m → is_some m ≡ true
 some-message n None e = absurd (cc)
 some-message n (Some q) e = refl
+
+pub reference-in : (o : Option Prioritized) → option_map (λ (m : Message). m.reference) (option_map (λ (q : Prioritized). q.message) o) ≡ option_map (λ (q : Prioritized). q.message.reference) o
+reference-in None = refl
+reference-in (Some q) = refl

@@ -203,6 +203,30 @@ impl<K: Resource> Pending<K> {
         Ok(Some(Some(share(object)?)))
     }
 
+    /// The reference of the first candidate, in memory of its own, where there is one: the first waiting message whose reference
+    /// doesn't run, where one more may run. It stays where it is.
+    ///
+    /// # Errors
+    ///
+    /// `NoMemory` where there is none for the reference.
+    pub fn candidate(&mut self, alloc: Global) -> Result<Option<ObjectRef<K>>, NoMemory>
+        ensures first { IfOk result (λ o. (core : CoreWorld K) (qs : List (QueueEvent Message)) (rs : List (Running K)) → Stands K.type_of core self.old qs rs
+            → option_map (reference_of K.type_of) o ≡ option_map (λ q. q.message.reference) (next_candidate core qs rs)) }
+        ensures wanted { OnErr result ((core : CoreWorld K) (qs : List (QueueEvent Message)) (rs : List (Running K)) → Stands K.type_of core self.old qs rs
+            → is_some (next_candidate core qs rs) ≡ true) }
+        ensures same { self.new ≡ self.old }
+    {
+        if !self.has_room() {
+            return Ok(None);
+        }
+        look_idle(&mut self.schedule, &self.running);
+        let Some(request) = self.schedule.head() else {
+            return Ok(None);
+        };
+        let reference = request.obj_ref.copy(alloc)?;
+        Ok(Some(reference))
+    }
+
     /// Takes the first waiting message whose reference doesn't run, where one more may run, with its priority. It takes no
     /// memory.
     pub fn take_candidate(&mut self) -> Option<ReconcileRequest<K>>
