@@ -4,7 +4,7 @@ use Rattle.std.specs.List.{filter_map}
 use Rattle.std.proofs.lemmas.List.{map-append}
 use Rattle.kube_meta.specs.declared.resource.Resource as resource
 use Rattle.kube_model.specs.declared.error.RunnerError.{RunnerError}
-use Rattle.kube_model.specs.World.{World}
+use Rattle.kube_model.specs.World.{World, priority_of}
 use Rattle.kube_model.specs.Reads.{Readiness, Reads, is_told_ready, told_ready, failure_in}
 use Rattle.kube_model.specs.History.{Dated, Exchange, Finished, Message, same_message, Taken, Turn, TurnRecord, Step, dated, exchanges, exchanges_with}
 use Rattle.kube_model.specs.Asks.{stops_of}
@@ -23,7 +23,7 @@ use Rattle.kube_history.proofs.TurnParts.{none-next}
 use Rattle.kube_backoff.specs.declared.backoff.Backoff as backoff
 use Rattle.kube_reflect.specs.Writers.{Reader}
 use Rattle.kube_core.specs.Pendings.{Parts as Pending, Stands as PendingStands}
-use Rattle.kube_asks.specs.Asking.{Asking, AskStands, IsWorldOf, asking_begun}
+use Rattle.kube_asks.specs.Asking.{Asking, AskStands, IsWorldOf, asking_begun, IsPolledWith, IsPlacePolledWith}
 use Rattle.kube_asks.specs.declared.asks.AskFault.{AskFault}
 use Rattle.kube_asks.specs.declared.asks.AskFault.TheVariants as faults
 use Rattle.kube_asks.specs.declared.root.RootSource as root_source
@@ -115,8 +115,9 @@ module _ {R S B O D : Type 0} (root : root_source.Ghosts R O D) (related : relat
 
   world-now : IsWorldOfAsks root related delays object w a1
   world-now =
-      subst (λ x. IsWorldOf w (root.kind x) object.meta_of (root.feed x) (related.feeds a1.related) delays.delay delays.delayed delays.restarted) (sym same-root)
-      (subst (λ y. IsWorldOf w (root.kind a.root) object.meta_of (root.feed a.root) (related.feeds y) delays.delay delays.delayed delays.restarted) (sym same-related) may.world)
+      subst (λ x. IsWorldOf w (root.kind x) object.meta_of (root.feed x) (related.feeds a1.related) a1.priorities delays.delay delays.delayed delays.restarted) (sym same-root)
+      (subst (λ y. IsWorldOf w (root.kind a.root) object.meta_of (root.feed a.root) (related.feeds y) a1.priorities delays.delay delays.delayed delays.restarted) (sym same-related)
+      (subst (λ ps. IsWorldOf w (root.kind a.root) object.meta_of (root.feed a.root) (related.feeds a.related) ps delays.delay delays.delayed delays.restarted) (sym (ap (λ (z : Asking R S B). z.priorities) begun)) may.world))
 
   stands-now : AsksStand root related delays object w t.budget (exchanges h) [] a1
   stands-now =
@@ -181,7 +182,7 @@ module _ {R S B O D : Type 0} (root : root_source.Ghosts R O D) (related : relat
             each_named = g.each_named;
             reached_root = a'.root;
             reached_related = a'.related;
-            polled = subst (λ ds. ArePolled root.polls related.polls ds a1.root a1.related (dated t.at xs) a'.root a'.related) (sym (append-nil (exchanges h))) g.polled;
+            polled = subst (λ ds. ArePolled (IsPolledWith (priority_of w 0) root.polls) (IsPlacePolledWith w.priorities related.polls) ds a1.root a1.related (dated t.at xs) a'.root a'.related) (sym (append-nil (exchanges h))) g.polled;
             stand = g.asks_stand.sources;
             rest = NotAsked refl refl;
           }
@@ -312,9 +313,9 @@ module _ {R S B O D : Type 0} (root : root_source.Ghosts R O D) (related : relat
             recorded = subst (λ (x : TurnRecord O). IsRecord w (answered_in x.finished) h t (x, with_shown r store)) (sym is-now) made-now.0;
             each_named = subst (EachIsNamed w (RootIsNamed w) h t []) (sym asked) g.each_named;
             polled =
-                subst (λ ys. ArePolled root.polls related.polls (exchanges h) a.root a.related (dated t.at ys) a'.root a'.related) (sym asked)
-                (subst (λ x. ArePolled root.polls related.polls (exchanges h) x a.related (dated t.at xs) a'.root a'.related) same-root
-                (subst (λ y. ArePolled root.polls related.polls (exchanges h) a1.root y (dated t.at xs) a'.root a'.related) same-related g.polled));
+                subst (λ ys. ArePolled (IsPolledWith (priority_of w 0) root.polls) (IsPlacePolledWith w.priorities related.polls) (exchanges h) a.root a.related (dated t.at ys) a'.root a'.related) (sym asked)
+                (subst (λ x. ArePolled (IsPolledWith (priority_of w 0) root.polls) (IsPlacePolledWith w.priorities related.polls) (exchanges h) x a.related (dated t.at xs) a'.root a'.related) same-root
+                (subst (λ y. ArePolled (IsPolledWith (priority_of w 0) root.polls) (IsPlacePolledWith w.priorities related.polls) (exchanges h) a1.root y (dated t.at xs) a'.root a'.related) same-related g.polled));
             parts =
                 parts-after root related delays object w h t a p may v fs z a' last (with_shown r store) xs ts q is-now taken asked finished g.world g.asks_stand g.unspent
                 (subst (λ y. PendingStands object.type_of (core_world w) y (events_of w h ++ turn_events w h t (with_shown r store) fs xs ++ took ts) (running_in w h t ++ filter_map started ts)) (sym same-pending) waits-after)
@@ -384,8 +385,8 @@ module _ {R S B O D : Type 0} (root : root_source.Ghosts R O D) (related : relat
             recorded = subst (λ (x : TurnRecord O). IsRecord w (answered_in x.finished) h t (x, closed_reads)) (sym closed-record) closed-made.0;
             each_named = subst (EachIsNamed w (RootIsNamed w) h t []) (sym (asked ∙ stay.0)) tt;
             polled =
-                subst (λ ys. ArePolled root.polls related.polls (exchanges h) a.root a.related (dated t.at ys) a'.root a'.related) (sym (asked ∙ stay.0))
-                (subst (λ (y : Asking R S B). ArePolled root.polls related.polls (exchanges h) a.root a.related [] y.root y.related) (sym stay.3) (same-root, same-related));
+                subst (λ ys. ArePolled (IsPolledWith (priority_of w 0) root.polls) (IsPlacePolledWith w.priorities related.polls) (exchanges h) a.root a.related (dated t.at ys) a'.root a'.related) (sym (asked ∙ stay.0))
+                (subst (λ (y : Asking R S B). ArePolled (IsPolledWith (priority_of w 0) root.polls) (IsPlacePolledWith w.priorities related.polls) (exchanges h) a.root a.related [] y.root y.related) (sym stay.3) (same-root, same-related));
             parts =
                 parts-after root related delays object w h t a p may v fs z a' last closed_reads [] [] q closed-record (taken ∙ stay.1) (asked ∙ stay.0) finished world-stays stands-stay
                 (ap (λ (y : Asking R S B). y.is_spent) stay.3 ∙ unspent-now)

@@ -5,7 +5,7 @@ use Rattle.kube_meta.specs.declared.action.Action.{Action}
 use Rattle.kube_meta.specs.Reference.{Reference}
 use Rattle.kube_meta.specs.declared.metadata.ObjectMeta.{ObjectMeta}
 use Rattle.kube_meta.specs.declared.resource.Resource as resource
-use Rattle.kube_model.specs.World.{World}
+use Rattle.kube_model.specs.World.{World, priority_of}
 use Rattle.kube_model.specs.Reads.{Reads, Readiness, is_told_ready}
 use Rattle.kube_model.specs.History.{Exchange, Finished, Message, same_message, Taken, Turn, Step, dated, exchanges, exchanges_with}
 use Rattle.kube_model.specs.Named.{RootIsNamed, EachIsNamed}
@@ -25,7 +25,7 @@ use Rattle.kube_reflect.specs.Writers.{Reader}
 use Rattle.kube_core.specs.Pendings.{Parts as Pending, Stands as PendingStands}
 use Rattle.kube_turn.specs.declared.turn.Turn.{Turn as HeldTurn}
 use Rattle.kube_turn.specs.Records.{turn_of}
-use Rattle.kube_asks.specs.Asking.{Asking}
+use Rattle.kube_asks.specs.Asking.{Asking, IsPolledWith, IsPlacePolledWith}
 use Rattle.kube_asks.specs.declared.asks.AskFault.{AskFault}
 use Rattle.kube_asks.specs.declared.asks.AskFault.TheVariants as faults
 use Rattle.kube_asks.specs.declared.root.RootSource as root_source
@@ -152,7 +152,7 @@ module _ {R S B O D : Type 0} (root : root_source.Ghosts R O D) (related : relat
     pub listed : AreListed object.meta_of found p.reader p'.reader
     pub asked : EachIsNext w h t [] xs
     pub each_named : EachIsNamed w (RootIsNamed w) h t [] xs
-    pub polled : ArePolled root.polls related.polls (exchanges h) a.root a.related (dated t.at xs) a'.root a'.related
+    pub polled : ArePolled (IsPolledWith (priority_of w 0) root.polls) (IsPlacePolledWith w.priorities related.polls) (exchanges h) a.root a.related (dated t.at xs) a'.root a'.related
     pub done : next_source w h t xs ≡ None
     pub world : IsWorldOfAsks root related delays object w a'
     pub asks_stand : AsksStand root related delays object w t.budget (exchanges h) (dated t.at xs) a'
@@ -165,5 +165,5 @@ module _ {R S B O D : Type 0} (root : root_source.Ghosts R O D) (related : relat
   pub record IsTaken (a : Asking R S B) (m : Made O) (a' : Asking R S B) (p' : Parts O D) : Type 0 where
     pub recorded : IsRecord w (answered_in m.0.finished) h t m
     pub each_named : EachIsNamed w (RootIsNamed w) h t [] m.0.exchanges
-    pub polled : ArePolled root.polls related.polls (exchanges h) a.root a.related (dated t.at m.0.exchanges) a'.root a'.related
+    pub polled : ArePolled (IsPolledWith (priority_of w 0) root.polls) (IsPlacePolledWith w.priorities related.polls) (exchanges h) a.root a.related (dated t.at m.0.exchanges) a'.root a'.related
     pub parts : PartsStand root related delays object w (h ++ step t m ∷ []) a' p'
