@@ -37,6 +37,7 @@ use Rattle.kube_feed.specs.Asked.{AreEndedBy}
 use Rattle.kube_feed.specs.Fed.{PartsStand}
 use Rattle.kube_feed.specs.Reads.{AreListed, IsLater, IsReadFirst, IsReadIn}
 use Rattle.kube_feed.specs.Requests.{finish_requests}
+use Rattle.kube_feed.specs.Takes.{taken_as}
 use Rattle.kube_feed.specs.Turns.{AmongTakes, AreFirstReads, AreFirstTaken, AreTakenWhere, BeforeTakes, HasAsked, HaveReadAndTaken, HaveReadAndTakenFirst, IsEndedBy, IsTaken, MayGoOn, only_reloaded, queue_asked}
 use Rattle.kube_feed.proofs.Going.{HasGoneOn, may-take, next-so, read-first-of, read-whole, reads-first, reads_of, taken-so}
 use Rattle.kube_feed.proofs.Requested.{queue-is, ready-is}
@@ -231,10 +232,10 @@ module _ {R S B O D : Type 0} (root : root_source.Ghosts R O D) (related : relat
           takes-are = first-is w may.is_fed h t (reads_of found-now told ts) fs xs ts open-yet reads-are (taken-so root related delays object w h t finished_queue a1 p2 (may-go e) found-now xs a' p3 (went-now e).1 told ts p4 q)
 
           pub next-is : (found : Option O)
-              → taken_in w h t (record (reads_of found-now told ts) { looked_up = map (λ (u : Taken O). u.object) ts ++ found ∷ [] }) fs xs ≡ ts ++ record { message = q.taken.next; object = found } ∷ []
+              → taken_in w h t (record (reads_of found-now told ts) { looked_up = map (λ (u : Taken O). u.object) ts ++ found ∷ [] }) fs xs ≡ ts ++ taken_as q.taken.next found ∷ []
           next-is found =
-              let more : List (Taken O) = ts ++ record { message = q.taken.next; object = found } ∷ [] in
-              let joined : map (λ (u : Taken O). u.object) more ≡ map (λ (u : Taken O). u.object) ts ++ found ∷ [] = map-append (λ (u : Taken O). u.object) ts (record { message = q.taken.next; object = found } ∷ []) in
+              let more : List (Taken O) = ts ++ taken_as q.taken.next found ∷ [] in
+              let joined : map (λ (u : Taken O). u.object) more ≡ map (λ (u : Taken O). u.object) ts ++ found ∷ [] = map-append (λ (u : Taken O). u.object) ts (taken_as q.taken.next found ∷ []) in
               subst (λ os. taken_in w h t (record (reads_of found-now told ts) { looked_up = os }) fs xs ≡ more) joined
               (first-is w may.is_fed h t (reads_of found-now told more) fs xs more open-yet
               (record { polled = reads-are.polled; reloaded = reads-are.reloaded; looked_up = refl; shown = refl })
