@@ -3,7 +3,7 @@
 
 ghost use Rattle.std.specs.Prelude.{◌≡◌, ◌<◌, ◌^◌, ◌++◌, ℕ, [], Bool, List, Option, Some, fold, length, map, take};
 ghost use Rattle.kube_meta.specs.declared.dynamic.DynamicObject.{DynamicObject};
-ghost use Rattle.kube_model.specs.World.{World, Settings};
+ghost use Rattle.kube_model.specs.World.{World, Settings, priority_of};
 ghost use Rattle.kube_model.specs.History.{Dated, Step, Turn, TurnRecord, exchanges, exchanges_of};
 ghost use Rattle.kube_model.specs.Raw.{Raw};
 ghost use Rattle.kube_model.specs.Traces.{IsTrace, steps, unread};
@@ -14,6 +14,7 @@ ghost use Rattle.kube_server.specs.Connections.{Act, Connection, acted, fresh};
 ghost use Rattle.kube_server.specs.Servers.{meta_of};
 ghost use Rattle.kube_watch.specs.Calls.{version_of};
 ghost use Rattle.kube_watch.specs.Stands.{api_of, settings_in};
+ghost use Rattle.kube_asks.specs.Asking.{IsPlacePolledWith, IsPolledWith};
 ghost use Rattle.kube_asks.specs.Roots.{RootWatching};
 ghost use Rattle.kube_step.specs.Calls.{ArePolled, dated_in};
 ghost use Rattle.kube_control.specs.Controllers.{Controlling, StandsFor};
@@ -30,7 +31,7 @@ use kube_server::Conn;
 pub fn api_tells_the_exchanges_of_runs<A: ApiMode, S: RelatedSet<A::Value>, B>()
     ensures { (w : World A.Value B) (settings : Settings) (policies : ℕ → ℕ → A.Value → Option ℕ) (h : List (Step A.Value)) (ts : List Turn) (rs : List (TurnRecord A.Value)) (r r' : RootWatching A A.Value) (s s' : S)
         → settings_in r.watcher ≡ settings → IsTrace w policies h ts (map unread rs)
-        → ArePolled ⟦<WatchRoot<A> as RootSource>⟧.polls S.polls (exchanges h) r s (dated_in rs) r' s'
+        → ArePolled (IsPolledWith (priority_of w 0) ⟦<WatchRoot<A> as RootSource>⟧.polls) (IsPlacePolledWith w.priorities S.polls) (exchanges h) r s (dated_in rs) r' s'
         → (before : List (Raw A.Value)) → HasTold (version_of A.Value.meta_of) settings before (exchanges_of 0 (exchanges h)) (A.talk (api_of r.watcher))
         → (settings_in r'.watcher ≡ settings) × HasTold (version_of A.Value.meta_of) settings before (exchanges_of 0 (exchanges (h ++ steps ts (map unread rs)))) (A.talk (api_of r'.watcher)) }
 {}
@@ -52,8 +53,8 @@ pub fn honest_controllers_store_states<A: ApiMode, S: RelatedSet<A::Value>, B: B
 /// A connection to a server stays one that was made by calls and copies of the log, whatever a run asks of it: so its talk
 /// is honest to its log after the run too (kube_server's law `talks_are_honest`).
 pub fn connections_stay_honest_in_runs<S: RelatedSet<DynamicObject>>()
-    ensures { (before ds : List (Dated DynamicObject)) (r r' : RootWatching (Connection DynamicObject) DynamicObject) (s s' : S) (changes : List (Change DynamicObject)) (compacted : ℕ) (acts : List (Act DynamicObject))
+    ensures { (before ds : List (Dated DynamicObject)) (r r' : RootWatching (Connection DynamicObject) DynamicObject) (s s' : S) (changes : List (Change DynamicObject)) (compacted : ℕ) (acts : List (Act DynamicObject)) (set : Option ℕ) (priorities : List (Option ℕ))
         → api_of r.watcher ≡ fold (acted meta_of) (fresh changes compacted) acts
-        → ArePolled ⟦<WatchRoot<Conn> as RootSource>⟧.polls S.polls before r s ds r' s'
+        → ArePolled (IsPolledWith set ⟦<WatchRoot<Conn> as RootSource>⟧.polls) (IsPlacePolledWith priorities S.polls) before r s ds r' s'
         → (more : List (Act DynamicObject)) × (api_of r'.watcher ≡ fold (acted meta_of) (fresh changes compacted) more) }
 {}

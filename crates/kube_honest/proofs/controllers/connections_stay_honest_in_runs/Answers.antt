@@ -5,12 +5,13 @@ use Rattle.kube_server.specs.Connections.{Connection, IsMove}
 use Rattle.kube_watch.specs.Calls.{version_of}
 use Rattle.kube_watch.specs.Stands.{settings_in}
 use Rattle.kube_watch.specs.Polls.{Api}
+use Rattle.kube_asks.specs.Asking.{IsPlacePolledWith}
 use Rattle.kube_honest.proofs.Reached.{IsReached, reached-on}
 use Rattle.kube_honest.proofs.Tellings.{reached-polls}
 use Rattle.kube_honest.proofs.controllers.connections_stay_honest_in_runs.Goals as goal
 
 pub returns : goal.returns
-returns g c before ds r r' s s' changes compacted acts by p =
+returns g c before ds r r' s s' changes compacted acts set priorities by p =
     let api : Api (Connection DynamicObject) DynamicObject = record { moves = IsMove meta_of; talk = λ c. Some c.talk; faults = λ c. c.failures; version = version_of meta_of } in
-    let reached = reached-polls meta_of api (settings_in r.watcher) g.S.RelatedSet.polls (IsReached meta_of changes compacted) (λ a now raw b. reached-on meta_of changes compacted a now raw b) before ds r s r' s' (record { acts = acts; by = by }) p in
+    let reached = reached-polls meta_of api (settings_in r.watcher) set (IsPlacePolledWith priorities g.S.RelatedSet.polls) (IsReached meta_of changes compacted) (λ a now raw b. reached-on meta_of changes compacted a now raw b) before ds r s r' s' (record { acts = acts; by = by }) p in
     (reached.acts, reached.by)
