@@ -121,13 +121,18 @@ fn taken(
     let reference = reference(rt, alloc, kind, number);
     let reason = ReconcileReason::Unknown;
     if !is_found {
-        return Taken::NotFound { reference, reason };
+        return Taken::NotFound {
+            reference,
+            reason,
+            priority: number,
+        };
     }
     let object = Arc::new(alloc, DynamicObject::bare(ObjectMeta::empty())).expect(rt, "memory");
     Taken::Started {
         reference,
         reason,
         object,
+        priority: number,
     }
 }
 
