@@ -259,7 +259,7 @@ class Adapter:
         self.server, self.wait = server, wait
         self.resources: dict[int, Resource] = {}
         self.news = threading.Condition(threading.RLock())  # a signal's handler may come while the main thread has it
-        self.shutdown, self.reload, self.show = 0, False, False
+        self.shutdown, self.told, self.reload, self.show = 0, 0, False, False
         self.last = 0
         self.offset = time.time_ns() - time.monotonic_ns()
         self.calls: dict[str, Callable[[Json], bytes]] = {name: getattr(self, f'call_{name}') for name in ('resource', 'list', 'watch', 'next', 'get', 'patch', 'delete', 'turn')}
@@ -346,15 +346,18 @@ class Adapter:
         if call.get('wakes_at') is not None:
             end = min(end, call['wakes_at'])
         with self.news:
-            while not self.is_woken() and (left := end - self.moment()) > 0:
+            while not self.is_woken(call['asks']) and (left := end - self.moment()) > 0:
                 self.news.wait(left / 1e9)
-            reload, show, self.reload, self.show = self.reload, self.show, False, False
+            self.told = self.shutdown
+            turn = {'reload': self.reload, 'show': self.show, 'shutdown': SHUTDOWNS[min(self.shutdown, 2)]}
+            self.reload = self.show = False
         self.last += 1
-        turn = {'at': self.moment(), 'reload': reload, 'show': show, 'shutdown': SHUTDOWNS[min(self.shutdown, 2)]}
-        return json.dumps(turn, separators=(',', ':')).encode()
+        return json.dumps({'at': self.moment(), **turn}, separators=(',', ':')).encode()
 
-    def is_woken(self) -> bool:
-        return bool(self.shutdown or self.reload or self.show or any(it.watch and it.watch.lines for it in self.resources.values()))
+    def is_woken(self, asks: bool) -> bool:
+        """Whether there is a signal that wasn't told, or a watch has something and is asked."""
+        is_told = self.told == self.shutdown and not self.reload and not self.show
+        return not is_told or asks and any(it.watch and it.watch.lines for it in self.resources.values())
 
     def on_signal(self, number: int, program: subprocess.Popen[bytes]) -> None:
         with self.news:

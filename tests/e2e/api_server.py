@@ -15,7 +15,8 @@ With --state the objects are kept in a file when it ends by SIGTERM or SIGINT, a
 lost it: then, and after `compact`, what is older is answered 410. For trials, each by POST:
 
     /trial/cut                 cuts each open watch off, in the middle of its answer; with ?end=1 each ends as after its timeout
-    /trial/compact             forgets the log: an older version is answered by an ERROR event; with ?as=status by the answer's status
+    /trial/compact             forgets the log, with a change of something else in it: who watches gets an ERROR event of code 410; with
+                               ?as=status each watch is cut off, and who watches from where it was is answered by status 410
     /trial/state               all objects, with the newest resource version; how many watches were opened, and how many 410 told (also by GET)"""
 import argparse
 import base64
@@ -174,7 +175,11 @@ class Store:
 
     def compact(self, by_status):
         with self.lock:
+            self.revision += 1
             self.compacted, self.log, self.snapshots, self.is_gone_by_status = self.revision, [], {}, by_status
+            if by_status:
+                self.cut(False)
+            self.lock.notify_all()
 
     def cut(self, clean):
         with self.lock:
@@ -265,6 +270,7 @@ class Store:
 
 class Handler(BaseHTTPRequestHandler):
     protocol_version = 'HTTP/1.1'
+    disable_nagle_algorithm = True  # headers and body are written one after the other, and would wait for each other
     store = resources = None
 
     def log_message(self, *_):
@@ -413,12 +419,14 @@ class Handler(BaseHTTPRequestHandler):
                 raise store.gone_at(version)
             return int(version), []
 
-    def news(self, told, end):
-        """The changes since a version, after up to 5 seconds where there are none; a refusal where the log has them no more."""
+    def news(self, told, cuts, end):
+        """The changes since a version, after up to 5 seconds where there are none; none of one that is cut off; a refusal where the log has them no more."""
         store = self.store
         with store.lock:
-            if told >= store.compacted and not (store.log and store.log[-1][0] > told):
+            if told >= store.compacted and store.cuts == cuts and not (store.log and store.log[-1][0] > told):
                 store.lock.wait(min(5, max(0.05, (end - datetime.datetime.now()).total_seconds())))
+            if store.cuts != cuts:
+                return []
             if told < store.compacted:
                 raise store.gone_at(told)
             return [it for it in store.log if it[0] > told]
@@ -439,7 +447,7 @@ class Handler(BaseHTTPRequestHandler):
             self.bookmark(told, {'k8s.io/initial-events-end': 'true'})
         while datetime.datetime.now() < end and store.cuts == cuts:
             try:
-                news = self.news(told, end)
+                news = self.news(told, cuts, end)
             except Refused as refused:
                 self.write_line({'type': 'ERROR', 'object': refused.status})
                 break
