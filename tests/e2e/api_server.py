@@ -17,7 +17,8 @@ lost it: then, and after `compact`, what is older is answered 410. For trials, e
     /trial/cut                 cuts each open watch off, in the middle of its answer; with ?end=1 each ends as after its timeout
     /trial/compact             forgets the log, with a change of something else in it: who watches gets an ERROR event of code 410; with
                                ?as=status each watch is cut off, and who watches from where it was is answered by status 410
-    /trial/state               all objects, with the newest resource version; how many watches were opened, and how many 410 told (also by GET)"""
+    /trial/state               all objects, with the newest resource version; how many watches were opened, how many are open, and how many
+                               410 were told (also by GET)"""
 import argparse
 import base64
 import copy
@@ -144,7 +145,7 @@ class Store:
         self.kept, self.log_length = kept, log_length
         self.objects, self.log, self.snapshots = {}, [], {}
         self.revision = self.compacted = 1
-        self.cuts = self.opened = self.gone = 0
+        self.cuts = self.opened = self.watching = self.gone = 0
         self.is_cut_clean = self.is_gone_by_status = False
         if kept and os.path.exists(kept):
             with open(kept) as f:
@@ -411,7 +412,6 @@ class Handler(BaseHTTPRequestHandler):
         """From which version a watch tells changes, and what it tells first."""
         version, store = self.query.get('resourceVersion') or '', self.store
         with store.lock:
-            store.opened += 1
             first = [item for key, item in sorted(store.objects.items()) if wanted(key, item)]
             if self.query.get('sendInitialEvents') == 'true' or version in ('', '0'):
                 return store.revision, first
@@ -431,9 +431,21 @@ class Handler(BaseHTTPRequestHandler):
                 raise store.gone_at(told)
             return [it for it in store.log if it[0] > told]
 
+    def count_watch(self, change):
+        with self.store.lock:
+            self.store.opened += max(0, change)
+            self.store.watching += change
+
     def watch(self, wanted):
-        store, cuts = self.store, self.store.cuts
         told, first = self.begin_watch(wanted)
+        self.count_watch(1)
+        try:
+            self.tell_watch(wanted, told, first)
+        finally:
+            self.count_watch(-1)
+
+    def tell_watch(self, wanted, told, first):
+        store, cuts = self.store, self.store.cuts
         self.send_response(200)
         self.send_header('Content-Type', 'application/json')
         self.send_header('Transfer-Encoding', 'chunked')
@@ -477,7 +489,7 @@ class Handler(BaseHTTPRequestHandler):
         elif parts != ['state']:
             raise Refused(404, 'NotFound', 'no such trial')
         with store.lock:
-            return self.answer({'revision': store.revision, 'opened': store.opened, 'gone': store.gone, 'objects': [item for _, item in sorted(store.objects.items())]})
+            return self.answer({'revision': store.revision, 'opened': store.opened, 'watching': store.watching, 'gone': store.gone, 'objects': [item for _, item in sorted(store.objects.items())]})
 
 
 def main():

@@ -206,13 +206,13 @@ def changed(trial: Trial, count: int) -> int:
 
 
 def cut(trial: Trial, count: int) -> int:
+    wait_for('a watch is open', lambda: trial.state()['watching'] > 0)
     opened = trial.state()['opened']
     trial.ask('/trial/cut')
     trial.kubectl('label', '-n', 'default', 'configmap', '--selector', 'app=trial', 'cut=yes')
     trial.kubectl('delete', '-f', '-', given=config_maps(range(30, 32), ''))
     settle(trial, count - 2)
-    if trial.state()['opened'] <= opened:
-        raise Wrong('no watch was opened again')
+    wait_for('a watch was opened again', lambda: trial.state()['opened'] > opened)
     return count - 2
 
 
@@ -220,6 +220,7 @@ def gone(trial: Trial, count: int) -> int:
     for how in ('', '?as=status'):
         told = trial.state()['gone']
         trial.kubectl('label', '--overwrite', '-n', 'other', 'configmap', '--selector', 'app=trial', f'gone={told}')
+        wait_for('a watch is open', lambda: trial.state()['watching'] > 0)
         trial.ask(f'/trial/compact{how}')
         wait_for('a 410 is told', lambda: trial.state()['gone'] > told)
         settle(trial, count)
