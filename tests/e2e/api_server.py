@@ -437,15 +437,16 @@ class Handler(BaseHTTPRequestHandler):
             self.store.watching += change
 
     def watch(self, wanted):
+        cuts = self.store.cuts
         told, first = self.begin_watch(wanted)
         self.count_watch(1)
         try:
-            self.tell_watch(wanted, told, first)
+            self.tell_watch(wanted, told, first, cuts)
         finally:
             self.count_watch(-1)
 
-    def tell_watch(self, wanted, told, first):
-        store, cuts = self.store, self.store.cuts
+    def tell_watch(self, wanted, told, first, cuts):
+        store = self.store
         self.send_response(200)
         self.send_header('Content-Type', 'application/json')
         self.send_header('Transfer-Encoding', 'chunked')

@@ -1,0 +1,3 @@
+pub mod Shown
+pub mod Text
+pub mod Utf8
