@@ -1,8 +1,9 @@
 //! One line of a source.
 
-ghost use Rattle.std.specs.Prelude.{◌≡◌, ◌≢◌, ◌≤◌, ◌<◌, ◌∷◌, ◌++◌, [], None, Some, IfOk, IfSome, IfNone, IsErrOf, drop, length, option_map, take};
+ghost use Rattle.std.specs.Prelude.{◌≡◌, ◌≤◌, ◌<◌, ◌+◌, ◌++◌, [], None, Some, IfOk, IfSome, IfNone, IsErrOf, drop, length, take};
 ghost use Rattle.std.specs.Io.KnownBytes.{IsAtEnd};
 ghost use Rattle.kube_text.specs.Causes.{Rose};
+ghost use Rattle.kube_bridge.specs.Exchanged.{fault_of};
 ghost use Rattle.kube_bridge.specs.Pipes.{line_in, behind_line, longest_line};
 
 use crate::fault::PipeFault;
@@ -31,6 +32,8 @@ pub enum Unread {
 }
 
 impl From<Unread> for PipeFault {
+    ghost from_gives = { λ unread fault. fault ≡ fault_of unread };
+
     fn from(unread: Unread) -> PipeFault {
         match unread {
             Unread::Fault => PipeFault::Read,
