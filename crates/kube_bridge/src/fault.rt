@@ -7,25 +7,33 @@ ghost use Rattle.kube_bridge.specs.declared.fault.AskFault.TheVariants.{NoMemory
 use kube_meta::{NoMemory, Text};
 use kube_model::error::ApiError;
 use std::alloc::{AllocError, Global};
+use thiserror::Error;
 
 /// Why no line was exchanged for an answer.
 ///
 /// After all but `NoMemory` before the line was written, the two sides are out of step: nothing is written or read any more.
-#[derive(Clone, Copy, Debug, PartialEq, Eq)]
+#[derive(Clone, Copy, Debug, PartialEq, Eq, Error)]
 pub enum PipeFault {
     /// Memory could not be had.
+    #[error("the pipe: out of memory")]
     NoMemory,
     /// A write failed: the first bytes of the line were written, or none.
+    #[error("the pipe: a write failed")]
     Write,
     /// A read failed.
+    #[error("the pipe: a read failed")]
     Read,
     /// The input ended before a line feed.
+    #[error("the pipe: the end")]
     End,
     /// More than 268,435,456 bytes came without a line feed.
+    #[error("the pipe: too long")]
     TooLong,
     /// Something stands behind the line feed, though nothing was asked yet.
+    #[error("the pipe: more than a line")]
     MoreThanALine,
     /// An earlier call got no answer, so that nobody knows which call the next line answers.
+    #[error("the pipe: out of step")]
     OutOfStep,
 }
 
@@ -47,15 +55,19 @@ impl PipeFault {
 }
 
 /// Why a call has no answer.
-#[derive(Debug, Drop)]
+#[derive(Debug, Drop, Error)]
 pub enum AskFault {
     /// Memory could not be had.
+    #[error("the pipe: out of memory")]
     NoMemory,
     /// No line was exchanged.
+    #[error("{0}")]
     Pipe(PipeFault),
     /// The line is no JSON, not UTF-8, or nests deeper than 127.
+    #[error("the pipe: no JSON")]
     NoJson,
     /// The line is JSON, and no answer to this call: the place (a JSON Pointer, RFC 6901) at which it first differs.
+    #[error("the pipe: no answer at {0}")]
     NoAnswer(Text),
 }
 
