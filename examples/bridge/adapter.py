@@ -127,29 +127,40 @@ def status_of(code: int, reason: str, body: bytes) -> Json:
 def by_kubeconfig(file: Optional[str]) -> Server:
     """The server of a kubeconfig's current context, with its user's token or client certificate."""
     config = read_kubeconfig(file)
-    named = lambda list_name, name, member: next((it[member] or {} for it in config.get(list_name) or [] if it['name'] == name), {})
-    context = named('contexts', config.get('current-context'), 'context')
-    cluster, user = named('clusters', context.get('cluster'), 'cluster'), named('users', context.get('user'), 'user')
+    context = named(config, 'contexts', config.get('current-context'), 'context')
+    cluster, user = named(config, 'clusters', context.get('cluster'), 'cluster'), named(config, 'users', context.get('user'), 'user')
     if not cluster.get('server'):
         raise SystemExit('adapter: the kubeconfig has no current context with a server')
     if user.get('exec') or user.get('auth-provider'):
         raise SystemExit('adapter: a plugin logs this user in: use kubectl proxy and --server')
     folder = os.path.dirname(os.path.abspath(file)) if file else os.getcwd()
-    data = lambda it, name: base64.b64decode(it[f'{name}-data']) if it.get(f'{name}-data') else open(os.path.join(folder, it[name]), 'rb').read() if it.get(name) else None
-    headers = {}
-    token = user.get('token') or user.get('tokenFile') and open(os.path.join(folder, user['tokenFile'])).read().strip()
-    if token:
-        headers['Authorization'] = f'Bearer {token}'
-    tls = None
-    if cluster['server'].startswith('https:'):
-        authority = data(cluster, 'certificate-authority')
-        tls = ssl.create_default_context(cadata=authority.decode() if authority else None)
-        if cluster.get('insecure-skip-tls-verify'):
-            tls.check_hostname, tls.verify_mode = False, ssl.CERT_NONE
-        certificate, key = data(user, 'client-certificate'), data(user, 'client-key')
-        if certificate and key:
-            load_client(tls, certificate, key)
-    return Server(cluster['server'], headers, tls)
+    token = user.get('token') or (content(folder, user, 'tokenFile', None) or b'').decode().strip()
+    headers = {'Authorization': f'Bearer {token}'} if token else {}
+    if not cluster['server'].startswith('https:'):
+        return Server(cluster['server'], headers, None)
+    authority = content(folder, cluster, 'certificate-authority', 'certificate-authority-data')
+    context_of_tls = ssl.create_default_context(cadata=authority.decode() if authority else None)
+    if cluster.get('insecure-skip-tls-verify'):
+        context_of_tls.check_hostname, context_of_tls.verify_mode = False, ssl.CERT_NONE
+    certificate, key = (content(folder, user, name, f'{name}-data') for name in ('client-certificate', 'client-key'))
+    if certificate and key:
+        load_client(context_of_tls, certificate, key)
+    return Server(cluster['server'], headers, context_of_tls)
+
+
+def named(config: Json, list_name: str, name: Optional[str], member: str) -> Json:
+    """The member of the item of this name in one of a kubeconfig's lists, or an empty one."""
+    return next((it[member] or {} for it in config.get(list_name) or [] if it['name'] == name), {})
+
+
+def content(folder: str, holder: Json, file_member: str, data_member: Optional[str]) -> Optional[bytes]:
+    """What a kubeconfig holds in base 64, or the content of the file that it names."""
+    if data_member and holder.get(data_member):
+        return base64.b64decode(holder[data_member])
+    if not holder.get(file_member):
+        return None
+    with open(os.path.join(folder, holder[file_member]), 'rb') as f:
+        return f.read()
 
 
 def read_kubeconfig(file: Optional[str]) -> Json:
