@@ -370,6 +370,12 @@ class Adapter:
         is_told = self.told == self.shutdown and not self.reload and not self.show
         return not is_told or asks and any(it.watch and it.watch.lines for it in self.resources.values())
 
+    def close(self) -> None:
+        """Closes each watch."""
+        for resource in self.resources.values():
+            if resource.watch:
+                resource.watch.close()
+
     def on_signal(self, number: int, program: subprocess.Popen[bytes]) -> None:
         with self.news:
             if number == signal.SIGUSR1:
@@ -437,6 +443,7 @@ def main() -> int:
         signal.signal(number, lambda number, _: adapter.on_signal(number, program))
     tell(f'process {os.getpid()} started process {program.pid} for {server.host}:{server.port}')
     serve(adapter, program, record)
+    adapter.close()
     try:
         program.wait(10)
     except subprocess.TimeoutExpired:
