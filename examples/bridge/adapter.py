@@ -271,6 +271,7 @@ class Adapter:
         self.resources: dict[int, Resource] = {}
         self.news = threading.Condition(threading.RLock())  # a signal's handler may come while the main thread has it
         self.shutdown, self.told, self.reload, self.show = 0, 0, False, False
+        self.has_ended = False  # the program, so that nobody waits for an answer
         self.last = 0
         self.offset = time.time_ns() - time.monotonic_ns()
         self.calls: dict[str, Callable[[Json], bytes]] = {name: getattr(self, f'call_{name}') for name in ('resource', 'list', 'watch', 'next', 'get', 'patch', 'delete', 'turn')}
@@ -367,7 +368,7 @@ class Adapter:
 
     def is_woken(self, asks: bool) -> bool:
         """Whether there is a signal that wasn't told, or a watch has something and is asked."""
-        is_told = self.told == self.shutdown and not self.reload and not self.show
+        is_told = self.told == self.shutdown and not self.reload and not self.show and not self.has_ended
         return not is_told or asks and any(it.watch and it.watch.lines for it in self.resources.values())
 
     def close(self) -> None:
@@ -382,12 +383,15 @@ class Adapter:
                 self.show = True
             elif number == signal.SIGHUP:
                 self.reload = True
+            elif number == signal.SIGCHLD:
+                self.has_ended = True
             else:
                 self.shutdown += 1
                 if self.shutdown > 2:
                     program.kill()
             self.news.notify_all()
-        tell(f'{signal.Signals(number).name}: {"show" if number == signal.SIGUSR1 else "reload" if number == signal.SIGHUP else "shutdown"}')
+        if number != signal.SIGCHLD:
+            tell(f'{signal.Signals(number).name}: {"show" if number == signal.SIGUSR1 else "reload" if number == signal.SIGHUP else "shutdown"}')
 
 
 def query(call: Json, names: list[str]) -> str:
@@ -439,7 +443,7 @@ def main() -> int:
     trace = open(given.trace, 'ab') if given.trace else None
     # In a session of its own a Ctrl-C of the terminal is the adapter's alone.
     program = subprocess.Popen(given.program, stdin=subprocess.PIPE, stdout=subprocess.PIPE, stderr=trace, start_new_session=True)
-    for number in (signal.SIGTERM, signal.SIGINT, signal.SIGHUP, signal.SIGUSR1):
+    for number in (signal.SIGTERM, signal.SIGINT, signal.SIGHUP, signal.SIGUSR1, signal.SIGCHLD):
         signal.signal(number, lambda number, _: adapter.on_signal(number, program))
     tell(f'process {os.getpid()} started process {program.pid} for {server.host}:{server.port}')
     serve(adapter, program, record)
