@@ -28,6 +28,12 @@ pub record PipeState : Type 0 where
   pub failed_reads : ℕ
   pub in_step : Bool
 
+-- a pipe over a source and a sink: what answers are read from, what calls are written to, and whether each line that was written was answered
+pub record Ends (R W : Type 0) : Type 0 where
+  pub source : R
+  pub sink : W
+  pub in_step : Bool
+
 -- the line was written, and the next one was read, with its line feed and nothing behind it
 pub record Hears (old : PipeState) (line answer : List ℕ) (new : PipeState) : Type 0 where
   pub stepped : old.in_step ≡ true

@@ -100,8 +100,9 @@ impl<P: Pipe> BridgeApi<P> {
         ensures rises { self.old.failures ≤ self.new.failures }
     {
         let failed = told.is_fault();
-        if let Some(kept) = &mut self.told {
-            kept.push(told)?;
+        match &mut self.told {
+            Some(kept) => kept.push(told)?,
+            None => drop(told),
         }
         if failed {
             self.faults = self.faults.saturating_add(1);

@@ -1,6 +1,6 @@
 //! A pipe over a source and a sink of bytes.
 
-ghost use Rattle.std.specs.Prelude.{Some};
+ghost use Rattle.std.specs.Prelude.{◌≡◌, Some, true, not};
 
 use crate::fault::PipeFault;
 use crate::line::read_line;
@@ -9,6 +9,7 @@ use kube_text::output::write_all;
 use kube_text::sink::Sink;
 use kube_text::source::Source;
 use std::alloc::Global;
+use std::marker::Model;
 
 /// A pipe that writes to a sink and reads a source. It holds nothing back and reads nothing ahead.
 #[derive(Drop)]
@@ -19,9 +20,19 @@ pub struct Bridge<R, W> {
     in_step: bool,
 }
 
+impl<R, W> Model for Bridge<R, W> {
+    ghost use Rattle.kube_bridge.specs.Pipes.{Ends};
+
+    ghost Value = { Ends R W };
+
+    ghost view = { λ b. record { source = b.source; sink = b.sink; in_step = b.in_step } };
+}
+
 impl<R: Source, W: Sink> Bridge<R, W> {
-    /// A pipe that was not used yet. It contains what the answers are read from, and what the calls are written to.
-    pub fn new(source: R, sink: W) -> Bridge<R, W> {
+    /// A pipe that was not used yet: what the answers are read from, and what the calls are written to.
+    pub fn new(source: R, sink: W) -> Bridge<R, W>
+        ensures { result ≡ record { source = source; sink = sink; in_step = true } }
+    {
         Bridge {
             source,
             sink,
@@ -30,8 +41,19 @@ impl<R: Source, W: Sink> Bridge<R, W> {
     }
 
     /// Whether a call got no answer, so that none is written any more.
-    pub fn is_broken(&self) -> bool {
+    pub fn is_broken(&self) -> bool
+        ensures { result ≡ not self.now.in_step }
+    {
         !self.in_step
+    }
+
+    /// What the answers are read from, and what the calls are written to.
+    pub fn into_parts(self) -> (R, W)
+        ensures source { result.0 ≡ self.source }
+        ensures sink { result.1 ≡ self.sink }
+    {
+        let Bridge { source, sink, .. } = self;
+        (source, sink)
     }
 }
 

@@ -34,11 +34,10 @@ fn open(alloc: Global) -> Result<Writer, AllocError>
 ///
 /// Errors: want of memory.
 #[tactic(auto, using(crate::proofs::Shown::object_shown, crate::proofs::Text::closed))]
-fn close(out: Writer) -> Result<Vec<u8>, AllocError>
+fn close(mut out: Writer) -> Result<Vec<u8>, AllocError>
     ensures { (d : Members) → out.before ≡ [] → Token.begin_object ∷ member_tokens d ≡ out.tokens ++ member_tokens no_members
         → IfOk result (λ line. line.items ≡ line_of (object d)) }
 {
-    let mut out = out;
     out.end_object()?;
     let mut line = out.into_inner();
     line.push(b'\n')?;

@@ -1,12 +1,13 @@
 //! An API of single objects over a pipe.
 
 ghost use Rattle.std.specs.Prelude.{◌≡◌, ◌≤◌, ◌<◌, ◌^◌, [], length, map, IfOk, OnOk, OnErr, Some, None};
+ghost use Rattle.serde_json.specs.Written.{has_float};
 ghost use Rattle.kube_model.specs.Raw.{grown, FaultRose};
 ghost use Rattle.kube_api.specs.Patches.{operation_of};
 ghost use Rattle.kube_api.specs.ObjectTalk.{PatchAsked, DeleteAsked, AnswersFault, patch_answer, delete_answer, is_object_fault, RefusedAs, MissingAs, IsKept, IsNotMemory};
 ghost use Rattle.kube_bridge.specs.Asks.{HasAsked, HasSent, object_told_more, named_in, nothing_held, fraction_error};
 ghost use Rattle.kube_bridge.specs.Heard.{patch_heard, delete_heard};
-ghost use Rattle.kube_bridge.specs.Lines.{line_of, get_data, delete_data, has_fraction};
+ghost use Rattle.kube_bridge.specs.Lines.{line_of, get_data, delete_data, operation_data, has_fraction};
 ghost use Rattle.kube_bridge.specs.Talks.{object_raw_of};
 
 use crate::answer::{DeletionAnswer, ObjectAnswer};
@@ -109,8 +110,9 @@ impl<P: Pipe> BridgeObjects<P> {
         ensures rises { self.old.failures ≤ self.new.failures }
     {
         let failed = told.is_fault();
-        if let Some(kept) = &mut self.told {
-            kept.push(told)?;
+        match &mut self.told {
+            Some(kept) => kept.push(told)?,
+            None => drop(told),
         }
         if failed {
             self.faults = self.faults.saturating_add(1);
@@ -154,15 +156,21 @@ fn has_fraction(patch: &[Patch]) -> bool
     ensures { result ≡ has_fraction (map operation_of patch.now) }
 {
     for operation in patch {
-        let value = match operation {
-            Patch::Test { value, .. } | Patch::Add { value, .. } => value,
-            Patch::Remove { .. } => continue,
-        };
-        if holds_fraction(value) {
+        if operation_has_fraction(operation) {
             return true;
         }
     }
     false
+}
+
+#[tactic(auto, unfolding(crate::specs::Lines::operation_data, crate::specs::Lines::operation_members))]
+fn operation_has_fraction(operation: &Patch) -> bool
+    ensures { result ≡ has_float (operation_data (operation_of operation.now)) }
+{
+    match operation {
+        Patch::Test { value, .. } | Patch::Add { value, .. } => holds_fraction(value),
+        Patch::Remove { .. } => false,
+    }
 }
 
 /// What is answered where a patch has such a number.
