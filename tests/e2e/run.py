@@ -3,8 +3,8 @@
 
     tests/e2e/run.py [--objects 200] [--rounds 1] [--kubectl kubectl] [--keep FOLDER] -- PROGRAM WORD..
 
-PROGRAM watches ConfigMaps of all namespaces, adds a finalizer to each that it reconciles, takes it out of those that are deleted, and
-writes its trace on standard error (docs/BRIDGE.md). It ends with 0 where each of these came out as it should, and says what did not else:
+PROGRAM watches the config maps of all namespaces that have the label example.dev/bridge=yes, adds a finalizer to each that it reconciles,
+takes it out of those that are deleted, and writes its trace on standard error (docs/BRIDGE.md). This ends with 0 where each of these came out as it should, and says what did not else:
 
     created    objects that kubectl applies are reconciled: each has the finalizer, and each was taken in the trace
     changed    what kubectl changes is stored and taken again, and what it deletes is cleaned up and goes
@@ -35,6 +35,7 @@ Json = dict[str, Any]
 
 HERE = os.path.dirname(os.path.abspath(__file__))
 ADAPTER = os.path.join(HERE, '..', '..', 'examples', 'bridge', 'adapter.py')
+LABEL = 'example.dev/bridge=yes'
 SECONDS = 60
 """How long anything may take."""
 
@@ -178,7 +179,7 @@ def seen(objects: list[Json]) -> dict[str, Json]:
 
 
 def config_maps(numbers: range, value: str) -> Json:
-    of = lambda number: {'apiVersion': 'v1', 'kind': 'ConfigMap', 'metadata': {'name': f'object-{number:04}', 'namespace': ('default', 'other')[number % 2], 'labels': {'app': 'trial'}}, 'data': {'value': value}}
+    of = lambda number: {'apiVersion': 'v1', 'kind': 'ConfigMap', 'metadata': {'name': f'object-{number:04}', 'namespace': ('default', 'other')[number % 2], 'labels': {'example.dev/bridge': 'yes'}}, 'data': {'value': value}}
     return {'apiVersion': 'v1', 'kind': 'List', 'items': [of(number) for number in numbers]}
 
 
@@ -209,7 +210,7 @@ def cut(trial: Trial, count: int) -> int:
     wait_for('a watch is open', lambda: trial.state()['watching'] > 0)
     opened = trial.state()['opened']
     trial.ask('/trial/cut')
-    trial.kubectl('label', '-n', 'default', 'configmap', '--selector', 'app=trial', 'cut=yes')
+    trial.kubectl('label', '-n', 'default', 'configmap', '--selector', LABEL, 'cut=yes')
     trial.kubectl('delete', '-f', '-', given=config_maps(range(30, 32), ''))
     settle(trial, count - 2)
     wait_for('a watch was opened again', lambda: trial.state()['opened'] > opened)
@@ -219,7 +220,7 @@ def cut(trial: Trial, count: int) -> int:
 def gone(trial: Trial, count: int) -> int:
     for how in ('', '?as=status'):
         told = trial.state()['gone']
-        trial.kubectl('label', '--overwrite', '-n', 'other', 'configmap', '--selector', 'app=trial', f'gone={told}')
+        trial.kubectl('label', '--overwrite', '-n', 'other', 'configmap', '--selector', LABEL, f'gone={told}')
         wait_for('a watch is open', lambda: trial.state()['watching'] > 0)
         trial.ask(f'/trial/compact{how}')
         wait_for('a 410 is told', lambda: trial.state()['gone'] > told)
@@ -254,7 +255,7 @@ def killed(trial: Trial, count: int) -> int:
     trial.kill_operator()
     trial.kubectl('apply', '-f', '-', given=config_maps(range(1000, 1010), 'while the operator was away'))
     trial.kubectl('delete', '--wait=false', '-f', '-', given=config_maps(range(1000, 1003), ''))
-    trial.kubectl('label', '--overwrite', '-n', 'default', 'configmap', '--selector', 'app=trial', 'killed=yes')
+    trial.kubectl('label', '--overwrite', '-n', 'default', 'configmap', '--selector', LABEL, 'killed=yes')
     trial.start_operator()
     settle(trial, count + 7)
     return count + 7
