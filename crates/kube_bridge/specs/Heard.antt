@@ -1,5 +1,5 @@
 -- What a call came to that was asked over a pipe: the answer that the line's bytes are, or a fault with the cause.
-use Rattle.std.specs.Prelude.{◌≡◌, ℕ, List, ◌++◌, Option, Result, Ok, Err, codes, ⊤}
+use Rattle.std.specs.Prelude.{◌≡◌, ◌⊎◌, ℕ, List, ◌++◌, Option, Result, Ok, Err, codes, ⊤}
 use Rattle.serde_json.specs.Data.{Data}
 use Rattle.kube_meta.specs.declared.object_fault.ObjectFault.{ObjectFault}
 use Rattle.kube_model.specs.declared.error.ApiError.{ApiError}
@@ -89,9 +89,9 @@ pub record HasHeard {A B : Type 0} (seen : A → B) (reads : Data → Result B O
   pub exchanged : IfKnown old line heard new
   pub returned : IsHeard seen reads result heard
 
--- the same, where memory wasn't wanting: it may have been before the line was there
+-- the same; memory may be wanting before there is a line, and then nothing was exchanged
 abbrev pub IsAsked : {A B : Type 0} → (A → B) → (Data → Result B ObjectFault) → Result A AskFault → Option PipeState → List ℕ → Option PipeState → Type 0
-IsAsked seen reads (Err asks.NoMemory) old line new = ⊤
+IsAsked seen reads (Err asks.NoMemory) old line new = (new ≡ old) ⊎ HasHeard seen reads (Err asks.NoMemory) old line new
 IsAsked seen reads (Err (asks.Pipe fault)) old line new = HasHeard seen reads (Err (asks.Pipe fault)) old line new
 IsAsked seen reads (Err asks.NoJson) old line new = HasHeard seen reads (Err asks.NoJson) old line new
 IsAsked seen reads (Err (asks.NoAnswer place)) old line new = HasHeard seen reads (Err (asks.NoAnswer place)) old line new

@@ -1,5 +1,5 @@
 -- A pipe to another party: a line is written, and the line that the other party writes then is read. (Lines as in POSIX, "line": bytes that end with a line feed.)
-use Rattle.std.specs.Prelude.{◌≡◌, ℕ, ◌==◌, ◌<◌, Bool, true, false, List, [], ◌∷◌, length, Option, Some, None, Result, Ok, Err, IfSome, ⊤, if◌then◌else◌}
+use Rattle.std.specs.Prelude.{◌≡◌, ℕ, ◌==◌, ◌<◌, ◌⊎◌, Bool, true, false, List, [], ◌∷◌, length, Option, Some, None, Result, Ok, Err, IfSome, ⊤, if◌then◌else◌}
 use Rattle.std.specs.Io.KnownBytes.{Appends, Keeps, IsAtEnd}
 use Rattle.kube_text.specs.Causes.{Rose}
 use Rattle.kube_text.specs.Part.{AppendsPart}
@@ -49,7 +49,7 @@ pub record Breaks (old : PipeState) (line : List ℕ) (new : PipeState) : Type 0
 
 -- why there was no answer. Each cause stands by itself: what it says is so
 abbrev pub BreaksFor : PipeState → List ℕ → PipeFault → PipeState → Type 0
-BreaksFor old line faults.NoMemory new = ⊤
+BreaksFor old line faults.NoMemory new = (new ≡ old) ⊎ Breaks old line new
 BreaksFor old line faults.OutOfStep new = (old.in_step ≡ false) × (new ≡ old)
 BreaksFor old line faults.Write new =
     (old.in_step ≡ true) × AppendsPart old.written new.written line × Rose old.failed_writes new.failed_writes × (new.left ≡ old.left) × (new.in_step ≡ false)
@@ -58,13 +58,17 @@ BreaksFor old line faults.End new = Breaks old line new × IfSome old.left (λ b
 BreaksFor old line faults.TooLong new = Breaks old line new × IfSome old.left (λ bytes. longest_line < length (line_in bytes))
 BreaksFor old line faults.MoreThanALine new = Breaks old line new × IfSome old.left (λ bytes. IfSome (behind_line bytes) (λ rest. ¬ (rest ≡ [])))
 
--- a line was exchanged for an answer, or for no answer with its cause
+-- a line was exchanged for an answer, or for no answer with its cause, where memory is one that may come at any time
 abbrev pub Exchanges : PipeState → List ℕ → Result (List ℕ) PipeFault → PipeState → Type 0
 Exchanges old line (Ok answer) new = Hears old line answer new
 Exchanges old line (Err fault) new = BreaksFor old line fault new
 
--- the same, where the pipe says what is known of it
+-- where the pipe says what is known of it
 abbrev pub IfKnown : Option PipeState → List ℕ → Result (List ℕ) PipeFault → Option PipeState → Type 0
 IfKnown None line result new = ⊤
 IfKnown (Some old) line result None = ⊥
 IfKnown (Some old) line result (Some new) = Exchanges old line result new
+
+-- the line was exchanged, for an answer or for none, or nothing was
+abbrev pub AtMostOnce : Option PipeState → List ℕ → Option PipeState → Type 0
+AtMostOnce old line new = (new ≡ old) ⊎ ((result : Result (List ℕ) PipeFault) × IfKnown old line result new)

@@ -5,6 +5,8 @@ ghost use Rattle.kube_model.specs.Raw.{grown, ListAsked, WatchAsked, NextAsked, 
 ghost use Rattle.kube_api.specs.Answers.{list_answer, watch_answer, next_answer, is_watch_fault};
 ghost use Rattle.kube_bridge.specs.Asks.{HasAsked, IsMove, told_more};
 ghost use Rattle.kube_bridge.specs.Heard.{list_heard, watch_heard, next_heard};
+ghost use Rattle.kube_bridge.specs.Lines.{call_line};
+ghost use Rattle.kube_bridge.specs.Pipes.{AtMostOnce};
 ghost use Rattle.kube_bridge.specs.Talks.{raw_of};
 
 use crate::answer::{ListAnswer, NextAnswer, WatchAnswer};
@@ -117,7 +119,8 @@ fn heard_list<P: Pipe>(
     pipe: &mut P,
     line: &[u8],
 ) -> Result<Polled<Result<Page<ScriptObject>, ApiError>>, NoMemory>
-    ensures { IfOk result (λ a. HasAsked (P.known pipe.old) line.now list_heard (list_answer a) (P.known pipe.new)) }
+    ensures asked { IfOk result (λ a. HasAsked (P.known pipe.old) line.now list_heard (list_answer a) (P.known pipe.new)) }
+    ensures once { OnErr result (AtMostOnce (P.known pipe.old) line.now (P.known pipe.new)) }
 {
     match ask::<P, ListAnswer>(pipe, alloc, line) {
         Ok(heard) => Ok(heard.answer),
@@ -131,7 +134,8 @@ fn heard_watch<P: Pipe>(
     pipe: &mut P,
     line: &[u8],
 ) -> Result<Polled<Result<(), ApiError>>, NoMemory>
-    ensures { IfOk result (λ a. HasAsked (P.known pipe.old) line.now watch_heard (watch_answer a) (P.known pipe.new)) }
+    ensures asked { IfOk result (λ a. HasAsked (P.known pipe.old) line.now watch_heard (watch_answer a) (P.known pipe.new)) }
+    ensures once { OnErr result (AtMostOnce (P.known pipe.old) line.now (P.known pipe.new)) }
 {
     match ask::<P, WatchAnswer>(pipe, alloc, line) {
         Ok(heard) => Ok(heard.answer),
@@ -145,7 +149,8 @@ fn heard_next<P: Pipe>(
     pipe: &mut P,
     line: &[u8],
 ) -> Result<Polled<Option<Result<WatchEvent<ScriptObject>, ApiError>>>, NoMemory>
-    ensures { IfOk result (λ a. HasAsked (P.known pipe.old) line.now next_heard (next_answer a) (P.known pipe.new)) }
+    ensures asked { IfOk result (λ a. HasAsked (P.known pipe.old) line.now next_heard (next_answer a) (P.known pipe.new)) }
+    ensures once { OnErr result (AtMostOnce (P.known pipe.old) line.now (P.known pipe.new)) }
 {
     match ask::<P, NextAnswer>(pipe, alloc, line) {
         Ok(heard) => Ok(heard.answer),
@@ -170,6 +175,7 @@ impl<P: Pipe> ApiMode for BridgeApi<P> {
     ) -> Result<Polled<Result<Page<ScriptObject>, ApiError>>, NoMemory>
         ensures resource { self.new.resource ≡ self.old.resource }
         ensures opened { self.new.opened ≡ self.old.opened }
+        ensures once { OnErr result (AtMostOnce (P.known self.old.pipe) (call_line self.old.resource (ListAsked params.now)) (P.known self.new.pipe)) }
 
         // those of the trait
         ensures grows { IfOk result (λ a. self.new.talk ≡ grown self.old.talk (record { call = ListAsked params.now; answer = list_answer a })) }
@@ -194,6 +200,7 @@ impl<P: Pipe> ApiMode for BridgeApi<P> {
         _now: Moment,
     ) -> Result<Polled<Result<(), ApiError>>, NoMemory>
         ensures resource { self.new.resource ≡ self.old.resource }
+        ensures once { OnErr result (AtMostOnce (P.known self.old.pipe) (call_line self.old.resource (WatchAsked params.now version.now)) (P.known self.new.pipe)) }
 
         // those of the trait
         ensures grows { IfOk result (λ a. self.new.talk ≡ grown self.old.talk (record { call = WatchAsked params.now version.now; answer = watch_answer a })) }
@@ -226,6 +233,7 @@ impl<P: Pipe> ApiMode for BridgeApi<P> {
     ) -> Result<Polled<Option<Result<WatchEvent<ScriptObject>, ApiError>>>, NoMemory>
         ensures resource { self.new.resource ≡ self.old.resource }
         ensures opened { self.new.opened ≡ self.old.opened }
+        ensures once { OnErr result (AtMostOnce (P.known self.old.pipe) (call_line self.old.resource NextAsked) (P.known self.new.pipe)) }
 
         // those of the trait
         ensures grows { IfOk result (λ a. self.new.talk ≡ grown self.old.talk (record { call = NextAsked; answer = next_answer a })) }

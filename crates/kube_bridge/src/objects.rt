@@ -7,7 +7,8 @@ ghost use Rattle.kube_api.specs.Patches.{operation_of};
 ghost use Rattle.kube_api.specs.ObjectTalk.{PatchAsked, DeleteAsked, AnswersFault, patch_answer, delete_answer, is_object_fault, RefusedAs, MissingAs, IsKept, IsNotMemory};
 ghost use Rattle.kube_bridge.specs.Asks.{HasAsked, HasSent, object_told_more, named_in, nothing_held, fraction_error};
 ghost use Rattle.kube_bridge.specs.Heard.{patch_heard, delete_heard};
-ghost use Rattle.kube_bridge.specs.Lines.{line_of, get_data, delete_data, operation_data, has_fraction};
+ghost use Rattle.kube_bridge.specs.Lines.{line_of, get_data, delete_data, operation_data, patch_data, has_fraction};
+ghost use Rattle.kube_bridge.specs.Pipes.{AtMostOnce};
 ghost use Rattle.kube_bridge.specs.Talks.{object_raw_of};
 
 use crate::answer::{DeletionAnswer, ObjectAnswer};
@@ -94,6 +95,7 @@ impl<P: Pipe> BridgeObjects<P> {
         name: &str,
     ) -> Result<Polled<PatchAnswer<ScriptObject>>, NoMemory>
         ensures asked { IfOk result (λ a. HasAsked (P.known self.old.pipe) (line_of (get_data (named_in self.old name.now))) patch_heard (patch_answer a) (P.known self.new.pipe)) }
+        ensures once { OnErr result (AtMostOnce (P.known self.old.pipe) (line_of (get_data (named_in self.old name.now))) (P.known self.new.pipe)) }
         ensures kept { self.new ≡ record self.old { pipe = self.new.pipe } }
     {
         let line = get_line(alloc, self.resource, &self.namespace, name)?;
@@ -128,6 +130,7 @@ fn heard_patch<P: Pipe>(
     line: &[u8],
 ) -> Result<Polled<PatchAnswer<ScriptObject>>, NoMemory>
     ensures asked { IfOk result (λ a. HasAsked (P.known pipe.old) line.now patch_heard (patch_answer a) (P.known pipe.new)) }
+    ensures once { OnErr result (AtMostOnce (P.known pipe.old) line.now (P.known pipe.new)) }
     ensures no_memory { IfOk result (λ a. IsNotMemory (patch_answer a)) }
 {
     match ask::<P, ObjectAnswer>(pipe, alloc, line) {
@@ -142,7 +145,8 @@ fn heard_deletion<P: Pipe>(
     pipe: &mut P,
     line: &[u8],
 ) -> Result<Polled<DeleteAnswer<ScriptObject>>, NoMemory>
-    ensures { IfOk result (λ a. HasAsked (P.known pipe.old) line.now delete_heard (delete_answer a) (P.known pipe.new)) }
+    ensures asked { IfOk result (λ a. HasAsked (P.known pipe.old) line.now delete_heard (delete_answer a) (P.known pipe.new)) }
+    ensures once { OnErr result (AtMostOnce (P.known pipe.old) line.now (P.known pipe.new)) }
 {
     match ask::<P, DeletionAnswer>(pipe, alloc, line) {
         Ok(heard) => Ok(heard.answer),
@@ -191,6 +195,7 @@ fn send<P: Pipe>(
     patch: &[Patch],
 ) -> Result<Polled<PatchAnswer<ScriptObject>>, NoMemory>
     ensures sent { IfOk result (λ a. HasSent P.known pipe.old (record { resource = resource; namespace = namespace.now; name = name.now }) (map operation_of patch.now) (patch_answer a) pipe.new) }
+    ensures once { OnErr result (AtMostOnce (P.known pipe.old) (line_of (patch_data (record { resource = resource; namespace = namespace.now; name = name.now }) (map operation_of patch.now))) (P.known pipe.new)) }
     ensures no_memory { IfOk result (λ a. IsNotMemory (patch_answer a)) }
 {
     if has_fraction(patch) {
@@ -218,6 +223,7 @@ impl<P: Pipe> ObjectApi for BridgeObjects<P> {
     ) -> Result<Polled<PatchAnswer<ScriptObject>>, NoMemory>
         requires { length patch.now < 2 ^ 32 }
         ensures sent { IfOk result (λ a. HasSent P.known self.old.pipe (named_in self.old name.now) (map operation_of patch.now) (patch_answer a) self.new.pipe) }
+        ensures once { OnErr result (AtMostOnce (P.known self.old.pipe) (line_of (patch_data (named_in self.old name.now) (map operation_of patch.now))) (P.known self.new.pipe)) }
         ensures resource { self.new.resource ≡ self.old.resource }
         ensures namespace { self.new.namespace ≡ self.old.namespace }
 
@@ -251,6 +257,7 @@ impl<P: Pipe> ObjectApi for BridgeObjects<P> {
         _now: Moment,
     ) -> Result<Polled<DeleteAnswer<ScriptObject>>, NoMemory>
         ensures asked { IfOk result (λ a. HasAsked (P.known self.old.pipe) (line_of (delete_data (named_in self.old name.now))) delete_heard (delete_answer a) (P.known self.new.pipe)) }
+        ensures once { OnErr result (AtMostOnce (P.known self.old.pipe) (line_of (delete_data (named_in self.old name.now))) (P.known self.new.pipe)) }
         ensures resource { self.new.resource ≡ self.old.resource }
         ensures namespace { self.new.namespace ≡ self.old.namespace }
 
