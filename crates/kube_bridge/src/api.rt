@@ -92,6 +92,14 @@ impl<P: Pipe> BridgeApi<P> {
         &self.pipe
     }
 
+    /// The pipe, of which nothing else is kept.
+    pub fn into_pipe(self) -> P
+        ensures { result ≡ self.pipe }
+    {
+        let BridgeApi { pipe, .. } = self;
+        pipe
+    }
+
     /// Keeps a call with its answer, where it keeps any, and counts it where it failed.
     ///
     /// Errors: `NoMemory`, and all is as it was.
