@@ -4,8 +4,8 @@ ghost use Rattle.std.specs.Io.{ReadsAtMost};
 ghost use Rattle.std.specs.Io.KnownBytes.{ReadConsumes};
 ghost use Rattle.kube_text.specs.Causes.{HasCause};
 
-use crate::source::Source;
 use kube_text::failed::Failed;
+use kube_text::source::Source;
 use std::alloc::Global;
 
 /// How many bytes are remembered at most: a script that somebody wrote by hand is shorter.

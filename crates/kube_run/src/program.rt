@@ -21,7 +21,6 @@ use crate::command::{Command, command_of};
 use crate::generated::write_totals;
 use crate::input::{Unread, read_all};
 use crate::play::play;
-use crate::source::Source;
 use crate::status::Status;
 use crate::trace::{write_records, write_refusal, write_refused};
 use kube_control::{BadTurn, RunError};
@@ -31,6 +30,7 @@ use kube_text::failed::Unwritten;
 use kube_text::record::ScriptRecord;
 use kube_text::refusal::Refusal;
 use kube_text::sink::Sink;
+use kube_text::source::Source;
 use std::alloc::Global;
 
 /// Does what the words name: `run` reads a script, runs a controller by it, and writes a line for each turn; `gen` with a seed,

@@ -7,9 +7,9 @@ mod texts;
 
 use kube_run::input::{Unread, read_all};
 use kube_run::program::run_program;
-use kube_run::source::{NeverFailsSource, VecSource};
 use kube_text::output::write_all;
 use kube_text::sink::{NeverFailsSink, VecSink};
+use kube_text::source::{NeverFailsSource, VecSource};
 use std::alloc::{AllocError, Global};
 use std::process::Abort;
 use std::test::Fail;

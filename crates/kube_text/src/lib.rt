@@ -1,4 +1,4 @@
-//! The text of a trace, and the lines that tell of a refusal.
+//! The text of a trace, the lines that tell of a refusal, and what bytes are read from and written to.
 #![tactic(auto)]
 
 pub mod exchange;
@@ -12,6 +12,8 @@ pub mod reference;
 pub mod refusal;
 pub mod show;
 pub mod sink;
+pub mod source;
+pub mod stdio;
 pub mod taken;
 pub mod value;
 
@@ -20,3 +22,4 @@ pub use record::{ScriptRecord, write_record};
 pub use refusal::{Refusal, refusal_line};
 pub use show::Show;
 pub use sink::{NeverFailsSink, Sink, VecSink};
+pub use source::{NeverFailsSource, Source, VecSource};

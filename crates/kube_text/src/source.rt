@@ -6,7 +6,7 @@ ghost use Rattle.std.specs.Io.KnownBytes.{ReadConsumes};
 ghost use Rattle.kube_text.specs.Causes.{HasCause};
 ghost use Rattle.kube_text.specs.Held.{is_to_fail, next_call};
 
-use kube_text::failed::Failed;
+use crate::failed::Failed;
 use std::marker::Model;
 
 /// What bytes are read from, a few at a time.
