@@ -20,7 +20,7 @@ pub if-ok : {X E : Type 0} (r : Result X E) (P : Type 0) → is_err r ≡ false 
 if-ok (Ok x) P e h = h
 if-ok (Err x) P e h = absurd (cc)
 
-none-at : {M : Type 0} (rows : List (Row M)) (n : ℕ) → at rows n ≡ None → list_any (nat_eq n) (map number_of rows) ≡ false
+pub none-at : {M : Type 0} (rows : List (Row M)) (n : ℕ) → at rows n ≡ None → list_any (nat_eq n) (map number_of rows) ≡ false
 none-at [] n h = refl
 none-at (r ∷ rows) n h = go (nat_eq n r.1.number) h (none-at rows n)
   where

@@ -17,3 +17,4 @@ pub mod Numbers
 pub mod Indexing
 pub mod Timetables
 pub mod Kept
+pub mod Due

@@ -71,7 +71,7 @@ module _ {M : Type 0} where
 
 -- Places.
 
-order-least : (p q : Reverse Place) → is_lt (place_order p q) ≡ false → (p.0.time < q.0.time) ⊎ ((p.0.time ≡ q.0.time) × (p.0.number ≤ q.0.number))
+pub order-least : (p q : Reverse Place) → is_lt (place_order p q) ≡ false → (p.0.time < q.0.time) ⊎ ((p.0.time ≡ q.0.time) × (p.0.number ≤ q.0.number))
 order-least p q h = go (nat_lt q.0.time p.0.time) refl h
   where
     numbers : p.0.time ≡ q.0.time → (b : Bool) → nat_lt q.0.number p.0.number ≡ b → is_lt (cond b Less (cond (nat_eq q.0.number p.0.number) Equal Greater)) ≡ false
