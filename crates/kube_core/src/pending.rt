@@ -16,6 +16,7 @@ ghost use Rattle.kube_history.specs.CoreEvents.{next_candidate};
 ghost use Rattle.kube_history.specs.TurnCalls.{with_requests};
 ghost use Rattle.kube_turn.specs.Views.{message_of};
 ghost use Rattle.kube_core.specs.Pendings.{Stands, handed_over, place_of, FirstIs, TakenFrom, is_idle};
+ghost use Rattle.kube_core.specs.Waking.{take_due, with_stale};
 
 use crate::requests::copy_requests;
 use indexmap::IndexMap;
@@ -182,6 +183,27 @@ impl<K: Resource> Pending<K> {
         ensures { result ≡ has_room self.now.limit (length self.now.running) 0 }
     {
         self.limit == 0 || self.running.len() < usize::from(self.limit)
+    }
+
+    /// From when on there is something to take, where nothing is requested and nothing ends until then: `now` where there is
+    /// already, else when the first message is due; none where as many run as may. It takes no memory.
+    ///
+    /// It looks at the messages that wait for references that run, as a take does, and at what the scheduler's `first_due`
+    /// looks at.
+    pub fn take_due(&mut self, now: Moment) -> Option<Moment>
+        ensures due { (core : CoreWorld K) (qs : List (QueueEvent Message)) (rs : List (Running K)) → Stands K.type_of core self.old qs rs
+            → option_map (λ m. m.0) result ≡ take_due core now.0 qs rs }
+        ensures stands { (core : CoreWorld K) (qs : List (QueueEvent Message)) (rs : List (Running K)) → Stands K.type_of core self.old qs rs
+            → Stands K.type_of core self.new qs rs }
+        ensures rest { self.new ≡ with_stale self.old self.new.schedule.stale }
+    {
+        if !self.has_room() {
+            return None;
+        }
+        if first_idle(&self.schedule, &self.running).is_some() {
+            return Some(now);
+        }
+        self.schedule.first_due()
     }
 
     /// The first waiting message whose reference doesn't run, where one more may run. It stays where it is.
