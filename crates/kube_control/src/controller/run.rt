@@ -62,6 +62,9 @@ impl<A: ApiMode, S: RelatedSet<A::Value>, B: Backoff> Controller<WatchRoot<A>, S
         requires few { length turns.items < 2 ^ 32 }
         ensures related { S.can_poll self.new.asks.related }
 
+        // Its sources are fed as before: so there are as many, and it may run again.
+        ensures feeds { S.feeds self.new.asks.related ≡ S.feeds self.old.asks.related }
+
         // The answer is the one trace of the turns, with what the error policy answered, and the controller stands for the
         // history with it.
         ensures trace { (w : World A.Value B) (h : List (Step A.Value)) → StandsFor ⟦<WatchRoot<A> as RootSource>⟧ S.RelatedSet B.Backoff A.Value.Resource w h self.old

@@ -4,7 +4,7 @@ ghost use Rattle.std.specs.Prelude.{◌≡◌, ◌+◌, ◌<◌, ◌^◌, [], tr
 ghost use Rattle.kube_model.specs.World.{World};
 ghost use Rattle.kube_model.specs.History.{Step, Turn, exchanges};
 ghost use Rattle.kube_model.specs.Pause.{is_paused};
-ghost use Rattle.kube_model.specs.Traces.{IsRecord, Made, last_moment};
+ghost use Rattle.kube_model.specs.Traces.{IsRecord, Made, has_ended, last_moment};
 ghost use Rattle.kube_control.specs.Controllers.{StandsFor};
 ghost use Rattle.kube_control.specs.Waking.{IsBefore, IsUntold, TellNothing, controller_with_stale, earlier_of, wakes_after};
 
@@ -61,6 +61,15 @@ impl<A: ApiMode, S: RelatedSet<A::Value>, B: Backoff> Controller<WatchRoot<A>, S
         ensures last { result ≡ self.now.last }
     {
         self.last
+    }
+
+    /// Whether a trace of it has ended: no turn follows, and a run answers the empty trace.
+    pub fn has_ended(&self) -> bool
+        ensures ended { result ≡ self.now.has_ended }
+        ensures history { (w : World A.Value B) (h : List (Step A.Value)) → StandsFor ⟦<WatchRoot<A> as RootSource>⟧ S.RelatedSet B.Backoff A.Value.Resource w h self.now
+            → result ≡ has_ended h }
+    {
+        self.ended
     }
 
     /// How many sources it asks: the root and the related ones.
