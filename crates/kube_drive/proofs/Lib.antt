@@ -1,4 +1,5 @@
 -- lemmas that the proofs cite
 pub mod Finishing
+pub mod Held
 pub mod Reconciling
 pub mod Stepping

@@ -1,5 +1,6 @@
--- Not run: the names of goals are guessed by those of kube_control. Each answer says how its clause follows.
-use Rattle.std.proofs.Common.{◌≡◌, ◌+◌, ◌++◌, ◌∷◌, [], true, false, List, map, length, refl, sym, ap, subst, ◌∙◌, absurd}
+-- Not run: the names of goals are guessed by those of kube_control, and `c.in-Ok.ensures.one` stands for `only-record` of Stepping. Each answer says how its clause follows.
+use Rattle.std.proofs.Common.{◌++◌, ◌∷◌, [], Some, map, sym, ap, subst, ◌∙◌}
+use Rattle.kube_model.specs.Raw.{grown_by}
 use Rattle.std.specs.Arc.{arc_value}
 use Rattle.kube_meta.specs.Keys.{reference_of}
 use Rattle.kube_model.specs.Traces.{IsTrace, step, steps, unread}
@@ -11,6 +12,8 @@ use Rattle.kube_step.specs.HandOvers.{handed_by, taken_by}
 use Rattle.kube_step.specs.Policies.{answered_by}
 use Rattle.kube_turn.specs.Records.{record_of, turn_of}
 use Rattle.kube_drive.specs.Driving.{Driving, IsDriven}
+use Rattle.kube_drive.specs.Reconciled.{AreReconciled}
+use Rattle.kube_drive.proofs.Held.{finish-names, handed-here, handed-names, handed-objects, none-named, not-refused, runs-once, valid-one}
 use Rattle.kube_drive.proofs.Stepping.{handed-runs, is-last, moment-below, none-taken, of-one, once-now, only-record, settled-now, turn-valid}
 use Rattle.kube_drive.proofs.driver.Driver.step.Goals as goal
 
@@ -19,6 +22,12 @@ abbrev driven : _ → _ → _ → _ → _ → _
 driven g c w h d =
     subst (λ (x : Driving (RootWatching g.row.A.Denot g.row.A-Value.Denot) g.row.S.Denot g.row.B.Denot g.row.Rc.Denot g.row.A-Value.Denot g.row.A-Value-DynamicType.Denot g.row.E.Denot).
     IsDriven _ g.S.RelatedSet g.B.Backoff g.A.Value.Resource w h x) (sym c.self.view_is) d
+
+-- what was handed over is what the one record took
+abbrev handed : _ → _ → _
+handed g c =
+    let type_of = g.A.Value.Resource.type_of in
+    handed-here type_of c.run.new.started (record_of type_of c.in-Some.record) (c.in-Ok.ensures.handed ∙ ap (λ rs. grown_by (Some []) (handed_by (taken_by (map (record_of type_of) rs)))) (c.in-Ok.ensures.one))
 
 -- the run's trace, of its one turn and record
 pub returns-clause-trace : goal.returns-clause-trace
@@ -36,16 +45,18 @@ returns-clause-trace g c w h d =
       c.next_due-wakes.ensures.driven w _
       (record {
         controller = both.1;
-        finishes = c.reconcile_all.ensures.references ∙ (returns-handed g c w h d ∙ handed-runs w h _ c.args.now.0 (ap _ z.controller.last) (moment-below w h z.controller.of_trace) (map-names g c ∙ z.finishes) _);
+        finishes = c.reconcile_all.ensures.references ∙ (handed-names type_of c.run.new.started ∙ (ap (map (λ p. p.0)) (handed g c) ∙ handed-runs w h _ c.args.now.0 (ap _ z.controller.last) (moment-below w h z.controller.of_trace) (finish-names type_of c.self.inside.finishes ∙ z.finishes) _));
       }),
     )
 
 -- what was handed over is what the turn took, as the run says of what it handed over
 pub returns-clause-references : goal.returns-clause-references
-returns-clause-references g c = c.reconcile_all.ensures.references ∙ handed-references g c
+returns-clause-references g c =
+    c.reconcile_all.ensures.references ∙ (handed-names g.A.Value.Resource.type_of c.run.new.started ∙ ap (map (λ p. p.0)) (handed g c))
 
 pub returns-clause-reconciled : goal.returns-clause-reconciled
-returns-clause-reconciled g c = subst (λ os. AreReconciled _ _ _ _ os _ _ _) (handed-objects g c) c.reconcile_all.ensures.reconciled
+returns-clause-reconciled g c =
+    subst (λ os. AreReconciled _ _ _ _ os _ _ _) (handed-objects g.A.Value.Resource.type_of c.run.new.started ∙ ap (map (λ p. p.1)) (handed g c)) c.reconcile_all.ensures.reconciled
 
 pub returns-clause-settled : goal.returns-clause-settled
 returns-clause-settled g c w h d =
@@ -76,10 +87,10 @@ returns-clause-drains g c w h d asked =
     let last = c.in-Some.ensures.some in
     let shuts = of-one w type_of h _ _ _ last.0 c.in-Some.record c.in_ok-turns.ensures.turns last.1 going (c.in-Ok.ensures.trace w h z.controller).0
     (λ ts rs. EachShutsDown w h (steps (map (turn_of type_of) ts) (map unread (map (record_of type_of) rs)))) (c.in-Ok.ensures.shuts w h z.controller) in
-    let finishes = map-names g c ∙ z.finishes in
+    let finishes = finish-names type_of c.self.inside.finishes ∙ z.finishes in
     (
       is-last w h _ c.args.now.0 (ap _ z.controller.last) (moment-below w h z.controller.of_trace) finishes _ asked shuts.0,
-      none-held g c (none-taken w h _ c.args.now.0 (ap _ z.controller.last) (moment-below w h z.controller.of_trace) finishes _ asked shuts.0),
+      none-named type_of c.reconcile_all.result (returns-clause-references g c ∙ ap (λ ts. map (λ p. p.0) (handed_by ts)) (none-taken w h _ c.args.now.0 (ap _ z.controller.last) (moment-below w h z.controller.of_trace) finishes _ asked shuts.0)),
     )
 
 pub returns-clause-wakes : goal.returns-clause-wakes
@@ -89,6 +100,5 @@ returns-clause-wakes g c w h d = c.next_due-wakes.ensures.due w _ (returns-claus
 pub returns-in-Err-clause-valid : goal.returns-in-Err-clause-valid
 returns-in-Err-clause-valid g c w h d =
     let z = driven g c w h d in
-    let going = sym (c.has_ended.ensures.history w h z.controller) ∙ c.if-has_ended.false in
-    let valid = turn-valid w h _ c.args.now.0 (ap _ z.controller.last) (moment-below w h z.controller.of_trace) (map-names g c ∙ z.finishes) (runs-once g c w h z) in
-    not-refused c.in-Err.error (c.in-Err.ensures.complete w h z.controller (valid-list valid going))
+    let valid = turn-valid w h _ c.args.now.0 (ap _ z.controller.last) (moment-below w h z.controller.of_trace) (finish-names g.A.Value.Resource.type_of c.self.inside.finishes ∙ z.finishes) (runs-once _ _ _ _ w h _ z.controller) in
+    not-refused c.in-Err.error (c.in-Err.ensures.complete w h z.controller (valid-one h _ _ valid))
