@@ -2,23 +2,18 @@
 use Rattle.std.proofs.Common.{◌≡◌, ℕ, zero, suc, ◌+◌, ◌-◌, ◌<◌, ◌≤◌, ◌^◌, min, max, Bool, true, false, not, ◌||◌, nat_le, nat_lt, List, [], ◌∷◌, ◌++◌, map, length, take, Option, Some, None, if◌then◌else◌, refl, sym, ap, subst, ◌∙◌, append-nil, append_assoc, arith}
 use Rattle.std.specs.List.{filter_map}
 use Rattle.std.proofs.lemmas.Bool.{le-ltb, leb-false, lt-leb}
-use Rattle.std.proofs.lemmas.List.{length-append, length-map}
-use Rattle.kube_meta.specs.Reference.{ObjectType}
+use Rattle.std.proofs.lemmas.List.{length-append}
 use Rattle.kube_model.specs.World.{World}
 use Rattle.kube_model.specs.History.{Step, Turn, exchanges}
 use Rattle.kube_model.specs.Pause.{gave_up}
 use Rattle.kube_model.specs.Settled.{IsSettled}
 use Rattle.kube_model.specs.Shutdowns.{asks_shutdown}
 use Rattle.kube_model.specs.Takes.{running, started}
-use Rattle.kube_model.specs.Traces.{IsTrace, IsValid, Made, Moment, has_ended, last_moment, refused_finish, step, steps, unread}
+use Rattle.kube_model.specs.Traces.{IsTrace, IsValid, Made, Moment, last_moment, refused_finish, step, steps}
 use Rattle.kube_model.proofs.Lasts.{any-hit}
 use Rattle.kube_history.specs.Running.{MayRun, RunOnce, ShutsDown}
 use Rattle.kube_history.specs.TurnEvents.{was_over}
 use Rattle.kube_step.specs.HandOvers.{handed_by}
-use Rattle.kube_step.specs.Policies.{answered_by}
-use Rattle.kube_turn.specs.declared.turn.Turn.{Turn as HeldTurn}
-use Rattle.kube_turn.specs.declared.record.TurnRecord.{TurnRecord as HeldRecord}
-use Rattle.kube_turn.specs.Records.{record_of, turn_of}
 use Rattle.kube_control.specs.Histories.{EachIsSettled, EachMayRun, IsOfTrace}
 use Rattle.kube_control.proofs.Refusals.{moment-push}
 use Rattle.kube_drive.specs.Driving.{moment_after}
@@ -66,14 +61,6 @@ module _ {O B : Type 0} (w : World O B) (h : List (Step O)) (t : Turn) (now : �
     pub is-last : asks_shutdown t.shutdown ≡ true → ShutsDown w h (step t m) [] → m.0.ended ≡ true
     is-last a s = s.idle (over-now a) (runs-after h (step t m) finishes ∙ ap (filter_map started) (none-taken a s))
 
--- A run of one turn.
-
-module _ {O B : Type 0} (w : World O B) (p : ℕ → ℕ → O → Option ℕ) (h : List (Step O)) (t : Turn) (going : has_ended h ≡ false) where
-  -- has one record
-  pub one-record : (ms : List (Made O)) → IsTrace w p h (t ∷ []) ms → (m : Made O) × (ms ≡ m ∷ [])
-  one-record [] k = absurd (let e : false ≡ true = sym going ∙ k in cc)
-  one-record (m ∷ ms) k = (m, ap (λ ns. m ∷ ns) k.2)
-
 take-all : {A : Type 0} (xs : List A) → take (length xs) xs ≡ xs
 take-all [] = refl
 take-all (x ∷ xs) = ap (λ ys. x ∷ ys) (take-all xs)
@@ -86,30 +73,13 @@ module _ {O B : Type 0} (w : World O B) (h : List (Step O)) where
   once-now each = subst (λ g. MayRun w.limit (running g)) (take-all h) (each (length h))
 
 -- The records of a run of one turn are the one that was taken of them.
-only : {X Y : Type 0} (f : X → Y) (xs before : List X) (r : X) (y : Y) → xs ≡ before ++ r ∷ [] → map f xs ≡ y ∷ [] → xs ≡ r ∷ []
-only f xs [] r y e m = e
-only f xs (b ∷ bs) r y e m =
-    absurd (let long = ap (λ zs. length (map f zs)) e in let one = ap length m in let more = length-map (bs ++ r ∷ []) f in let split = length-append bs (r ∷ []) in omega (arith, long, one, more, split))
 
-module _ {O B D E : Type 0} (w : World O B) (type_of : D → ObjectType) (h : List (Step O)) (ht : HeldTurn O E D) (ts : List (HeldTurn O E D)) (rs before : List (HeldRecord O E D)) (r : HeldRecord O E D)
-    (one : ts ≡ ht ∷ []) (last : rs ≡ before ++ r ∷ []) (going : has_ended h ≡ false)
-    (traced : IsTrace w (answered_by (map (record_of type_of) rs)) h (map (turn_of type_of) ts) (map unread (map (record_of type_of) rs))) where
-  abbrev pub the_turn : Turn
-  the_turn = turn_of type_of ht
+pub only-record : {X : Type 0} (xs before : List X) (r : X) → xs ≡ before ++ r ∷ [] → length xs ≤ 1 → xs ≡ r ∷ []
+only-record xs [] r e l = e
+only-record xs (b ∷ bs) r e l = absurd (let long = ap length e in let split = length-append bs (r ∷ []) in omega (arith, long, l, split))
 
-  abbrev pub the_made : Made O
-  the_made = unread (record_of type_of r)
-
-  pub only-record : rs ≡ r ∷ []
-  only-record =
-      let here = subst (λ us. IsTrace w (answered_by (map (record_of type_of) rs)) h (map (turn_of type_of) us) (map unread (map (record_of type_of) rs))) one traced in
-      let ms = one-record w (answered_by (map (record_of type_of) rs)) h (turn_of type_of ht) going (map unread (map (record_of type_of) rs)) here in
-      only (λ q. unread (record_of type_of q)) rs before r ms.0 last (sym (map-map rs) ∙ ms.1)
-    where
-      map-map : (qs : List (HeldRecord O E D)) → map unread (map (record_of type_of) qs) ≡ map (λ q. unread (record_of type_of q)) qs
-      map-map [] = refl
-      map-map (q ∷ qs) = ap (λ ms. unread (record_of type_of q) ∷ ms) (map-map qs)
-
-  -- what a run of these turns says of its records holds of the one turn and its record
-  pub of-one : (P : List (HeldTurn O E D) → List (HeldRecord O E D) → Type 0) → P ts rs → P (ht ∷ []) (r ∷ [])
-  of-one P k = subst (λ qs. P (ht ∷ []) qs) only-record (subst (λ us. P us rs) one k)
+-- what a run of these turns says of its records holds of the one turn and its record
+pub of-one : {T X : Type 0} (t : T) (ts : List T) (rs before : List X) (r : X) → ts ≡ t ∷ [] → rs ≡ before ++ r ∷ [] → length rs ≤ length ts → (P : List T → List X → Type 0) → P ts rs → P (t ∷ []) (r ∷ [])
+of-one t ts rs before r one last short P k =
+    let is = only-record rs before r last (subst (λ us. length rs ≤ length us) one short) in
+    subst (λ qs. P (t ∷ []) qs) is (subst (λ us. P us rs) one k)

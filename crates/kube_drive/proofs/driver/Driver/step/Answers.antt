@@ -1,5 +1,5 @@
--- Not run: the names of goals are guessed by those of kube_control, and `c.in-Ok.ensures.one` stands for `only-record` of Stepping. Each answer says how its clause follows.
-use Rattle.std.proofs.Common.{◌++◌, ◌∷◌, [], Some, map, sym, ap, subst, ◌∙◌}
+-- Not run: the names of goals are guessed by those of kube_control. Each answer says how its clause follows.
+use Rattle.std.proofs.Common.{◌≤◌, ◌++◌, ◌∷◌, [], Some, length, map, sym, ap, subst, ◌∙◌}
 use Rattle.kube_model.specs.Raw.{grown_by}
 use Rattle.std.specs.Arc.{arc_value}
 use Rattle.kube_meta.specs.Keys.{reference_of}
@@ -27,17 +27,19 @@ driven g c w h d =
 abbrev handed : _ → _ → _
 handed g c =
     let type_of = g.A.Value.Resource.type_of in
-    handed-here type_of c.run.new.started (record_of type_of c.in-Some.record) (c.in-Ok.ensures.handed ∙ ap (λ rs. grown_by (Some []) (handed_by (taken_by (map (record_of type_of) rs)))) (c.in-Ok.ensures.one))
+    let last = c.in-Some.ensures.some in
+    let few = subst (λ ts. length c.in-Ok.trace.records ≤ length ts) c.in_ok-turns.ensures.turns c.in-Ok.ensures.short in
+    handed-here type_of c.run.new.started (record_of type_of c.in-Some.record)
+    (c.in-Ok.ensures.handed ∙ ap (λ rs. grown_by (Some []) (handed_by (taken_by (map (record_of type_of) rs)))) (only-record c.in-Ok.trace.records last.0 c.in-Some.record last.1 few))
 
 -- the run's trace, of its one turn and record
 pub returns-clause-trace : goal.returns-clause-trace
 returns-clause-trace g c w h d =
     let z = driven g c w h d in
-    let going = sym (c.has_ended.ensures.history w h z.controller) ∙ c.if-has_ended.false in
     let ran = c.in-Ok.ensures.trace w h z.controller in
     let last = c.in-Some.ensures.some in
     let type_of = g.A.Value.Resource.type_of in
-    let both = of-one w type_of h _ _ _ last.0 c.in-Some.record c.in_ok-turns.ensures.turns last.1 going ran.0
+    let both = of-one _ _ _ last.0 c.in-Some.record c.in_ok-turns.ensures.turns last.1 c.in-Ok.ensures.short
     (λ ts rs. IsTrace w (answered_by (map (record_of type_of) rs)) h (map (turn_of type_of) ts) (map unread (map (record_of type_of) rs))
     × StandsFor _ g.S.RelatedSet g.B.Backoff g.A.Value.Resource w (h ++ steps (map (turn_of type_of) ts) (map unread (map (record_of type_of) rs))) c.run.new.self) ran in
     (
@@ -61,31 +63,28 @@ returns-clause-reconciled g c =
 pub returns-clause-settled : goal.returns-clause-settled
 returns-clause-settled g c w h d =
     let z = driven g c w h d in
-    let going = sym (c.has_ended.ensures.history w h z.controller) ∙ c.if-has_ended.false in
     let type_of = g.A.Value.Resource.type_of in
     let last = c.in-Some.ensures.some in
     settled-now w _
-    (of-one w type_of h _ _ _ last.0 c.in-Some.record c.in_ok-turns.ensures.turns last.1 going (c.in-Ok.ensures.trace w h z.controller).0
+    (of-one _ _ _ last.0 c.in-Some.record c.in_ok-turns.ensures.turns last.1 c.in-Ok.ensures.short
     (λ ts rs. EachIsSettled w (h ++ steps (map (turn_of type_of) ts) (map unread (map (record_of type_of) rs)))) (c.in-Ok.ensures.settled w h z.controller))
 
 pub returns-clause-once : goal.returns-clause-once
 returns-clause-once g c w h d =
     let z = driven g c w h d in
-    let going = sym (c.has_ended.ensures.history w h z.controller) ∙ c.if-has_ended.false in
     let type_of = g.A.Value.Resource.type_of in
     let last = c.in-Some.ensures.some in
     once-now w _
-    (of-one w type_of h _ _ _ last.0 c.in-Some.record c.in_ok-turns.ensures.turns last.1 going (c.in-Ok.ensures.trace w h z.controller).0
+    (of-one _ _ _ last.0 c.in-Some.record c.in_ok-turns.ensures.turns last.1 c.in-Ok.ensures.short
     (λ ts rs. EachMayRun w (h ++ steps (map (turn_of type_of) ts) (map unread (map (record_of type_of) rs)))) (c.in-Ok.ensures.once w h z.controller))
 
 -- nothing is taken after a shutdown, and what ran is finished
 pub returns-clause-drains : goal.returns-clause-drains
 returns-clause-drains g c w h d asked =
     let z = driven g c w h d in
-    let going = sym (c.has_ended.ensures.history w h z.controller) ∙ c.if-has_ended.false in
     let type_of = g.A.Value.Resource.type_of in
     let last = c.in-Some.ensures.some in
-    let shuts = of-one w type_of h _ _ _ last.0 c.in-Some.record c.in_ok-turns.ensures.turns last.1 going (c.in-Ok.ensures.trace w h z.controller).0
+    let shuts = of-one _ _ _ last.0 c.in-Some.record c.in_ok-turns.ensures.turns last.1 c.in-Ok.ensures.short
     (λ ts rs. EachShutsDown w h (steps (map (turn_of type_of) ts) (map unread (map (record_of type_of) rs)))) (c.in-Ok.ensures.shuts w h z.controller) in
     let finishes = finish-names type_of c.self.inside.finishes ∙ z.finishes in
     (
