@@ -67,6 +67,63 @@ pub struct DynamicObject {
 impl DynamicObject {
     ghost use Rattle.kube_meta.specs.Reading.{seen_object};
     ghost use Rattle.kube_meta.specs.Resources.{bare_object};
+    ghost use Rattle.kube_meta.specs.Daily.{in_namespace, named_object};
+
+    /// An object of this name and type, in no namespace, of which nothing else is there (`kube::core::DynamicObject::new`).
+    ///
+    /// Errors: `NoMemory`.
+    pub fn new(
+        alloc: Global,
+        name: &str,
+        resource: &ApiResource,
+    ) -> Result<DynamicObject, NoMemory>
+        ensures { IfOk result (λ o. o ≡ named_object name.now resource.now) }
+    {
+        let types = TypeMeta {
+            api_version: resource.api_version.copy(alloc)?,
+            kind: resource.kind.copy(alloc)?,
+        };
+        let metadata = ObjectMeta {
+            name: Some(Text::new(alloc, name)?),
+            ..ObjectMeta::empty()
+        };
+        Ok(DynamicObject {
+            types: Some(types),
+            metadata,
+            content: Value::Null,
+        })
+    }
+
+    /// The same in this namespace (`kube::core::DynamicObject::within`).
+    ///
+    /// Errors: `NoMemory`; the object is dropped.
+    pub fn within(self, alloc: Global, namespace: &str) -> Result<DynamicObject, NoMemory>
+        ensures { IfOk result (λ o. o ≡ in_namespace namespace.now self) }
+    {
+        let namespace = Some(Text::new(alloc, namespace)?);
+        let DynamicObject {
+            types,
+            metadata,
+            content,
+        } = self;
+        let metadata = ObjectMeta {
+            namespace,
+            ..metadata
+        };
+        Ok(DynamicObject {
+            types,
+            metadata,
+            content,
+        })
+    }
+
+    /// The same with these members beside its types and metadata (`kube::core::DynamicObject::data`). A value that is no object
+    /// counts as empty.
+    pub fn data(self, content: Value) -> DynamicObject
+        ensures { result ≡ record self { content = content } }
+    {
+        DynamicObject { content, ..self }
+    }
 
     /// An object of which the metadata alone is there.
     pub fn bare(metadata: ObjectMeta) -> DynamicObject
