@@ -16,8 +16,10 @@ ghost use Rattle.kube_asks.specs.Kept.{is_marked, with_mark, may_ask_by, is_quie
 ghost use Rattle.kube_asks.specs.Asking.{AskStands, IsNextAsked, IsWorldOf, Asking, asking_at_first, asking_begun, with_asked, SourcesStand, of_source, with_pause, with_marks, IsPolledAt, IsBrokenAt, IfUnnamed};
 ghost use Rattle.kube_asks.specs.Waking.{end_of, pause_end};
 
+use crate::related_watch::RelatedWatch;
 use crate::root::RootSource;
 use crate::set::RelatedSet;
+use crate::sets::{Beside, One};
 use crate::watch_root::WatchRoot;
 use kube_api::ApiMode;
 use kube_backoff::Backoff;
@@ -713,5 +715,20 @@ impl<A: ApiMode, S, B> Asks<WatchRoot<A>, S, B> {
         ensures value { result.now ≡ api_of self.old.root.watcher }
     {
         self.root.api_mut()
+    }
+}
+
+impl<R, S, A: ApiMode, M, B> Asks<R, Beside<S, One<RelatedWatch<A, M>>>, B> {
+    ghost use Rattle.std.specs.Borrow.{sem};
+    ghost use Rattle.kube_watch.specs.Stands.{api_of};
+    ghost use Rattle.kube_asks.specs.Lending.{LendsLastApi};
+
+    /// The API of the last related source. All else is as before.
+    pub fn last_api(&mut self) -> &mut A
+        ensures* lends { sem 𝓛 (LendsLastApi A.row M.row A.Value.row A.Value.DynamicType.row A.ApiMode A.Value.Resource A.Value.DynamicType.Hash R.row S.row B.row self.entry result) }
+        ensures value { result.now ≡ api_of self.old.related.rest.0.watcher }
+    {
+        let last = &mut self.related.rest;
+        last.0.api_mut()
     }
 }

@@ -1,5 +1,5 @@
 -- What a controller stands for with another API of its root.
-use Rattle.std.proofs.Common.{◌≡◌, List, ◌∷◌, ◌++◌, map, sym, subst}
+use Rattle.std.proofs.Common.{◌≡◌, ℕ, suc, ◌<◌, List, ◌∷◌, ◌++◌, map, length, sym, subst}
 use Rattle.kube_meta.specs.Keys.{key_of}
 use Rattle.kube_meta.specs.declared.resource.Resource as resource
 use Rattle.kube_model.specs.World.{World}
@@ -40,6 +40,47 @@ module _ {A V S B D : Type 0} (root : root_source.Ghosts (RootWatching A V) V D)
           asks_stand =
               record {
                 sources = record { root = stands (dated_of 0 (s.parts.before ++ s.parts.mine)) s.parts.asks_stand.sources.root; related = s.parts.asks_stand.sources.related };
+                kept = s.parts.asks_stand.kept;
+              };
+          unspent = s.parts.unspent;
+        };
+    last = s.last;
+    ended = s.ended;
+    of_trace = s.of_trace;
+    unspent = s.unspent;
+  }
+
+-- where its related sources are fed the same way, and stand for the same exchanges, whatever an API of one of them is
+module _ {R S B O D : Type 0} (root : root_source.Ghosts R O D) (related : related_set.Ghosts S O D) (delays : backoff.Ghosts B) (object : resource.Ghosts O D) (w : World O B) (h : List (Step O)) (c : Controlling R S B O D) (set : S)
+    (feeds : related.feeds set ≡ related.feeds c.asks.related) (stands : (place : ℕ) (own : List (Dated O)) → related.stands c.asks.related place own → related.stands set place own) where
+  pub lent-related : StandsFor root related delays object w h c → StandsFor root related delays object w h (record c { asks = record c.asks { related = set } })
+  lent-related s = record {
+    parts =
+        record {
+          world =
+              record {
+                fed_so = subst (λ fs. w.feeds ≡ root.feed c.asks.root ∷ map fed fs) (sym feeds) s.parts.world.fed_so;
+                next = s.parts.world.next;
+                reset = s.parts.world.reset;
+                key = s.parts.world.key;
+                named = s.parts.world.named;
+                version = s.parts.world.version;
+              };
+          events = s.parts.events;
+          core_stands = s.parts.core_stands;
+          agrees = s.parts.agrees;
+          budget = s.parts.budget;
+          before = s.parts.before;
+          mine = s.parts.mine;
+          joined = s.parts.joined;
+          asks_stand =
+              record {
+                sources =
+                    record {
+                      root = s.parts.asks_stand.sources.root;
+                      related = λ place l.
+                          stands place (dated_of (suc place) (s.parts.before ++ s.parts.mine)) (s.parts.asks_stand.sources.related place (subst (λ fs. place < length fs) feeds l));
+                    };
                 kept = s.parts.asks_stand.kept;
               };
           unspent = s.parts.unspent;

@@ -9,7 +9,9 @@ ghost use Rattle.kube_control.specs.Controllers.{StandsFor};
 
 use crate::controller::Controller;
 use kube_api::ApiMode;
-use kube_asks::{Backoff, RelatedSet, RootSource, WatchRoot};
+use kube_asks::{
+    Backoff, Beside, Mapper, One, RelatedSet, RelatedWatch, RootSource, WatchRoot,
+};
 
 impl<A: ApiMode, S: RelatedSet<A::Value>, B: Backoff> Controller<WatchRoot<A>, S, B> {
     ghost use Rattle.kube_control.specs.Lending.{LendsControlledApi, with_controlled_api};
@@ -24,5 +26,22 @@ impl<A: ApiMode, S: RelatedSet<A::Value>, B: Backoff> Controller<WatchRoot<A>, S
             → StandsFor ⟦<WatchRoot<A> as RootSource>⟧ S.RelatedSet B.Backoff A.Value.Resource w h (with_controlled_api self.old api) }
     {
         self.asks.root_api()
+    }
+}
+
+impl<R: RootSource, S: RelatedSet<R::Object>, A: ApiMode, M: Mapper<A::Value, R::Object>, B: Backoff>
+    Controller<R, Beside<S, One<RelatedWatch<A, M>>>, B>
+{
+    ghost use Rattle.kube_control.specs.Lending.{LendsItsRelatedApi, with_related_api};
+
+    /// The API of the related source that was added last. Whatever is left there, the controller stands for the turns for which it
+    /// stood.
+    pub fn related_api(&mut self) -> &mut A
+        ensures* lends { sem 𝓛 (LendsItsRelatedApi A.row M.row A.Value.row A.Value.DynamicType.row A.ApiMode A.Value.Resource A.Value.DynamicType.Hash R.row S.row B.row R.Object.row R.Object.DynamicType.row R.RootSource R.Object.Resource R.Object.DynamicType.Hash self.entry result) }
+        ensures value { result.now ≡ api_of self.old.asks.related.rest.0.watcher }
+        ensures stands { (w : World R.Object B) (h : List (Step R.Object)) (api : A) → StandsFor R.RootSource ⟦<Beside<S, One<RelatedWatch<A, M>>> as RelatedSet<R::Object>>⟧ B.Backoff R.Object.Resource w h self.old
+            → StandsFor R.RootSource ⟦<Beside<S, One<RelatedWatch<A, M>>> as RelatedSet<R::Object>>⟧ B.Backoff R.Object.Resource w h (with_related_api self.old api) }
+    {
+        self.asks.last_api()
     }
 }
