@@ -30,8 +30,8 @@ use crate::started::Started;
 use crate::step::{Step, StepFault, has_more, step_fault};
 use kube_api::ApiMode;
 use kube_control::{
-    Action, Backoff, Controller, Finish, RelatedSet, RootSource, Shutdown, Trace, Turn, TurnRecord,
-    WatchRoot,
+    Action, Backoff, Beside, Controller, Finish, Mapper, One, RelatedSet, RelatedWatch, RootSource,
+    Shutdown, Trace, Turn, TurnRecord, WatchRoot,
 };
 use kube_meta::{List, Moment, NoMemory, ObjectRef};
 use std::alloc::Global;
@@ -194,11 +194,7 @@ impl<A: ApiMode, S: RelatedSet<A::Value>, B: Backoff, Rc: Drop, E: Drop> Driver<
     }
 
     /// The turn of the next step, in a list of its own. What it is told is told once, but the shutdown.
-    fn next_turns(
-        &mut self,
-        alloc: Global,
-        now: Moment,
-    ) -> Result<Vec<Turn<A::Value, E>>, NoMemory>
+    fn next_turns(&mut self, alloc: Global, now: Moment) -> Result<Vec<Turn<A::Value, E>>, NoMemory>
         requires { length (S.feeds self.old.controller.asks.related) + 1 < 2 ^ 32 }
         ensures turns { IfOk result (λ v. v.items ≡ record {
           at = record { 0 = moment_after self.old.controller.last.0 now.0 };
@@ -330,7 +326,10 @@ impl<A: ApiMode, S: RelatedSet<A::Value>, B: Backoff, Rc: Drop, E: Drop> Driver<
             requires { Rc.may reconciler.entry.now }
             ensures { Rc.answers reconciler.entry.now (arc_value object) fault.now result }
         { reconciler.error_policy(&object, fault) };
-        let trace = match self.controller.run(alloc, &mut started, &policy, nothing, turns) {
+        let trace = match self
+            .controller
+            .run(alloc, &mut started, &policy, nothing, turns)
+        {
             Ok(trace) => trace,
             Err(error) => return Err(step_fault(error)),
         };
@@ -383,5 +382,22 @@ impl<A: ApiMode, S: RelatedSet<A::Value>, B: Backoff, Rc: Drop, E: Drop> Driver<
             clock.wait(step.wakes);
         }
         Ok(false)
+    }
+}
+
+impl<
+    A: ApiMode,
+    S: RelatedSet<A::Value>,
+    C: ApiMode,
+    M: Mapper<C::Value, A::Value>,
+    B: Backoff,
+    Rc: Drop,
+    E: Drop,
+> Driver<A, Beside<S, One<RelatedWatch<C, M>>>, B, Rc, E> {
+    /// The API of the related source that was added last, as `Controller::related_api` lends it.
+    pub fn related_api(&mut self) -> &mut C
+        ensures { result.now ≡ api_of self.old.controller.asks.related.rest.0.watcher }
+    {
+        self.controller.related_api()
     }
 }

@@ -52,8 +52,7 @@ pub struct FnReconciler<F> {
 }
 
 impl<K: Resource, Ctx, E: Drop, F: Fn(&K) -> Result<Action, E> + Drop> Reconcile<K, Ctx, E>
-    for FnReconciler<F>
-{
+    for FnReconciler<F> {
     ghost use Rattle.std.specs.Prelude.{◌≡◌, Some};
     ghost use Rattle.std.specs.Fn.{FnReturnsAt};
 

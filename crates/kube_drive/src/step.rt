@@ -5,9 +5,10 @@ ghost use Rattle.std.specs.List.{list_any};
 ghost use Rattle.kube_drive.specs.Faults.{fault_of};
 ghost use Rattle.kube_drive.specs.Stepping.{is_budget};
 
-use kube_control::{BadTurn, RunError, Stop};
+use kube_control::{BadTurn, RunError, Stop, Taken};
 use kube_meta::{Moment, NoMemory, Resource};
 use kube_turn::TurnRecord;
+use std::fmt;
 use thiserror::Error;
 
 /// What a step did, and when the next one is due.
@@ -18,6 +19,29 @@ pub struct Step<K: Resource, E: Drop> {
     /// The moment at which the next step has something to do of itself; none where only an answer of a source can bring
     /// anything, and after the last step. A source may answer earlier, and is heard in a step alone.
     pub wakes: Option<Moment>,
+}
+
+/// As how many reconciles it started, and how each ended that it finished.
+impl<K: Resource, E: Drop + fmt::Display> fmt::Display for Step<K, E> {
+    fn fmt<W: fmt::Write>(&self, f: &mut fmt::Formatter<W>) -> fmt::Result {
+        write!(f, "{} started", started_in(self.record.taken.as_slice()))?;
+        for finished in self.record.finished.as_slice() {
+            let (reference, action) = (&finished.reference, finished.action);
+            match &finished.outcome {
+                Ok(_) => write!(f, ", {reference} ended: {action:?}")?,
+                Err(fault) => write!(f, ", {reference} failed: {fault}")?,
+            }
+        }
+        Ok(())
+    }
+}
+
+/// How many of these were found and started.
+fn started_in<K: Resource>(taken: &[Taken<K>]) -> usize {
+    taken
+        .iter()
+        .filter(|one| matches!(one, Taken::Started { .. }))
+        .count()
 }
 
 /// Why a step fails. But for want of memory before its turn no step follows: each further one is `Spent`.

@@ -48,6 +48,27 @@ impl ApiResource {
     }
 }
 
+impl ApiResource {
+    ghost use Rattle.kube_meta.specs.Reference.{api_version as joined_version};
+    ghost use Rattle.std.specs.Arc.{arc_value};
+
+    /// The same, to be shared: what is known of the type of dynamic objects.
+    ///
+    /// Errors: `NoMemory`.
+    pub fn shared(
+        alloc: Global,
+        group: &str,
+        version: &str,
+        kind: &str,
+        plural: &str,
+    ) -> Result<Arc<ApiResource>, NoMemory>
+        ensures { IfOk result (λ a. arc_value a ≡ record { group = group.now; version = version.now; api_version = joined_version group.now version.now; kind = kind.now; plural = plural.now }) }
+    {
+        let resource = ApiResource::new(alloc, group, version, kind, plural)?;
+        Ok(Arc::new(alloc, resource)?)
+    }
+}
+
 impl TypeInfo for Arc<ApiResource> {
     fn share(&self, _alloc: Global) -> Result<Arc<ApiResource>, NoMemory> {
         Ok(self.clone()?)
@@ -72,11 +93,7 @@ impl DynamicObject {
     /// An object of this name and type, in no namespace, of which nothing else is there (`kube::core::DynamicObject::new`).
     ///
     /// Errors: `NoMemory`.
-    pub fn new(
-        alloc: Global,
-        name: &str,
-        resource: &ApiResource,
-    ) -> Result<DynamicObject, NoMemory>
+    pub fn new(alloc: Global, name: &str, resource: &ApiResource) -> Result<DynamicObject, NoMemory>
         ensures { IfOk result (λ o. o ≡ named_object name.now resource.now) }
     {
         let types = TypeMeta {

@@ -17,10 +17,7 @@ use std::collections::BinaryHeap;
 use std::hash::Hash;
 
 /// Takes the first place of the heap where it is of none of these numbers.
-fn pop_stale(
-    heap: &mut BinaryHeap<Reverse<Place>>,
-    numbers: &IndexSet<u64>,
-) -> Option<Place>
+fn pop_stale(heap: &mut BinaryHeap<Reverse<Place>>, numbers: &IndexSet<u64>) -> Option<Place>
     requires { IsHeap place_order (heap_items heap.old) }
     ensures heap { IsHeap place_order (heap_items heap.new) }
     ensures stale { IfSome result (λ p. list_any (nat_eq p.number) numbers.now.keys ≡ false) }

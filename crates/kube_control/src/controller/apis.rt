@@ -9,9 +9,7 @@ ghost use Rattle.kube_control.specs.Controllers.{StandsFor};
 
 use crate::controller::Controller;
 use kube_api::ApiMode;
-use kube_asks::{
-    Backoff, Beside, Mapper, One, RelatedSet, RelatedWatch, RootSource, WatchRoot,
-};
+use kube_asks::{Backoff, Beside, Mapper, One, RelatedSet, RelatedWatch, RootSource, WatchRoot};
 
 impl<A: ApiMode, S: RelatedSet<A::Value>, B: Backoff> Controller<WatchRoot<A>, S, B> {
     ghost use Rattle.kube_control.specs.Lending.{LendsControlledApi, with_controlled_api};
@@ -29,9 +27,13 @@ impl<A: ApiMode, S: RelatedSet<A::Value>, B: Backoff> Controller<WatchRoot<A>, S
     }
 }
 
-impl<R: RootSource, S: RelatedSet<R::Object>, A: ApiMode, M: Mapper<A::Value, R::Object>, B: Backoff>
-    Controller<R, Beside<S, One<RelatedWatch<A, M>>>, B>
-{
+impl<
+    R: RootSource,
+    S: RelatedSet<R::Object>,
+    A: ApiMode,
+    M: Mapper<A::Value, R::Object>,
+    B: Backoff,
+> Controller<R, Beside<S, One<RelatedWatch<A, M>>>, B> {
     ghost use Rattle.kube_control.specs.Lending.{LendsItsRelatedApi, with_related_api};
 
     /// The API of the related source that was added last. Whatever is left there, the controller stands for the turns for which it

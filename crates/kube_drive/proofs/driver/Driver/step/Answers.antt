@@ -41,14 +41,13 @@ returns-clause-trace g c w h d =
     let type_of = g.A.Value.Resource.type_of in
     let both = of-one _ _ _ last.0 c.in-Some.record c.in_ok-turns.ensures.turns last.1 c.in-Ok.ensures.short
     (λ ts rs. IsTrace w (answered_by (map (record_of type_of) rs)) h (map (turn_of type_of) ts) (map unread (map (record_of type_of) rs))
-    × StandsFor _ g.S.RelatedSet g.B.Backoff g.A.Value.Resource w (h ++ steps (map (turn_of type_of) ts) (map unread (map (record_of type_of) rs))) c.run.new.self) ran in
-    (
+    × StandsFor _ g.S.RelatedSet g.B.Backoff g.A.Value.Resource w (h ++ steps (map (turn_of type_of) ts) (map unread (map (record_of type_of) rs))) c.run.new.self) ran in (
       both.0,
       c.next_due-wakes.ensures.driven w _
-      (record {
-        controller = both.1;
-        finishes = c.reconcile_all.ensures.references ∙ (handed-names type_of c.run.new.started ∙ (ap (map (λ p. p.0)) (handed g c) ∙ handed-runs w h _ c.args.now.0 (ap _ z.controller.last) (moment-below w h z.controller.of_trace) (finish-names type_of c.self.inside.finishes ∙ z.finishes) _));
-      }),
+          (record {
+            controller = both.1;
+            finishes = c.reconcile_all.ensures.references ∙ (handed-names type_of c.run.new.started ∙ (ap (map (λ p. p.0)) (handed g c) ∙ handed-runs w h _ c.args.now.0 (ap _ z.controller.last) (moment-below w h z.controller.of_trace) (finish-names type_of c.self.inside.finishes ∙ z.finishes) _));
+          }),
     )
 
 -- what was handed over is what the turn took, as the run says of what it handed over
@@ -86,8 +85,7 @@ returns-clause-drains g c w h d asked =
     let last = c.in-Some.ensures.some in
     let shuts = of-one _ _ _ last.0 c.in-Some.record c.in_ok-turns.ensures.turns last.1 c.in-Ok.ensures.short
     (λ ts rs. EachShutsDown w h (steps (map (turn_of type_of) ts) (map unread (map (record_of type_of) rs)))) (c.in-Ok.ensures.shuts w h z.controller) in
-    let finishes = finish-names type_of c.self.inside.finishes ∙ z.finishes in
-    (
+    let finishes = finish-names type_of c.self.inside.finishes ∙ z.finishes in (
       is-last w h _ c.args.now.0 (ap _ z.controller.last) (moment-below w h z.controller.of_trace) finishes _ asked shuts.0,
       none-named type_of c.reconcile_all.result (returns-clause-references g c ∙ ap (λ ts. map (λ p. p.0) (handed_by ts)) (none-taken w h _ c.args.now.0 (ap _ z.controller.last) (moment-below w h z.controller.of_trace) finishes _ asked shuts.0)),
     )
