@@ -7,7 +7,6 @@ use kube_runtime::api::{ApiResource, DynamicObject as Site, Moment, ObjectApi, P
 use kube_runtime::controller::{Action, Controller, Driver, Reconcile};
 use kube_runtime::finalizer::{Event, Finalizer};
 use kube_runtime::server::{Conn, Server};
-use kube_runtime::watcher::Config;
 use std::alloc::Global;
 use std::sync::Arc;
 
@@ -51,21 +50,18 @@ fn main(rt: HostRuntime) -> Result<()> {
     let mut pods = Server::new(alloc, pod.clone()?);
     sites.put(alloc, Site::new(alloc, "shop", &site)?)?;
     pods.put(alloc, Site::from_text(alloc, POD)?)?;
-    let watched = Controller::new_with(alloc, Conn::new(alloc, &sites)?, Config::default(), site)?;
-    let owning = watched.owns_with(alloc, Conn::new(alloc, &pods)?, pod, Config::default())?;
+    let watched = Controller::new_with(alloc, Conn::new(alloc, &sites)?, Default::default(), site)?;
+    let owning = watched.owns_with(alloc, Conn::new(alloc, &pods)?, pod, Default::default())?;
     let mut driver: Driver<Conn, _, _, _, Error> = Driver::new(alloc, owning, Operator);
     for second in 0..10 {
+        let now = Moment(second * SECOND);
         match second {
-            6 => drop(
-                sites
-                    .objects_in(alloc, None)?
-                    .delete(alloc, "shop", Moment(6 * SECOND))?,
-            ),
+            6 => drop(sites.objects_in(alloc, None)?.delete(alloc, "shop", now)?),
             9 => driver.shut_down(),
             _ => (),
         }
         *driver.root_api() = Conn::new(alloc, &sites)?;
-        if let Some(step) = driver.step(alloc, &mut sites, Moment(second * SECOND))? {
+        if let Some(step) = driver.step(alloc, &mut sites, now)? {
             println!(rt; "{second} s: {step}")?;
         }
     }
