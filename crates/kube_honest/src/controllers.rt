@@ -7,7 +7,7 @@ ghost use Rattle.kube_model.specs.World.{World, Settings};
 ghost use Rattle.kube_model.specs.History.{Dated, Step, Turn, TurnRecord, exchanges, exchanges_of};
 ghost use Rattle.kube_model.specs.Raw.{Raw};
 ghost use Rattle.kube_model.specs.Traces.{IsTrace, steps, unread};
-ghost use Rattle.kube_server.specs.History.{Change, IsHistory};
+ghost use Rattle.kube_server.specs.History.{Change, IsHistory, IsLater};
 ghost use Rattle.kube_server.specs.Honest.{Selection, IsHonest};
 ghost use Rattle.kube_server.specs.Readers.{IsByKey};
 ghost use Rattle.kube_server.specs.Connections.{Act, Connection, acted, fresh};
@@ -56,4 +56,14 @@ pub fn connections_stay_honest_in_runs<S: RelatedSet<DynamicObject>>()
         → api_of r.watcher ≡ fold (acted meta_of) (fresh changes compacted) acts
         → ArePolled ⟦<WatchRoot<Conn> as RootSource>⟧.polls S.polls before r s ds r' s'
         → (more : List (Act DynamicObject)) × (api_of r'.watcher ≡ fold (acted meta_of) (fresh changes compacted) more) }
+{}
+
+/// A connection that a controller owns may be fed, as `Controller::root_api` lends it and `Conn::feed` feeds it: it stays one that
+/// was made by calls and copies of the log, and has told what it had told. So its talk is honest to its new log
+/// (kube_server's law `talks_are_honest`), and what the controller stores over it is a state of that log's history, as before.
+pub fn fed_connections_stay_honest()
+    ensures { (c d : Connection DynamicObject) (changes : List (Change DynamicObject)) (compacted : ℕ) (acts : List (Act DynamicObject))
+        → c ≡ fold (acted meta_of) (fresh changes compacted) acts
+        → IsLater c.changes d.changes c.compacted d.compacted → d ≡ record c { changes = d.changes; compacted = d.compacted }
+        → (d.talk ≡ c.talk) × ((more : List (Act DynamicObject)) × (d ≡ fold (acted meta_of) (fresh changes compacted) more)) }
 {}
