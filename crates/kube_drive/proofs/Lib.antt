@@ -3,3 +3,4 @@ pub mod Finishing
 pub mod Held
 pub mod Reconciling
 pub mod Stepping
+pub mod Policies

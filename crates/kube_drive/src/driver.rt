@@ -323,7 +323,7 @@ impl<A: ApiMode, S: RelatedSet<A::Value>, B: Backoff, Rc: Drop, E: Drop> Driver<
         let mut started = Started::new(alloc);
         let reconciler = &self.reconciler;
         let policy = |object: Arc<A::Value>, fault: &E, _nothing: Arc<()>| -> Action
-            requires { Rc.may reconciler.entry.now }
+            requires { Rc.may reconciler.now }
             ensures { Rc.answers reconciler.entry.now (arc_value object) fault.now result }
         { reconciler.error_policy(&object, fault) };
         let trace = match self

@@ -7,13 +7,15 @@ use Rattle.kube_model.specs.Traces.{IsTrace, step, steps, unread}
 use Rattle.kube_history.specs.Running.{EachShutsDown}
 use Rattle.kube_control.specs.Controllers.{StandsFor}
 use Rattle.kube_control.specs.Histories.{EachIsSettled, EachMayRun}
+use Rattle.kube_control.specs.Runs.{AreFinishedIn}
 use Rattle.kube_asks.specs.Roots.{RootWatching}
 use Rattle.kube_step.specs.HandOvers.{handed_by, taken_by}
-use Rattle.kube_step.specs.Policies.{answered_by}
+use Rattle.kube_step.specs.Policies.{Answers, answered_by}
 use Rattle.kube_turn.specs.Records.{record_of, turn_of}
 use Rattle.kube_drive.specs.Driving.{Driving, IsDriven}
 use Rattle.kube_drive.specs.Reconciled.{AreReconciled}
 use Rattle.kube_drive.proofs.Held.{finish-names, handed-here, handed-names, handed-objects, none-named, not-refused, runs-once, valid-one}
+use Rattle.kube_drive.proofs.Policies.{finished-now}
 use Rattle.kube_drive.proofs.Stepping.{handed-runs, is-last, moment-below, none-taken, of-one, once-now, only-record, settled-now, turn-valid}
 use Rattle.kube_drive.proofs.driver.Driver.step.Goals as goal
 
@@ -58,6 +60,18 @@ returns-clause-references g c =
 pub returns-clause-reconciled : goal.returns-clause-reconciled
 returns-clause-reconciled g c =
     subst (λ os. AreReconciled _ _ _ _ os _ _ _) (handed-objects g.A.Value.Resource.type_of c.run.new.started ∙ ap (map (λ p. p.1)) (handed g c)) c.reconcile_all.ensures.reconciled
+
+-- the error policy of the run is the reconciler's: what it answered of a shared object and of a fault the reconciler answers of their values
+pub returns-clause-policy : goal.returns-clause-policy
+returns-clause-policy g c w h d t same =
+    let z = driven g c w h d in
+    let type_of = g.A.Value.Resource.type_of in
+    let last = c.in-Some.ensures.some in
+    let answers = g.Rc.Reconcile.answers c.self.inside.reconciler in
+    finished-now type_of (Answers _ _ _) answers
+    (λ o e a k. subst (λ x. answers x e a) k.of_object (subst (λ y. answers (arc_value k.shared) y a) k.of_fault k.says.met.2)) h t _ c.in-Some.record same
+    (of-one _ _ _ last.0 c.in-Some.record c.in_ok-turns.ensures.turns last.1 c.in-Ok.ensures.short
+    (λ ts rs. AreFinishedIn type_of (Answers _ _ _) h ts rs) (c.in-Ok.ensures.policy w h z.controller))
 
 pub returns-clause-settled : goal.returns-clause-settled
 returns-clause-settled g c w h d =
