@@ -63,8 +63,8 @@ and-true false x y = refl
 module _ {O B : Type 0} (w : World O B) (h : List (Step O)) (es : List (CoreEvent O)) (a : Agrees w h es) where
   -- what a core tells is what the history says
   pub core-is : was_over w h ≡ false → core_wakes (core_world w) es ≡ takes_from w h
-  core-is open =
-      let shut : was_shut es ≡ false = a.shut ∙ open in
+  core-is going =
+      let shut : was_shut es ≡ false = a.shut ∙ going in
       ap (λ b. if is_ready (root_answers es) && not b then take_due (core_world w) (clock_of es) (queue_of (core_world w) es) (running_of es) else None) shut
       ∙ (and-true (is_ready (root_answers es)) (take_due (core_world w) (clock_of es) (queue_of (core_world w) es) (running_of es)) None
       ∙ (ap (λ ds. if is_ready (exchanges_of 0 ds) then take_due (core_world w) (clock_of es) (queue_of (core_world w) es) (running_of es) else None) a.answers
@@ -76,11 +76,11 @@ module _ {O B : Type 0} (w : World O B) (h : List (Step O)) (es : List (CoreEven
   over-is o = ap (λ b. if b then None else earlier_of (takes_from w h) (pause_end w (last_moment h) (exchanges h))) (sym o)
 
   pub open-is : was_over w h ≡ false → (d p r : Option ℕ) → r ≡ earlier_of d p → d ≡ core_wakes (core_world w) es → p ≡ pause_end w (last_moment h) (exchanges h) → r ≡ wakes_after w h
-  open-is open d p r e i j =
+  open-is going d p r e i j =
       e
-      ∙ (ap (λ x. earlier_of x p) (i ∙ core-is open)
+      ∙ (ap (λ x. earlier_of x p) (i ∙ core-is going)
       ∙ (ap (earlier_of (takes_from w h)) j
-      ∙ ap (λ b. if b then None else earlier_of (takes_from w h) (pause_end w (last_moment h) (exchanges h))) (sym open)))
+      ∙ ap (λ b. if b then None else earlier_of (takes_from w h) (pause_end w (last_moment h) (exchanges h))) (sym going)))
 
 -- The law.
 

@@ -8,19 +8,19 @@ module _ {Rc K Ctx E X Y : Type 0} (ends : Rc → K → Ctx → ℕ → Result A
   -- whatever follows from here, followed from the beginning after what has ended by then
   abbrev pub SoFar : Rc → Ctx → List X → Rc → Ctx → List X → List Y → Type 0
   SoFar r c all r' c' left done =
-      (as : List (Result Action E)) (q : Rc) (d : Ctx) → AreReconciled ends at r' c' (map object left) as q d → AreReconciled ends at r c (map object all) (map outcome done ++ as) q d
+      (acts : List (Result Action E)) (q : Rc) (d : Ctx) → AreReconciled ends at r' c' (map object left) acts q d → AreReconciled ends at r c (map object all) (map outcome done ++ acts) q d
 
   pub none-yet : (r : Rc) (c : Ctx) (all : List X) (done : List Y) → done ≡ [] → SoFar r c all r c all done
-  none-yet r c all done e as q d h = subst (λ ys. AreReconciled ends at r c (map object all) (map outcome ys ++ as) q d) (sym e) h
+  none-yet r c all done e acts q d h = subst (λ ys. AreReconciled ends at r c (map object all) (map outcome ys ++ acts) q d) (sym e) h
 
   pub one-more : (r : Rc) (c : Ctx) (all : List X) (r' r'' : Rc) (c' c'' : Ctx) (x : X) (left left' : List X) (done done' : List Y) (y : Y)
       → left ≡ x ∷ left' → done' ≡ done ++ y ∷ [] → ends r' (object x) c' at (outcome y) r'' c'' → SoFar r c all r' c' left done → SoFar r c all r'' c'' left' done'
-  one-more r c all r' r'' c' c'' x left left' done done' y e f one h as q d rest =
-      subst (λ bs. AreReconciled ends at r c (map object all) bs q d) (longer ∙ ap (λ ys. map outcome ys ++ as) (sym f))
-      (h (outcome y ∷ as) q d (subst (λ xs. AreReconciled ends at r' c' (map object xs) (outcome y ∷ as) q d) (sym e) (r'', c'', one, rest)))
+  one-more r c all r' r'' c' c'' x left left' done done' y e f one h acts q d rest =
+      subst (λ bs. AreReconciled ends at r c (map object all) bs q d) (longer ∙ ap (λ ys. map outcome ys ++ acts) (sym f))
+      (h (outcome y ∷ acts) q d (subst (λ xs. AreReconciled ends at r' c' (map object xs) (outcome y ∷ acts) q d) (sym e) (r'', c'', one, rest)))
     where
-      longer : map outcome done ++ outcome y ∷ as ≡ map outcome (done ++ y ∷ []) ++ as
-      longer = sym (ap (λ bs. bs ++ as) (map-append outcome done (y ∷ [])) ∙ append_assoc (map outcome done) (outcome y ∷ []) as)
+      longer : map outcome done ++ outcome y ∷ acts ≡ map outcome (done ++ y ∷ []) ++ acts
+      longer = sym (ap (λ bs. bs ++ acts) (map-append outcome done (y ∷ [])) ∙ append_assoc (map outcome done) (outcome y ∷ []) acts)
 
   pub all-done : (r : Rc) (c : Ctx) (all : List X) (r' : Rc) (c' : Ctx) (left : List X) (done : List Y) → left ≡ [] → SoFar r c all r' c' left done → AreReconciled ends at r c (map object all) (map outcome done) r' c'
   all-done r c all r' c' left done e h =

@@ -67,7 +67,7 @@ take-all (x ∷ xs) = ap (λ ys. x ∷ ys) (take-all xs)
 
 module _ {O B : Type 0} (w : World O B) (h : List (Step O)) where
   pub settled-now : EachIsSettled w h → was_over w h ≡ false → IsSettled w h
-  settled-now each open = subst (IsSettled w) (take-all h) (each (length h) (subst (λ g. was_over w g ≡ false) (sym (take-all h)) open))
+  settled-now each still = subst (IsSettled w) (take-all h) (each (length h) (subst (λ g. was_over w g ≡ false) (sym (take-all h)) still))
 
   pub once-now : EachMayRun w h → MayRun w.limit (running h)
   once-now each = subst (λ g. MayRun w.limit (running g)) (take-all h) (each (length h))

@@ -7,6 +7,6 @@ module _ {Rc K Ctx E : Type 0} (ends : Rc → K → Ctx → ℕ → Result Actio
   -- each of these objects was reconciled once, in order, and nothing else was: with these outcomes, from this reconciler and context to those
   abbrev pub AreReconciled : Rc → Ctx → List K → List (Result Action E) → Rc → Ctx → Type 0
   AreReconciled r c [] [] r' c' = (r' ≡ r) × (c' ≡ c)
-  AreReconciled r c [] (a ∷ as) r' c' = ⊥
+  AreReconciled r c [] (a ∷ acts) r' c' = ⊥
   AreReconciled r c (o ∷ os) [] r' c' = ⊥
-  AreReconciled r c (o ∷ os) (a ∷ as) r' c' = (s : Rc) × (d : Ctx) × ends r o c at a s d × AreReconciled s d os as r' c'
+  AreReconciled r c (o ∷ os) (a ∷ acts) r' c' = (s : Rc) × (d : Ctx) × ends r o c at a s d × AreReconciled s d os acts r' c'
