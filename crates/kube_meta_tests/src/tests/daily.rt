@@ -60,11 +60,8 @@ fn objects_are_made_by_name(rt: HostRuntime) -> Result<(), Fail> {
     assert_eq!(rt; object.name_any(), "a");
     assert_eq!(rt; object.namespace(), Some("n"));
     assert_eq!(rt; object.metadata.namespace, Some(text(&rt, alloc, "n")));
-    assert!(rt;
-        object
-            .types
-            .is_some_and(|types| types.api_version.as_str() == "apps/v1")
-    );
+    let is_typed = matches!(&object.types, Some(types) if types.api_version.as_str() == "apps/v1");
+    assert!(rt; is_typed);
     Ok(())
 }
 
