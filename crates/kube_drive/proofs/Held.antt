@@ -1,5 +1,5 @@
 -- What is held of a turn, and what it was. K is the type of objects, D that of their dynamic types, E that of faults.
-use Rattle.std.proofs.Common.{◌≡◌, List, [], ◌∷◌, ◌++◌, map, Option, Some, false, refl, sym, ap, subst, ◌∙◌, append-nil}
+use Rattle.std.proofs.Common.{◌≡◌, List, [], ◌∷◌, ◌++◌, map, Option, Some, Bool, true, false, refl, sym, ap, subst, ◌∙◌, append-nil}
 use Rattle.std.specs.Arc.{arc_value}
 use Rattle.kube_meta.specs.declared.resource.Resource as resource
 use Rattle.kube_meta.specs.Reference.{ObjectType, Reference}
@@ -18,7 +18,7 @@ use Rattle.kube_turn.specs.Records.{finish_of}
 use Rattle.kube_step.specs.declared.reconciler.Handed.{Handed}
 use Rattle.kube_step.specs.HandOvers.{hand_over, handed_by, taken_by}
 use Rattle.kube_control.specs.Controllers.{Controlling, StandsFor}
-use Rattle.kube_control.specs.Errors.{IfRefused}
+use Rattle.kube_control.specs.Errors.{IfFatal, IfRefused, IfSpent, records_before}
 use Rattle.kube_control.specs.declared.error.RunError.{RunError}
 use Rattle.kube_control.specs.declared.error.RunError.TheVariants.{NoMemory, UnnamedObject, BadTurn, Spent}
 use Rattle.kube_drive.specs.Faults.{IsNotRefused, fault_of}
@@ -55,6 +55,13 @@ not-refused (NoMemory trace) k = tt
 not-refused (UnnamedObject turn source trace) k = tt
 not-refused (BadTurn turn why trace) k = k
 not-refused (Spent trace) k = tt
+
+-- a fault that is no refusal spends what was not spent
+pub spent-after : {K E D : Type 0} (e : RunError K E D) (old new : Bool) → IfRefused e (λ turn why. ⊥) → IfFatal e (new ≡ true) → IfSpent e ((old ≡ true) × (records_before e ≡ [])) → old ≡ false → new ≡ true
+spent-after (NoMemory trace) old new r f s o = f
+spent-after (UnnamedObject turn source trace) old new r f s o = f
+spent-after (BadTurn turn why trace) old new r f s o = absurd (r)
+spent-after (Spent trace) old new r f s o = let was = s.0 in absurd (cc)
 
 -- what runs after a history for which a controller stands
 pub runs-once : {R S B O D : Type 0} (root : root_source.Ghosts R O D) (related : related_set.Ghosts S O D) (delays : backoff.Ghosts B) (object : resource.Ghosts O D) (w : World O B) (h : List (Step O)) (c : Controlling R S B O D)

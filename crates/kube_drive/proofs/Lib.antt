@@ -4,3 +4,4 @@ pub mod Held
 pub mod Reconciling
 pub mod Stepping
 pub mod Policies
+pub mod Steps

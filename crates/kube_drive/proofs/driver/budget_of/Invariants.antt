@@ -3,5 +3,5 @@ use Rattle.std.specs.List.{range_with_len}
 use Rattle.kube_drive.proofs.driver.budget_of.Given as goal
 
 -- what is there and what is left are all
-abbrev pub invariant-loop-_source : goal.invariant-loop-_source
-invariant-loop-_source g l = l.budget ++ map (λ source. l.asks) (range_with_len l._source (l.sources - l._source)) ≡ map (λ source. l.asks) (range_with_len 0 l.sources)
+abbrev pub invariant-loop-source : goal.invariant-loop-source
+invariant-loop-source g l = l.budget ++ map (λ source. l.asks) (range_with_len l._source (l.sources - l._source)) ≡ map (λ source. l.asks) (range_with_len 0 l.sources)

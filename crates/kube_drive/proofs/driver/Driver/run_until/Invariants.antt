@@ -5,8 +5,8 @@ use Rattle.kube_drive.specs.Driving.{IsDriven}
 use Rattle.kube_drive.proofs.driver.Driver.run_until.Given as goal
 
 -- the driver has gone on by some turns
-abbrev pub invariant-loop-_step : goal.invariant-loop-_step
-invariant-loop-_step g l =
+abbrev pub invariant-loop-step : goal.invariant-loop-step
+invariant-loop-step g l =
     record {
       may : g.Rc.Reconcile.may l.self.reconciler;
       feeds : g.S.RelatedSet.feeds l.self.controller.asks.related ≡ g.S.RelatedSet.feeds l.fn.self.controller.asks.related;
