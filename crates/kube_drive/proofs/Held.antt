@@ -24,7 +24,7 @@ use Rattle.kube_control.specs.declared.error.RunError.TheVariants.{NoMemory, Unn
 use Rattle.kube_drive.specs.Faults.{IsNotRefused, fault_of}
 use Rattle.kube_drive.proofs.Finishing.{names}
 
-module _ {K D E : Type 0} (type_of : D → ObjectType) where
+module _ {K D : Type 0} (type_of : D → ObjectType) where
   -- a turn's record hands over what a reconciler is told that began without any
   pub handed-here : (hs : List (Handed K D)) (r : TurnRecord K) → Some (map (hand_over type_of) hs) ≡ grown_by (Some []) (handed_by (taken_by (r ∷ []))) → map (hand_over type_of) hs ≡ handed_by r.taken
   handed-here hs r e = let is : map (hand_over type_of) hs ≡ handed_by (r.taken ++ []) = cc in is ∙ ap handed_by (append-nil r.taken)
@@ -37,6 +37,7 @@ module _ {K D E : Type 0} (type_of : D → ObjectType) where
   handed-objects [] = refl
   handed-objects (h ∷ hs) = ap (λ os. arc_value h.object ∷ os) (handed-objects hs)
 
+module _ {K D E : Type 0} (type_of : D → ObjectType) where
   pub finish-names : (fs : List (Finish K E D)) → names (map (finish_of type_of) fs) ≡ map (λ f. reference_of type_of f.reference) fs
   finish-names [] = refl
   finish-names (f ∷ fs) = ap (λ rs. reference_of type_of f.reference ∷ rs) (finish-names fs)

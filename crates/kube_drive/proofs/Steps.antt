@@ -1,5 +1,5 @@
 -- A step of a driver, by what the run of its one turn says. R is the type of its root, S that of its related sources, B that of its backoff's states, Rc that of its reconciler, O that of objects, D that of their dynamic types, E that of faults.
-use Rattle.std.proofs.Common.{◌≡◌, ℕ, ◌+◌, ◌<◌, ◌≤◌, ◌^◌, Bool, true, false, List, [], ◌∷◌, ◌++◌, map, length, Option, refl, sym, ap, subst, ◌∙◌, append_assoc, append-nil}
+use Rattle.std.proofs.Common.{◌≡◌, ℕ, ◌+◌, ◌<◌, ◌≤◌, ◌^◌, Bool, true, false, List, [], ◌∷◌, ◌++◌, map, length, Option, Some, None, IfSome, refl, sym, ap, subst, ◌∙◌, append_assoc, append-nil}
 use Rattle.std.specs.List.{range_with_len}
 use Rattle.kube_meta.specs.Keys.{reference_of}
 use Rattle.kube_meta.specs.declared.resource.Resource as resource
@@ -107,11 +107,17 @@ module _ {R S B Rc O D E : Type 0} (root : root_source.Ghosts R O D) (related : 
   pub told-on : (w : World O B) (h : List (Step O)) (d : Driving R S B Rc O D E) (shutdown : Shutdown) → IsDriven root related delays object w h d → IsDriven root related delays object w h (record d { shutdown = shutdown })
   told-on w h d shutdown z = record { controller = z.controller; finishes = z.finishes }
 
-  -- a step goes on from where the steps before came
-  pub goes-on : (w : World O B) (h more : List (Step O)) (s : Step O) (d : Driving R S B Rc O D E) → IsDriven root related delays object w ((h ++ more) ++ s ∷ []) d
-      → (all : List (Step O)) × IsDriven root related delays object w (h ++ all) d
-  goes-on w h more s d z = (more ++ s ∷ [], subst (λ g. IsDriven root related delays object w g d) (append_assoc h more (s ∷ [])) z)
+  -- what follows goes on from where the steps before came
+  pub goes-on : (w : World O B) (h more later : List (Step O)) (d : Driving R S B Rc O D E) → IsDriven root related delays object w ((h ++ more) ++ later) d → IsDriven root related delays object w (h ++ (more ++ later)) d
+  goes-on w h more later d z = subst (λ g. IsDriven root related delays object w g d) (append_assoc h more later) z
+
+  pub none-more : (w : World O B) (h : List (Step O)) (d : Driving R S B Rc O D E) → IsDriven root related delays object w h d → IsDriven root related delays object w (h ++ []) d
+  none-more w h d z = subst (λ g. IsDriven root related delays object w g d) (sym (append-nil h)) z
 
 -- a trace has ended by its last turn
 pub ends-by : {O B : Type 0} (w : World O B) (p : ℕ → ℕ → O → Option ℕ) (h : List (Step O)) (t : Turn) (m : Made O) → IsTrace w p h (t ∷ []) (m ∷ []) → m.0.ended ≡ true → has_ended (h ++ step t m ∷ []) ≡ true
 ends-by w p h t m k e = sym (ended-push h t m k.0) ∙ e
+
+pub at-some : {S : Type 0} (o : Option S) (s : S) (P : S → Type 0) → o ≡ Some s → IfSome o P → P s
+at-some None s P e k = absurd (cc)
+at-some (Some x) s P e k = let same : x ≡ s = cc in subst P same k

@@ -341,6 +341,47 @@ impl<A: ApiMode, S: RelatedSet<A::Value>, B: Backoff, Rc: Drop, E: Drop> Driver<
         Ok(Some(Step { record, wakes }))
     }
 
+    /// Asks for the shutdown where a moment is not before the one at which to stop.
+    fn shut_by(&mut self, now: Moment, stop: Moment)
+        ensures { self.new ≡ record self.old { shutdown = self.new.shutdown } }
+    {
+        if stop <= now {
+            self.shut_down();
+        }
+    }
+
+    /// Takes a step, which is the last where its moment is not before the one at which to stop. When the next one is due; none
+    /// where no step follows.
+    fn advance<Ctx>(
+        &mut self,
+        alloc: Global,
+        context: &mut Ctx,
+        now: Moment,
+        stop: Moment,
+    ) -> Result<Option<Option<Moment>>, StepFault>
+    where
+        Rc: Reconcile<A::Value, Ctx, E>,
+        requires may { Rc.may self.old.reconciler }
+        requires sources { length (S.feeds self.old.controller.asks.related) + 1 < 2 ^ 32 }
+        requires related { S.can_poll self.old.controller.asks.related }
+        ensures may { Rc.may self.new.reconciler }
+        ensures feeds { S.feeds self.new.controller.asks.related ≡ S.feeds self.old.controller.asks.related }
+        ensures related { S.can_poll self.new.controller.asks.related }
+        ensures driven { (w : World A.Value B) (h : List (PlainStep A.Value)) → IsDriven ⟦<WatchRoot<A> as RootSource>⟧ S.RelatedSet B.Backoff A.Value.Resource w h self.old
+            → IfOk result (λ o. (more : List (PlainStep A.Value)) × IsDriven ⟦<WatchRoot<A> as RootSource>⟧ S.RelatedSet B.Backoff A.Value.Resource w (h ++ more) self.new × (IsNone o → has_ended (h ++ more) ≡ true)) }
+        ensures valid { (w : World A.Value B) (h : List (PlainStep A.Value)) → IsDriven ⟦<WatchRoot<A> as RootSource>⟧ S.RelatedSet B.Backoff A.Value.Resource w h self.old
+            → IfErr result IsNotRefused }
+    {
+        self.shut_by(now, stop);
+        let Some(step) = self.step(alloc, context, now)? else {
+            return Ok(None);
+        };
+        if step.record.ended {
+            return Ok(None);
+        }
+        Ok(Some(step.wakes))
+    }
+
     /// Takes steps until a moment, then asks for the shutdown and goes on to the end. After each step the clock waits until
     /// the next one is due, or shorter. Whether the trace has ended: it has, unless 2^64 - 1 steps were too few.
     ///
@@ -370,16 +411,10 @@ impl<A: ApiMode, S: RelatedSet<A::Value>, B: Backoff, Rc: Drop, E: Drop> Driver<
     {
         for _step in 0..u64::MAX {
             let now = clock.now();
-            if stop <= now {
-                self.shut_down();
-            }
-            let Some(step) = self.step(alloc, context, now)? else {
+            let Some(wakes) = self.advance(alloc, context, now, stop)? else {
                 return Ok(true);
             };
-            if step.record.ended {
-                return Ok(true);
-            }
-            clock.wait(step.wakes);
+            clock.wait(wakes);
         }
         Ok(false)
     }
