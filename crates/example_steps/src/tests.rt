@@ -37,7 +37,8 @@ fn a_site_is_greeted_once(rt: HostRuntime) -> Result<()> {
     let mut driver: Driver<Conn, _, _, _, Error> = Driver::new(alloc, controller, Greeter);
     let mut greeted = List::new(alloc);
     let end = Moment(60 * SECOND);
-    assert!(rt; driver.run_until(alloc, &mut greeted, &mut clock(), end)?);
+    let ended = driver.run_until(alloc, &mut greeted, &mut clock(), end)?;
+    assert!(rt; ended);
     assert_eq!(rt; greeted.len(), 1);
     Ok(())
 }
@@ -51,7 +52,8 @@ fn a_site_is_tried_until_it_is_ready(rt: HostRuntime) -> Result<()> {
     let patient = Patient { attempts: 0 };
     let mut driver: Driver<Conn, _, _, _, Error> = Driver::new(alloc, controller, patient);
     let end = Moment(11 * SECOND);
-    assert!(rt; driver.run_until(alloc, &mut (), &mut clock(), end)?);
+    let ended = driver.run_until(alloc, &mut (), &mut clock(), end)?;
+    assert!(rt; ended);
     assert_eq!(rt; driver.reconciler().attempts, 3);
     Ok(())
 }

@@ -3,7 +3,7 @@
 use kube_api::{ApiMode, TestMode};
 use kube_backoff::ConstantBackoff;
 use kube_control::{Action, Backoff, Controller, NoRelated};
-use kube_drive::{Clock, Driver, Reconcile, SteppedClock};
+use kube_drive::{Clock, Driver, FnReconciler, Reconcile, SteppedClock};
 use kube_meta::{ApiResource, DynamicObject, Moment};
 use kube_server::{Conn, Server};
 use std::alloc::Global;
@@ -45,17 +45,21 @@ fn kind(rt: &impl Abort, alloc: Global) -> Arc<ApiResource> {
     ApiResource::shared(alloc, "", "v1", "ConfigMap", "configmaps").expect(rt, "memory")
 }
 
-/// A driver over a server that has one object.
-fn over_server<B: Backoff>(rt: &impl Abort, alloc: Global, backoff: B) -> Driven<Conn, B> {
+/// A connection to a server that has one object.
+fn conn(rt: &impl Abort, alloc: Global) -> Conn {
     let kind = kind(rt, alloc);
     let mut server = Server::new(alloc, kind.clone().expect(rt, "memory"));
     let object = DynamicObject::new(alloc, "a", &kind).expect(rt, "memory");
     server.put(alloc, object).expect(rt, "stored");
-    let conn = Conn::new(alloc, &server).expect(rt, "memory");
-    let controller = Controller::new_with(alloc, conn, Default::default(), kind);
-    let controller = controller
-        .expect(rt, "memory")
-        .trigger_backoff(alloc, backoff);
+    Conn::new(alloc, &server).expect(rt, "memory")
+}
+
+/// A driver over a server that has one object.
+fn over_server<B: Backoff>(rt: &impl Abort, alloc: Global, backoff: B) -> Driven<Conn, B> {
+    let conn = conn(rt, alloc);
+    let controller = Controller::new_with(alloc, conn, Default::default(), kind(rt, alloc));
+    let controller = controller.expect(rt, "memory");
+    let controller = controller.trigger_backoff(alloc, backoff);
     Driver::new(alloc, controller, Often { again: 5 })
 }
 
@@ -138,4 +142,28 @@ fn runs_drain(rt: HostRuntime) {
     assert_eq!(rt; count, 2);
     assert!(rt; driver.controller().has_ended());
     assert_eq!(rt; clock.now().0, 8);
+}
+
+#[test]
+fn closures_reconcile(rt: HostRuntime) {
+    let alloc = rt.alloc();
+    let conn = conn(&rt, alloc);
+    let controller = Controller::new_with(alloc, conn, Default::default(), kind(&rt, alloc));
+    let function = |object: &DynamicObject| -> Result<Action, u32> {
+        match &object.metadata.uid {
+            Some(_) => Ok(Action::await_change()),
+            None => Err(7),
+        }
+    };
+    let reconciler = FnReconciler { function, retry: 3 };
+    let mut driver: Driver<Conn, _, _, _, u32> = Driver::new(
+        alloc,
+        controller.expect(&rt, "memory"),
+        reconciler,
+    );
+    let first = driver.step(alloc, &mut (), Moment(1)).expect(&rt, "a step");
+    assert_eq!(rt; first.map(|step| step.record.taken.len()), Some(1));
+    let second = driver.step(alloc, &mut (), Moment(1)).expect(&rt, "a step");
+    let waked = second.map(|step| (step.record.finished.len(), step.wakes));
+    assert_eq!(rt; waked, Some((1, Some(Moment(4)))));
 }
