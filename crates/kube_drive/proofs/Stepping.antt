@@ -1,6 +1,6 @@
 -- One step, as one turn of what the driver's controller stands for. O is the type of objects, B that of a backoff's states.
-use Rattle.std.proofs.Common.{◌≡◌, ℕ, zero, suc, ◌+◌, ◌-◌, ◌<◌, ◌≤◌, ◌^◌, min, max, Bool, true, false, not, ◌||◌, nat_le, nat_lt, List, [], ◌∷◌, ◌++◌, map, length, take, Option, Some, None, if◌then◌else◌, refl, sym, ap, subst, ◌∙◌, append-nil, append_assoc, arith}
-use Rattle.std.specs.List.{filter_map}
+use Rattle.std.proofs.Common.{◌≡◌, ℕ, zero, suc, ◌+◌, ◌-◌, ◌<◌, ◌≤◌, ◌^◌, min, max, Bool, true, false, not, ◌||◌, ◌==◌, nat_le, nat_lt, List, [], ◌∷◌, ◌++◌, map, length, take, Option, Some, None, if◌then◌else◌, refl, sym, ap, subst, ◌∙◌, append-nil, append_assoc, arith}
+use Rattle.std.specs.List.{filter_map, list_any}
 use Rattle.std.proofs.lemmas.Bool.{le-ltb, leb-false, lt-leb}
 use Rattle.std.proofs.lemmas.List.{length-append}
 use Rattle.kube_model.specs.World.{World}
@@ -16,7 +16,10 @@ use Rattle.kube_history.specs.TurnEvents.{was_over}
 use Rattle.kube_step.specs.HandOvers.{handed_by}
 use Rattle.kube_control.specs.Histories.{EachIsSettled, EachMayRun, IsOfTrace}
 use Rattle.kube_control.proofs.Refusals.{moment-push}
+use Rattle.kube_model.specs.declared.turn.Stop.{Stop}
+use Rattle.kube_control.specs.Waking.{wakes_after}
 use Rattle.kube_drive.specs.Driving.{moment_after}
+use Rattle.kube_drive.specs.Stepping.{is_budget, next_step}
 use Rattle.kube_drive.proofs.Finishing.{all-finish, names, refs, runs-after, started-handed}
 
 -- Moments.
@@ -83,3 +86,12 @@ pub of-one : {T X : Type 0} (t : T) (ts : List T) (rs before : List X) (r : X) �
 of-one t ts rs before r one last short P k =
     let is = only-record rs before r last (subst (λ us. length rs ≤ length us) one short) in
     subst (λ qs. P (t ∷ []) qs) is (subst (λ us. P us rs) one k)
+
+-- where nothing is to be told and each source was heard, a controller says when the next step is due
+pub next-waits : {O B : Type 0} (w : World O B) (h : List (Step O)) (ended : Bool) (finishes at : ℕ) (stops : List Stop) → ended ≡ false → finishes ≡ 0 → list_any is_budget stops ≡ false
+    → (r : Option ℕ) → r ≡ wakes_after w h → r ≡ next_step w h ended finishes at stops
+next-waits w h ended finishes at stops e f m r k =
+    k
+    ∙ sym (ap (λ b. if b then None else (if not (finishes == 0) || list_any is_budget stops then Some at else wakes_after w h)) e
+    ∙ (ap (λ n. if not (n == 0) || list_any is_budget stops then Some at else wakes_after w h) f
+    ∙ ap (λ b. if b then Some at else wakes_after w h) m))

@@ -109,6 +109,30 @@ fn only_record<A: ApiMode, E: Drop>(trace: Trace<A::Value, E>) -> Option<TurnRec
     records.pop()
 }
 
+/// When the next step is due after this record, where so many reconciles have ended since.
+fn next_due<A: ApiMode, S: RelatedSet<A::Value>, B: Backoff, E: Drop>(
+    controller: &mut Controller<WatchRoot<A>, S, B>,
+    finishes: usize,
+    record: &TurnRecord<A::Value, E>,
+) -> Option<Moment>
+    ensures due { (w : World A.Value B) (h : List (PlainStep A.Value)) → StandsFor ⟦<WatchRoot<A> as RootSource>⟧ S.RelatedSet B.Backoff A.Value.Resource w h controller.old
+        → option_map (λ m. m.0) result ≡ next_step w h record.now.ended finishes record.now.at.0 record.now.stops }
+    ensures stands { (w : World A.Value B) (h : List (PlainStep A.Value)) → StandsFor ⟦<WatchRoot<A> as RootSource>⟧ S.RelatedSet B.Backoff A.Value.Resource w h controller.old
+        → StandsFor ⟦<WatchRoot<A> as RootSource>⟧ S.RelatedSet B.Backoff A.Value.Resource w h controller.new }
+    ensures asks { controller.new.asks ≡ controller.old.asks }
+{
+    if record.ended {
+        return None;
+    }
+    if finishes != 0 {
+        return Some(record.at);
+    }
+    if has_more(record.stops.as_slice()) {
+        return Some(record.at);
+    }
+    controller.wakes_at()
+}
+
 impl<A: ApiMode, S: RelatedSet<A::Value>, B: Backoff, Rc: Drop, E: Drop> Driver<A, S, B, Rc, E> {
     ghost use Rattle.std.specs.Borrow.{sem};
     ghost use Rattle.kube_drive.specs.Lending.{LendsDrivenApi, with_driven_api};
@@ -223,25 +247,6 @@ impl<A: ApiMode, S: RelatedSet<A::Value>, B: Backoff, Rc: Drop, E: Drop> Driver<
         Ok(turns)
     }
 
-    /// When the next step is due, after this record.
-    fn next_due(&mut self, record: &TurnRecord<A::Value, E>) -> Option<Moment>
-        ensures due { (w : World A.Value B) (h : List (PlainStep A.Value)) → StandsFor ⟦<WatchRoot<A> as RootSource>⟧ S.RelatedSet B.Backoff A.Value.Resource w h self.old.controller
-            → option_map (λ m. m.0) result ≡ next_step w h record.now.ended (length self.old.finishes) record.now.at.0 record.now.stops }
-        ensures driven { (w : World A.Value B) (h : List (PlainStep A.Value)) → IsDriven ⟦<WatchRoot<A> as RootSource>⟧ S.RelatedSet B.Backoff A.Value.Resource w h self.old
-            → IsDriven ⟦<WatchRoot<A> as RootSource>⟧ S.RelatedSet B.Backoff A.Value.Resource w h self.new }
-        ensures rest { self.new ≡ record self.old { controller = self.new.controller } }
-        ensures feeds { self.new.controller.asks ≡ self.old.controller.asks }
-        ensures spent { self.new.controller.is_spent ≡ self.old.controller.is_spent }
-    {
-        if record.ended {
-            return None;
-        }
-        if !self.finishes.is_empty() || has_more(record.stops.as_slice()) {
-            return Some(record.at);
-        }
-        self.controller.wakes_at()
-    }
-
     /// Takes one step: a turn of the controller at a moment, which finishes all that the step before started; then the reconcile
     /// of each object that the turn hands over, once and in order. None where the controller's trace has ended: then nothing
     /// changes.
@@ -337,7 +342,7 @@ impl<A: ApiMode, S: RelatedSet<A::Value>, B: Backoff, Rc: Drop, E: Drop> Driver<
             return Ok(None);
         };
         self.finishes = started.reconcile_all(alloc, &mut self.reconciler, context, record.at);
-        let wakes = self.next_due(&record);
+        let wakes = next_due(&mut self.controller, self.finishes.len(), &record);
         Ok(Some(Step { record, wakes }))
     }
 

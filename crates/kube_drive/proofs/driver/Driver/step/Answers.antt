@@ -5,12 +5,13 @@ use Rattle.std.proofs.lemmas.Result.{err_from_is_err_and}
 use Rattle.kube_model.specs.Raw.{grown_by}
 use Rattle.kube_step.specs.HandOvers.{handed_by, taken_by}
 use Rattle.kube_step.specs.Policies.{Answers, answered_by}
-use Rattle.kube_model.specs.Traces.{IsTrace, has_ended, unread}
+use Rattle.kube_model.specs.Traces.{IsTrace, has_ended, step, unread}
 use Rattle.kube_turn.specs.Records.{record_of, records_of, turns_of}
 use Rattle.kube_asks.specs.Roots.{RootWatching}
 use Rattle.kube_control.specs.Controllers.{Controlling, StandsFor}
 use Rattle.kube_control.specs.Runs.{AreFinishedIn}
-use Rattle.kube_drive.specs.Driving.{Driving}
+use Rattle.kube_drive.specs.Driving.{Driving, turn_by}
+use Rattle.kube_drive.specs.Stepping.{next_step}
 use Rattle.kube_drive.specs.Reconciled.{AreReconciled}
 use Rattle.kube_drive.proofs.Held.{handed-here, handed-names, handed-objects, none-named, not-refused, spent-after}
 use Rattle.kube_drive.proofs.Policies.{finished-now}
@@ -49,9 +50,8 @@ returns-clause-trace g c w h d =
     let both = stepped _ g.S.RelatedSet g.B.Backoff g.A.Value.Resource w h c.args.self.now n c.args.now.0 d c.in_ok-turns.turns.items one
     c.in-Ok.trace.records last.0 c.in-Some.record last.1 c.in-Ok.ensures.short c.self-2.inside.controller c.run.new.self same (c.in-Ok.ensures.trace w h) in (
       both.0,
-      c.next_due-wakes.ensures.driven w _
-          (driven-on _ g.S.RelatedSet g.B.Backoff g.A.Value.Resource w h c.args.self.now n c.args.now.0 d c.in_ok-turns.turns.items one
-          c.in-Ok.trace.records last.0 c.in-Some.record last.1 c.in-Ok.ensures.short _ both.1 (returns-clause-references g c)),
+      driven-on _ g.S.RelatedSet g.B.Backoff g.A.Value.Resource w h c.args.self.now n c.args.now.0 d c.in_ok-turns.turns.items one
+          c.in-Ok.trace.records last.0 c.in-Some.record last.1 c.in-Ok.ensures.short _ (c.next_due-wakes.ensures.stands w _ both.1) (returns-clause-references g c),
     )
 
 -- the error policy of the run is the reconciler's
@@ -110,7 +110,17 @@ returns-clause-drains g c w h d asked =
 
 pub returns-clause-wakes : goal.returns-clause-wakes
 returns-clause-wakes g c w h d =
-    c.next_due-wakes.ensures.due w _ (returns-clause-trace g c w h d).1.controller
+    let n = length (g.S.RelatedSet.feeds c.args.self.now.controller.asks.related) + 1 in
+    let one : c.in_ok-turns.turns.items ≡ held-turn n c.args.self.now c.args.now.0 ∷ [] = subst (λ (x : Driving (RootWatching g.row.A.Denot g.row.A-Value.Denot) g.row.S.Denot g.row.B.Denot g.row.Rc.Denot g.row.A-Value.Denot g.row.A-Value-DynamicType.Denot g.row.E.Denot).
+    c.in_ok-turns.turns.items ≡ held-turn (length (g.S.RelatedSet.feeds x.controller.asks.related) + 1) x c.args.now.0 ∷ []) c.self.view_is c.in_ok-turns.ensures.turns in
+    let same : c.self-2.inside.controller ≡ c.args.self.now.controller = ap (λ (x : Driving (RootWatching g.row.A.Denot g.row.A-Value.Denot) g.row.S.Denot g.row.B.Denot g.row.Rc.Denot g.row.A-Value.Denot g.row.A-Value-DynamicType.Denot g.row.E.Denot). x.controller) c.self-2.view_is
+    ∙ (ap (λ (x : Driving (RootWatching g.row.A.Denot g.row.A-Value.Denot) g.row.S.Denot g.row.B.Denot g.row.Rc.Denot g.row.A-Value.Denot g.row.A-Value-DynamicType.Denot g.row.E.Denot). x.controller) c.in_ok-turns.ensures.taken ∙ ap (λ (x : Driving (RootWatching g.row.A.Denot g.row.A-Value.Denot) g.row.S.Denot g.row.B.Denot g.row.Rc.Denot g.row.A-Value.Denot g.row.A-Value-DynamicType.Denot g.row.E.Denot). x.controller) c.self.view_is) in
+    let last = c.in-Some.ensures.some in
+    let type_of = g.A.Value.Resource.type_of in
+    let both = stepped _ g.S.RelatedSet g.B.Backoff g.A.Value.Resource w h c.args.self.now n c.args.now.0 d c.in_ok-turns.turns.items one
+    c.in-Ok.trace.records last.0 c.in-Some.record last.1 c.in-Ok.ensures.short c.self-2.inside.controller c.run.new.self same (c.in-Ok.ensures.trace w h) in
+    c.next_due-wakes.ensures.due w _ both.1
+    ∙ ap (λ k. next_step w (h ++ step (turn_by type_of n c.args.self.now c.args.now.0) (unread (record_of type_of c.in-Some.record)) ∷ []) c.in-Some.record.ended k c.in-Some.record.at.0 c.in-Some.record.stops) c.len.ensures
 
 -- the one turn is valid, so the run refuses none
 pub returns-in-Err-clause-valid : goal.returns-in-Err-clause-valid
