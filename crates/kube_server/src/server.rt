@@ -309,15 +309,15 @@ impl Server {
         self.compacted
     }
 
-    // The type of its objects.
-    pub(crate) fn resource(&self) -> &Arc<ApiResource>
+    /// The type of its objects.
+    pub fn resource(&self) -> &Arc<ApiResource>
         ensures { resource_type (arc_value result.now) ≡ self.now.kind }
     {
         &self.resource
     }
 
-    // The newest revision of a history.
-    pub(crate) fn revision(&self) -> u64
+    /// The newest revision, 0 before the first change.
+    pub fn revision(&self) -> u64
         ensures value { result ≡ newest self.now }
         ensures small { result < 2 ^ 63 }
         ensures history { IsHistory meta_of self.now.changes }

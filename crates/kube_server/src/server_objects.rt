@@ -11,11 +11,12 @@ ghost use Rattle.kube_api.specs.ObjectTalk.{PatchAsked, DeleteAsked, patch_answe
 ghost use Rattle.kube_server.specs.Servers.{held, next_revision, deletion, IsAtMostStep};
 ghost use Rattle.kube_server.specs.Stored.{change_of};
 ghost use Rattle.kube_server.specs.Servers.{meta_of};
-ghost use Rattle.kube_server.specs.ObjectCalls.{reference_in, held_document, answer_seen, answer_of_patch, IsLeftByPatch, IsKeptServer, gone_status, change_answer, deleted_answer, answer_of_delete, IsLeftByDelete, object_raw};
+ghost use Rattle.kube_server.specs.ObjectCalls.{reference_in, held_document, answer_seen, answer_of_patch, IsLeftByPatch, IsKeptServer, gone_status, change_answer, deleted_answer, answer_of_delete, IsLeftByDelete, IsObjectMove, object_raw};
 
 use crate::entry::Entry;
-use crate::object_told::{ObjectTold, copy_patch};
+use crate::object_told::ObjectTold;
 use crate::server::Server;
+use kube_api::copies::copy_patch;
 use kube_api::{DeleteAnswer, ObjectApi, Patch, PatchAnswer, PatchRefusal, Status};
 use kube_meta::text::copy_option;
 use kube_meta::{DynamicObject, Extra, Moment, NoMemory, ObjectRef, Polled, Text};
@@ -228,6 +229,9 @@ impl<'a> ObjectApi for ServerObjects<'a> {
 
     ghost faults = { λ _. 0 };
 
+    ghost moves = { λ old now raw new. IsObjectMove old.server.now old.namespace now raw new.server.now
+        × (new.namespace ≡ old.namespace) × (new.server.ghost_name ≡ old.server.ghost_name) };
+
     fn patch(
         &mut self,
         alloc: Global,
@@ -249,6 +253,8 @@ impl<'a> ObjectApi for ServerObjects<'a> {
             ≡ grown (Some (map object_raw self.old.told.items)) (record { call = PatchAsked name.now (map operation_of patch.now); answer = patch_answer a })) }
         ensures unchanged { OnErr result (Some (map object_raw self.new.told.items) ≡ Some (map object_raw self.old.told.items)) }
         ensures kept { OnErr result (Some (held_document self.new.server.now self.new.namespace) ≡ Some (held_document self.old.server.now self.old.namespace)) }
+        ensures moves { IfOk result (λ a. IsObjectMove self.old.server.now self.old.namespace _now.0 (record { call = PatchAsked name.now (map operation_of patch.now); answer = patch_answer a }) self.new.server.now
+            × (self.new.namespace ≡ self.old.namespace) × (self.new.server.ghost_name ≡ self.old.server.ghost_name)) }
         ensures refused { IfOk result (λ a. RefusedAs (Some (held_document self.old.server.now self.old.namespace)) name.now (map operation_of patch.now) (patch_answer a)) }
         ensures no_memory { IfOk result (λ a. IsNotMemory (patch_answer a)) }
         ensures stays { IfOk result (λ a. IsKept (patch_answer a) (Some (held_document self.old.server.now self.old.namespace)) (Some (held_document self.new.server.now self.new.namespace))) }
@@ -284,6 +290,8 @@ impl<'a> ObjectApi for ServerObjects<'a> {
             ≡ grown (Some (map object_raw self.old.told.items)) (record { call = DeleteAsked name.now; answer = delete_answer a })) }
         ensures unchanged { OnErr result (Some (map object_raw self.new.told.items) ≡ Some (map object_raw self.old.told.items)) }
         ensures kept { OnErr result (Some (held_document self.new.server.now self.new.namespace) ≡ Some (held_document self.old.server.now self.old.namespace)) }
+        ensures moves { IfOk result (λ a. IsObjectMove self.old.server.now self.old.namespace now.0 (record { call = DeleteAsked name.now; answer = delete_answer a }) self.new.server.now
+            × (self.new.namespace ≡ self.old.namespace) × (self.new.server.ghost_name ≡ self.old.server.ghost_name)) }
         ensures missing { IfOk result (λ a. MissingAs (Some (held_document self.old.server.now self.old.namespace)) name.now (delete_answer a)) }
         ensures stays { IfOk result (λ a. IsKept (delete_answer a) (Some (held_document self.old.server.now self.old.namespace)) (Some (held_document self.new.server.now self.new.namespace))) }
         ensures faults { IfOk result (λ a. FaultRose (is_object_fault (delete_answer a)) 0 0) }
