@@ -1,6 +1,6 @@
 //! Watching one object.
 
-ghost use Rattle.std.specs.Prelude.{◌≡◌, ◌++◌, [], true, Some, None, IfOk, IfSome, OnErr, IsErr, codes};
+ghost use Rattle.std.specs.Prelude.{◌≡◌, ◌++◌, List, [], true, Some, None, IfOk, IfSome, OnErr, IsErr, codes};
 ghost use Rattle.std.specs.Option.{option_map};
 ghost use Rattle.kube_model.specs.World.{default_settings};
 ghost use Rattle.kube_watch.specs.Calls.{version_of};
@@ -82,6 +82,11 @@ fn answer_to<K: Drop>(
 }
 
 impl<A: ApiMode> WatchObject<A> {
+    ghost use Rattle.std.specs.Borrow.{sem};
+    ghost use Rattle.kube_model.specs.History.{Dated};
+    ghost use Rattle.kube_watch.specs.Lending.{LendsObservedApi, with_observed_api};
+    ghost use Rattle.kube_watch.specs.Stands.{StandsFor, api_of};
+
     // Takes the first answer to what waits.
     fn take_answer(&mut self) -> Option<Result<Option<Arc<A::Value>>, Error>>
         ensures { TakesAnswer self.old result self.new }
@@ -141,5 +146,14 @@ impl<A: ApiMode> WatchObject<A> {
             Some(answer) => Ok(Next::Item(answer)),
             None => self.ask(alloc, now, fuel),
         }
+    }
+
+    /// The API. All else is as before, and so is what the watch stands for.
+    pub fn api_mut(&mut self) -> &mut A
+        ensures* lends { sem 𝓛 (LendsObservedApi A.row A.Value.row A.Value.DynamicType.row A.ApiMode A.Value.Resource A.Value.DynamicType.Hash self.entry result) }
+        ensures value { result.now ≡ api_of self.old.watcher }
+        ensures stands { (ds : List (Dated A.Value)) (api : A) → StandsFor ds self.old.watcher → StandsFor ds (with_observed_api self.old api).watcher }
+    {
+        self.watcher.api_mut()
     }
 }
