@@ -95,15 +95,17 @@ answer_by decision action AnswersNone = None
 
 -- ---- a poll
 
--- what is asked of an API of objects: what it holds, what it tells, and how often it failed
-pub record Objects (A V : Type 0) : Type 0 where
+-- what is asked of an API of objects: what a call makes of it, what it holds, what it tells, and how often it failed
+pub record Objects (A V : Type 0) : Type 1 where
+  pub moves : A → ℕ → ObjectRaw V → A → Type 0
   pub held : A → Option (List ℕ → Option Data)
   pub talk : A → Option (List (ObjectRaw V))
   pub faults : A → ℕ
 
--- the patch was sent, once, which is all that was asked of the API, and its answer is that of the poll
-pub record IsSent {A V E : Type 0} (api : Objects A V) (name : List ℕ) (patch : List Operation) (decision : Decision) (action : Option ℕ) (old : A) (answer : Polled (Answer E)) (new : A) : Type 0 where
+-- the patch was sent at this moment, once, which is all that was asked of the API: it is what that made of it, and its answer is that of the poll
+pub record IsSent {A V E : Type 0} (api : Objects A V) (name : List ℕ) (patch : List Operation) (decision : Decision) (action : Option ℕ) (now : ℕ) (old : A) (answer : Polled (Answer E)) (new : A) : Type 0 where
   pub patched : ObjectAnswer V
+  pub moved : api.moves old now (record { call = PatchAsked name patch; answer = patched }) new
   pub told : api.talk new ≡ grown (api.talk old) (record { call = PatchAsked name patch; answer = patched })
   pub answers : answer_by decision action patched ≡ Some answer
   pub refused : RefusedAs (api.held old) name patch patched
@@ -112,12 +114,12 @@ pub record IsSent {A V E : Type 0} (api : Objects A V) (name : List ℕ) (patch 
   pub rose : FaultRose (is_object_fault patched) (api.faults old) (api.faults new)
 
 -- where no patch is sent nothing is asked of the API
-abbrev pub IsPolledBy : {A V E : Type 0} → Objects A V → List ℕ → List Operation → Decision → Course E → A → Polled (Answer E) → A → Type 0
-IsPolledBy api name patch decision (Ends wanted) old answer new = (answer ≡ Ready wanted) × (new ≡ old)
-IsPolledBy api name patch decision Waits old answer new = (answer ≡ NotReady) × (new ≡ old)
-IsPolledBy api name patch decision (Sends action) old answer new = IsSent api name patch decision action old answer new
+abbrev pub IsPolledBy : {A V E : Type 0} → Objects A V → List ℕ → List Operation → Decision → Course E → ℕ → A → Polled (Answer E) → A → Type 0
+IsPolledBy api name patch decision (Ends wanted) now old answer new = (answer ≡ Ready wanted) × (new ≡ old)
+IsPolledBy api name patch decision Waits now old answer new = (answer ≡ NotReady) × (new ≡ old)
+IsPolledBy api name patch decision (Sends action) now old answer new = IsSent api name patch decision action now old answer new
 
--- the poll of a finalizer for an object with this metadata, whose branch is given or not
-abbrev pub IsPolled : {A V E : Type 0} → Objects A V → List ℕ → ObjectMeta → Option (Option ℕ) → Option (Result (Option ℕ) E) → A → Polled (Answer E) → A → Type 0
+-- the poll of a finalizer for an object with this metadata, whose branch is given or not, at a moment
+abbrev pub IsPolled : {A V E : Type 0} → Objects A V → List ℕ → ObjectMeta → Option (Option ℕ) → Option (Result (Option ℕ) E) → ℕ → A → Polled (Answer E) → A → Type 0
 IsPolled api name meta outcome branch =
     IsPolledBy api (unwrap_or meta.name []) (patch_on name (finalizers_in meta) (decision_on name meta)) (decision_on name meta) (course (decision_on name meta) outcome branch)

@@ -4,6 +4,7 @@ pub mod FinalizerPolls
 pub mod Finalizers
 pub mod Guarding
 pub mod Kinds
+pub mod Lending
 pub mod Lives
 pub mod Waiting
 pub mod Waits

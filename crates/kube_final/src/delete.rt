@@ -98,8 +98,8 @@ fn ask<O: ObjectApi>(
     name: &Text,
     now: Moment,
 ) -> Result<Deletion, NoMemory>
-    ensures asked { IfOk result (λ d. IsAsked (record { held = O.held; talk = O.talk; faults = O.faults }) O.Value.meta_of name.now objects.old d objects.new) }
-    ensures lost { OnErr result (IsAskedAtMostOnce (record { held = O.held; talk = O.talk; faults = O.faults }) O.Value.meta_of name.now objects.old objects.new) }
+    ensures asked { IfOk result (λ d. IsAsked (record { moves = O.moves; held = O.held; talk = O.talk; faults = O.faults }) O.Value.meta_of name.now now.0 objects.old d objects.new) }
+    ensures lost { OnErr result (IsAskedAtMostOnce (record { moves = O.moves; held = O.held; talk = O.talk; faults = O.faults }) O.Value.meta_of name.now now.0 objects.old objects.new) }
     ensures rises { O.faults objects.old ≤ O.faults objects.new }
 {
     let answer = objects.delete(alloc, name.as_str(), now)?;
@@ -143,6 +143,10 @@ impl<A: ApiMode> Model for DeleteAndFinalize<A> {
 }
 
 impl<A: ApiMode> DeleteAndFinalize<A> {
+    ghost use Rattle.std.specs.Borrow.{sem};
+    ghost use Rattle.kube_watch.specs.Stands.{api_of};
+    ghost use Rattle.kube_final.specs.Lending.{LendsDeletingApi};
+
     /// Deletes the object of a name, which the API watches alone.
     ///
     /// Errors: `NoMemory`.
@@ -176,14 +180,14 @@ impl<A: ApiMode> DeleteAndFinalize<A> {
     ) -> Result<Next<Result<(), Error>>, NoMemory>
         requires unready { self.old.is_over ≡ false }
         requires fuel { 1 ≤ fuel }
-        ensures deleted { IfOk result (λ a. IsDeletedBy (record { held = O.held; talk = O.talk; faults = O.faults }) O.Value.meta_of
+        ensures deleted { IfOk result (λ a. IsDeletedBy (record { moves = O.moves; held = O.held; talk = O.talk; faults = O.faults }) O.Value.meta_of
             (record { moves = A.moves; talk = A.talk; faults = A.faults; version = version_of A.Value.meta_of }) A.Value.meta_of
             now.0 fuel self.old.uid objects.old self.old a objects.new self.new) }
         ensures name { self.new.name ≡ self.old.name }
         ensures over { IfOk result (λ a. self.new.is_over ≡ is_item a) }
         ensures rises { O.faults objects.old ≤ O.faults objects.new }
         ensures err { OnErr result (self.new.is_spent ≡ true) }
-        ensures lost { OnErr result (IsLostBy (record { held = O.held; talk = O.talk; faults = O.faults }) O.Value.meta_of
+        ensures lost { OnErr result (IsLostBy (record { moves = O.moves; held = O.held; talk = O.talk; faults = O.faults }) O.Value.meta_of
             (record { moves = A.moves; talk = A.talk; faults = A.faults; version = version_of A.Value.meta_of }) A.Value.meta_of
             now.0 fuel self.old.uid objects.old self.old objects.new self.new) }
         ensures again { OnErr result (self.new.is_over ≡ false) }
@@ -209,6 +213,14 @@ impl<A: ApiMode> DeleteAndFinalize<A> {
                 Ok(Next::Item(Err(error)))
             }
         }
+    }
+
+    /// The API of the watch. All else is as before.
+    pub fn api_mut(&mut self) -> &mut A
+        ensures* lends { sem 𝓛 (LendsDeletingApi A.row A.Value.row A.Value.DynamicType.row A.ApiMode A.Value.Resource A.Value.DynamicType.Hash self.entry result) }
+        ensures value { result.now ≡ api_of self.old.watch.watcher }
+    {
+        self.watch.api_mut()
     }
 
     // Waits until the object of a uid is gone.

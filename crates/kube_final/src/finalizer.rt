@@ -195,8 +195,8 @@ fn send<A: ObjectApi, E: Drop>(
     action: Action,
     now: Moment,
 ) -> Result<Polled<Result<Action, Error<E>>>, NoMemory>
-    ensures sent { IfOk result (λ a. IsSent (record { held = A.held; talk = A.talk; faults = A.faults })
-        (unwrap_or meta.now.name []) (patch_on name.now (finalizers_in meta.now) decision) decision action api.old a api.new) }
+    ensures sent { IfOk result (λ a. IsSent (record { moves = A.moves; held = A.held; talk = A.talk; faults = A.faults })
+        (unwrap_or meta.now.name []) (patch_on name.now (finalizers_in meta.now) decision) decision action now.0 api.old a api.new) }
     ensures rises { A.faults api.old ≤ A.faults api.new }
     ensures silent { OnErr result (A.talk api.new ≡ A.talk api.old) }
     ensures kept { OnErr result (A.held api.new ≡ A.held api.old) }
@@ -296,8 +296,8 @@ impl<K: Resource> Finalizer<K> {
         now: Moment,
     ) -> Result<Polled<Result<Action, Error<E>>>, NoMemory>
         requires unready { self.old.is_over ≡ false }
-        ensures polled { IfOk result (λ a. IsPolled (record { held = A.held; talk = A.talk; faults = A.faults })
-            self.old.name (K.meta_of self.old.object) self.old.outcome branch api.old a api.new) }
+        ensures polled { IfOk result (λ a. IsPolled (record { moves = A.moves; held = A.held; talk = A.talk; faults = A.faults })
+            self.old.name (K.meta_of self.old.object) self.old.outcome branch now.0 api.old a api.new) }
         ensures after { IfOk result (λ a. self.new ≡ record self.old {
           outcome = outcome_after (decision_on self.old.name (K.meta_of self.old.object)) self.old.outcome branch;
           is_over = is_ready a;

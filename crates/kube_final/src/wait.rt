@@ -250,6 +250,10 @@ impl<A: ApiMode, C> Model for AwaitCondition<A, C> {
 }
 
 impl<A: ApiMode, C: Condition<A::Value>> AwaitCondition<A, C> {
+    ghost use Rattle.std.specs.Borrow.{sem};
+    ghost use Rattle.kube_watch.specs.Stands.{api_of};
+    ghost use Rattle.kube_final.specs.Lending.{LendsAwaitedApi};
+
     /// Waits for the object of a name, which the API watches alone.
     ///
     /// Errors: `NoMemory`.
@@ -291,6 +295,14 @@ impl<A: ApiMode, C: Condition<A::Value>> AwaitCondition<A, C> {
         let answer = poll_end(&mut self.watch, &self.condition, alloc, now, fuel)?;
         self.over = is_item(&answer);
         Ok(answer)
+    }
+
+    /// The API of the watch. All else is as before.
+    pub fn api_mut(&mut self) -> &mut A
+        ensures* lends { sem 𝓛 (LendsAwaitedApi A.row A.Value.row A.Value.DynamicType.row A.ApiMode A.Value.Resource A.Value.DynamicType.Hash C.row self.entry result) }
+        ensures value { result.now ≡ api_of self.old.watch.watcher }
+    {
+        self.watch.api_mut()
     }
 }
 

@@ -13,6 +13,7 @@ returns-clause-lost g c =
       d.0,
       record {
         answer = delete_answer c.in_ok-answer.answer;
+        moved = rw c.as_str.ensures at e.moves;
         told = rw c.as_str.ensures at e.grows;
         comes_to = d.1;
         missing = rw c.as_str.ensures at e.missing;
