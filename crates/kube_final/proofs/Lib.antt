@@ -8,3 +8,4 @@ pub mod Documents
 pub mod Patching
 pub mod Staging
 pub mod Sights
+pub mod Asking

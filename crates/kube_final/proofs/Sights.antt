@@ -1,6 +1,7 @@
 -- What a stage keeps of a life, step by step.
 use Rattle.std.proofs.Common.{◌≡◌, inl, inr, ℕ, suc, zero, ◌<◌, ◌&&◌, List, [], ◌∷◌, ◌++◌, map, length, slice_get, ◌≤◌, Option, Some, None, Result, Ok, Err, Bool, true, false, not, is_some, OnOk, IfOk, refl, sym, ap, ◌∙◌, subst, true≢false, append-nil, arith}
-use Rattle.std.specs.Prelude.{unwrap_or, nat_lt, drop, fold}
+use Rattle.std.specs.Prelude.{unwrap_or, nat_lt, drop, fold, take}
+use Rattle.std.proofs.lemmas.List.Sums.{fold-append}
 use Rattle.std.proofs.lemmas.List.{drop_all}
 use Rattle.std.proofs.lemmas.Bool.Decides.{nat_tests}
 use Rattle.std.specs.Arc.{arc_value}
@@ -24,7 +25,7 @@ use Rattle.kube_final.specs.declared.life.LifeStep.TheVariants.{Arrive}
 use Rattle.kube_final.specs.declared.play.Stage.{Stage}
 use Rattle.kube_final.specs.declared.play.Made.{Made}
 use Rattle.kube_final.specs.Finalizers.{decided, decision_on, finalizers_in, place_of, replacement}
-use Rattle.kube_final.specs.Lives.{Decided, Past, after, arrived, decided_on, decisions_after, sent_by, is_life_from, may_follow, past_of, state_after, is_made, is_there, state_of, with_decision}
+use Rattle.kube_final.specs.Lives.{Decided, Past, after, arrived, beginning, decided_on, decisions_after, sent_by, is_life_from, may_follow, past_of, state_after, is_made, is_there, state_of, with_decision}
 use Rattle.kube_final.specs.Playing.{AreMade, AreSent, AreSights, IsAnswered, IsDue, IsHeldAs, IsKept, IsMadeAs, IsPatchOf, IsSeenAs, IsSight, IsStage, Serves, is_due, stage_reference, there}
 use Rattle.kube_final.proofs.Staging.{arrived-done, arrived-refused, change-gives, held-only, only, patch-done, patch-refused}
 
@@ -174,7 +175,7 @@ none-sent name ds (w ∷ vs) (m ∷ ns) (suc n) h e t = none-sent name ds vs ns 
 
 -- ---- one step more
 
-both : (a b : Bool) → (a && b) ≡ true → (a ≡ true) × (b ≡ true)
+pub both : (a b : Bool) → (a && b) ≡ true → (a ≡ true) × (b ≡ true)
 both true b h = (refl, h)
 both false b h = absurd (true≢false (sym h))
 
@@ -258,6 +259,13 @@ pub record IsPlayed (name : List ℕ) (life : List LifeStep) (i : ℕ) (s : Stag
   pub stage : IsStage name s past
   pub rest : is_life_from name past (drop i life) ≡ true
   pub comes : fold (after name) past (drop i life) ≡ past_of name life
+  pub upto : past ≡ past_of name (take i life)
+
+pub taken-more : {A : Type 0} (i : ℕ) (xs : List A) (x : A) → drop i xs ≡ x ∷ drop (suc i) xs → take (suc i) xs ≡ take i xs ++ x ∷ []
+taken-more zero [] x e = absurd cc
+taken-more zero (y ∷ ys) x e = ap (take 1) e
+taken-more (suc i) [] x e = absurd cc
+taken-more (suc i) (y ∷ ys) x e = ap (λ zs. y ∷ zs) (taken-more i ys x e)
 
 pub played-step : (name : List ℕ) (life : List LifeStep) (i : ℕ) (s t : Stage) (step : LifeStep) → IsPlayed name life i s → drop i life ≡ step ∷ drop (suc i) life → t.name ≡ s.name
     → ((p : Past) → IsStage s.name s p → may_follow s.name p step ≡ true → IsStage s.name t (after s.name p step)) → IsPlayed name life (suc i) t
@@ -272,6 +280,7 @@ played-step name life i s t step h e n f =
       stage = goes h.past h.stage parts.0;
       rest = parts.1;
       comes = sym (ap (fold (after name) h.past) e) ∙ h.comes;
+      upto = ap (λ q. after name q step) h.upto ∙ sym (fold-append (after name) beginning (take i life) (step ∷ [])) ∙ ap (past_of name) (sym (taken-more i life step e));
     }
 
 pub played-next : (name : List ℕ) (life : List LifeStep) (i j : ℕ) (s t : Stage) (step : LifeStep) → j ≡ suc i → IsPlayed name life i s → drop i life ≡ step ∷ drop (suc i) life → t.name ≡ s.name

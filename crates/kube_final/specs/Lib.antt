@@ -9,4 +9,5 @@ pub mod Lives
 pub mod Waiting
 pub mod Waits
 pub mod Pasts
+pub mod Played
 pub mod Playing

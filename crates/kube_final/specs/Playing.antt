@@ -1,4 +1,4 @@
--- What a stage on which a life is played holds after the steps so far: a server with the object, what was seen of it, the decisions, and the patches that were sent. No clause of a public call shows it.
+-- What a stage on which a life is played holds after the steps so far: a server with the object, what was seen of it, the decisions, and the patches that were sent. Of all this the clauses of public calls show the object and what a server answered.
 use Rattle.std.specs.Prelude.{◌≡◌, ◌⊎◌, ℕ, ◌<◌, ◌^◌, Bool, true, false, ◌&&◌, is_some, List, [], ◌∷◌, ◌++◌, map, slice_get, Option, Some, None, codes}
 use Rattle.std.specs.Arc.{arc_value}
 use Rattle.std.specs.declared.alloc.Global.{Global}

@@ -2,12 +2,15 @@
 
 ghost use Rattle.std.specs.Prelude.{◌≡◌, ◌≤◌, ◌<◌, ◌^◌, ◌++◌, ◌∷◌, [], ℕ, List, length, take, true, IfOk};
 ghost use Rattle.std.specs.List.{list_any};
+ghost use Rattle.kube_meta.specs.Reference.{Reference};
+ghost use Rattle.kube_final.specs.Played.{IsPlayedOn};
 ghost use Rattle.kube_final.specs.Lives.{ends_cleanup, is_life, others_in, past_of, starts_apply};
 ghost use Rattle.kube_final.specs.declared.life.LifeStep.{LifeStep as Step};
 ghost use Rattle.kube_final.specs.declared.life.LifeStep.TheVariants.{Arrive};
 
 use crate::life::Past;
 pub use crate::life::{LifeState, LifeStep};
+pub use crate::play::Played;
 use crate::play::played;
 use kube_meta::NoMemory;
 use std::alloc::Global;
@@ -40,14 +43,16 @@ pub fn guarded(life: &[LifeStep], name: &str)
         → others_in name.now (past_of name.now (front ++ Arrive send ∷ [])).current.finalizers ≡ others_in name.now (past_of name.now front).current.finalizers }
 {}
 
-/// Plays a life on a server in memory, and gives how the object stands at its end, which is as the definitions say. Each
-/// decision is that of `Finalizer::decide`, each patch the one that `Finalizer::poll` sends for it, and the object changes by
-/// `Server::request_delete` and `Server::patch` alone; another party's change is a patch too.
+/// Plays a life on a server in memory, and gives how the object stands at its end, which is as the definitions say, with
+/// the server. Each decision is that of `Finalizer::decide`, each patch the one that `Finalizer::poll` sends for it. All that
+/// was asked of the server is that the object was put, and then for each step that changes it one call: `Server::patch`
+/// where another party changes it or a patch arrives, and `Server::request_delete`.
 ///
 /// Errors: `NoMemory`.
-pub fn play(alloc: Global, life: &[LifeStep], name: &str) -> Result<LifeState, NoMemory>
+pub fn play(alloc: Global, life: &[LifeStep], name: &str) -> Result<Played, NoMemory>
     requires valid { is_life name.now life.now ≡ true }
-    ensures { IfOk result (λ s. s ≡ (past_of name.now life.now).current) }
+    ensures state { IfOk result (λ p. p.state ≡ (past_of name.now life.now).current) }
+    ensures server { IfOk result (λ p. (r : Reference) × IsPlayedOn name.now life.now r p.server) }
 {
     played(alloc, life, name)
 }
