@@ -1,6 +1,6 @@
 //! Finalizers and deletions over the objects of a server.
 
-ghost use Rattle.std.specs.Prelude.{◌≡◌, false};
+ghost use Rattle.std.specs.Prelude.{◌≡◌, false, true};
 
 use super::waits::api;
 use super::{Torn, halves, is_text, owned, with_metadata};
@@ -9,7 +9,7 @@ use kube_final::delete;
 use kube_final::delete::DeleteAndFinalize;
 use kube_final::finalizer::{Error, Event, Finalizer};
 use kube_meta::{Action, ApiResource, DynamicObject, Moment, Next, ObjectRef, Polled};
-use kube_server::{Server, ServerObjects};
+use kube_server::{Conn, Server, ServerObjects};
 use std::alloc::Global;
 use std::panic::Expect;
 use std::process::Abort;
@@ -231,4 +231,37 @@ fn deletions_over_a_server(rt: HostRuntime) {
     for line in DELETIONS.split('\n') {
         holds(&rt, rt.alloc(), line);
     }
+}
+
+/// Polls a deletion that watches a connection to the server. Whether the object is not known to be gone yet.
+fn waits(
+    rt: &impl Abort,
+    alloc: Global,
+    deletion: &mut DeleteAndFinalize<Conn>,
+    server: &mut Server,
+) -> bool
+    requires unready { deletion.old.is_over ≡ false }
+    ensures unready { result ≡ true → deletion.new.is_over ≡ false }
+{
+    let mut objects = server.objects_in(alloc, None).expect(rt, "memory");
+    let answer = deletion
+        .poll(&mut objects, alloc, Moment(5), 9)
+        .expect(rt, "memory");
+    matches!(answer, Next::NotReady)
+}
+
+/// The wait ends once the connection has heard that the object went.
+#[test]
+fn waits_over_a_fed_connection(rt: HostRuntime) {
+    let alloc = rt.alloc();
+    let mut server = Server::new(alloc, resource(&rt, alloc));
+    put(&rt, alloc, &mut server, r#"{"name":"x","finalizers":["a"]}"#);
+    let conn = Conn::new(alloc, &server).expect(&rt, "memory");
+    let mut deletion = DeleteAndFinalize::new(alloc, conn, "x").expect(&rt, "memory");
+    assert!(rt; waits(&rt, alloc, &mut deletion, &mut server));
+    remove(&rt, alloc, &mut server);
+    assert!(rt; waits(&rt, alloc, &mut deletion, &mut server));
+    let conn = deletion.api_mut();
+    conn.feed(alloc, &server).expect(&rt, "memory");
+    assert!(rt; !waits(&rt, alloc, &mut deletion, &mut server));
 }
