@@ -93,8 +93,8 @@ fn deletion_by<V: Resource>(
 ///
 /// Errors: `NoMemory`.
 fn ask<O: ObjectApi>(
-    objects: &mut O,
     alloc: Global,
+    objects: &mut O,
     name: &Text,
     now: Moment,
 ) -> Result<Deletion, NoMemory>
@@ -173,8 +173,8 @@ impl<A: ApiMode> DeleteAndFinalize<A> {
     /// uid or an empty one, `Await` where the wait failed.
     pub fn poll<O: ObjectApi>(
         &mut self,
-        objects: &mut O,
         alloc: Global,
+        objects: &mut O,
         now: Moment,
         fuel: u32,
     ) -> Result<Next<Result<(), Error>>, NoMemory>
@@ -201,7 +201,7 @@ impl<A: ApiMode> DeleteAndFinalize<A> {
         if let Some(uid) = self.uid.take() {
             return self.wait(alloc, uid, now, fuel);
         }
-        match ask(objects, alloc, &self.name, now)? {
+        match ask(alloc, objects, &self.name, now)? {
             Deletion::Told(uid) => self.wait(alloc, uid, now, fuel),
             Deletion::Later => {
                 self.spent = false;

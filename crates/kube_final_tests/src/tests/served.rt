@@ -175,7 +175,7 @@ fn deleted(
     requires unready { deletion.old.is_over ≡ false }
 {
     let answer = deletion
-        .poll(objects, alloc, Moment(5), 9)
+        .poll(alloc, objects, Moment(5), 9)
         .expect(rt, "memory");
     ended(rt, alloc, &answer)
 }
@@ -245,7 +245,7 @@ fn waits(
 {
     let mut objects = server.objects_in(alloc, None).expect(rt, "memory");
     let answer = deletion
-        .poll(&mut objects, alloc, Moment(5), 9)
+        .poll(alloc, &mut objects, Moment(5), 9)
         .expect(rt, "memory");
     matches!(answer, Next::NotReady)
 }
