@@ -10,7 +10,7 @@ ghost use Rattle.kube_final.specs.declared.life.LifeStep.TheVariants.{Arrive};
 
 use crate::life::Past;
 pub use crate::life::{LifeState, LifeStep};
-pub use crate::play::Played;
+pub use crate::play::PlayedLife;
 use crate::play::played;
 use kube_meta::NoMemory;
 use std::alloc::Global;
@@ -49,7 +49,7 @@ pub fn guarded(life: &[LifeStep], name: &str)
 /// where another party changes it or a patch arrives, and `Server::request_delete`.
 ///
 /// Errors: `NoMemory`.
-pub fn play(alloc: Global, life: &[LifeStep], name: &str) -> Result<Played, NoMemory>
+pub fn play(alloc: Global, life: &[LifeStep], name: &str) -> Result<PlayedLife, NoMemory>
     requires valid { is_life name.now life.now ≡ true }
     ensures state { IfOk result (λ p. p.state ≡ (past_of name.now life.now).current) }
     ensures server { IfOk result (λ p. (r : Reference) × IsPlayedOn name.now life.now r p.server) }

@@ -27,7 +27,7 @@ use std::sync::Arc;
 
 /// A life that was played.
 #[derive(Drop)]
-pub struct Played {
+pub struct PlayedLife {
     /// How the object stands at its end.
     pub state: LifeState,
     pub server: Server,
@@ -342,7 +342,7 @@ impl Stage {
 /// Plays a life on a server.
 ///
 /// Errors: `NoMemory`.
-pub(crate) fn played(alloc: Global, life: &[LifeStep], name: &str) -> Result<Played, NoMemory>
+pub(crate) fn played(alloc: Global, life: &[LifeStep], name: &str) -> Result<PlayedLife, NoMemory>
     requires { is_life name.now life.now ≡ true }
     ensures state { IfOk result (λ p. p.state ≡ (past_of name.now life.now).current) }
     ensures server { IfOk result (λ p. (r : Reference) × IsPlayedOn name.now life.now r p.server) }
@@ -353,5 +353,5 @@ pub(crate) fn played(alloc: Global, life: &[LifeStep], name: &str) -> Result<Pla
     }
     let state = stage.state(alloc)?;
     let server = stage.server;
-    Ok(Played { state, server })
+    Ok(PlayedLife { state, server })
 }

@@ -1,7 +1,7 @@
 //! Lives: which lists of steps are one, and what they come to on a server.
 
 use super::{halves, is_text, owned, text};
-use kube_final::laws::{LifeState, LifeStep, Played, guarded, play, valid};
+use kube_final::laws::{LifeState, LifeStep, PlayedLife, guarded, play, valid};
 use kube_meta::{List, Text};
 use std::alloc::Global;
 use std::panic::Expect;
@@ -79,7 +79,7 @@ fn shown(rt: &impl Abort, alloc: Global, state: &LifeState) -> String {
 }
 
 /// The same of a life that was played, which ends with it.
-fn played_text(rt: &impl Abort, alloc: Global, played: Played) -> String {
+fn played_text(rt: &impl Abort, alloc: Global, played: PlayedLife) -> String {
     shown(rt, alloc, &played.state)
 }
 
