@@ -9,3 +9,4 @@ pub mod Patching
 pub mod Staging
 pub mod Sights
 pub mod Asking
+pub mod LogLaws

@@ -1,12 +1,19 @@
 //! Laws over every life of an object: nothing that a controller guards by a finalizer goes before its cleanup.
 
-ghost use Rattle.std.specs.Prelude.{◌≡◌, ◌≤◌, ◌<◌, ◌^◌, ◌++◌, ◌∷◌, [], ℕ, List, length, take, true, IfOk};
+ghost use Rattle.std.specs.Prelude.{◌≡◌, ◌≤◌, ◌<◌, ◌^◌, ◌++◌, ◌∷◌, [], ℕ, List, Option, length, take, true, IfOk};
 ghost use Rattle.std.specs.List.{list_any};
 ghost use Rattle.kube_meta.specs.Reference.{Reference};
 ghost use Rattle.kube_final.specs.Played.{IsPlayedOn};
 ghost use Rattle.kube_final.specs.Lives.{ends_cleanup, is_life, others_in, past_of, starts_apply};
 ghost use Rattle.kube_final.specs.declared.life.LifeStep.{LifeStep as Step};
 ghost use Rattle.kube_final.specs.declared.life.LifeStep.TheVariants.{Arrive};
+ghost use Rattle.kube_meta.specs.declared.dynamic.DynamicObject.{DynamicObject};
+ghost use Rattle.kube_model.specs.History.{Exchange};
+ghost use Rattle.kube_model.specs.Raw.{Raw};
+ghost use Rattle.kube_model.specs.World.{Settings};
+ghost use Rattle.kube_watch.specs.Polls.{AreCalls};
+ghost use Rattle.kube_server.specs.Connections.{Connection, IsMove};
+ghost use Rattle.kube_server.specs.Servers.{meta_of};
 
 use crate::life::Past;
 pub use crate::life::{LifeState, LifeStep};
@@ -56,3 +63,12 @@ pub fn play(alloc: Global, life: &[LifeStep], name: &str) -> Result<PlayedLife, 
 {
     played(alloc, life, name)
 }
+
+/// Calls of a watch over a connection leave its log, and up to which revision that counts as gone, as they are: so it may be
+/// fed between the polls of a wait, of which the exchanges are such calls.
+pub fn calls_leave_the_log()
+    ensures { (talk : Connection DynamicObject → Option (List (Raw DynamicObject))) (faults : Connection DynamicObject → ℕ) (version : DynamicObject → Option (List ℕ))
+        (settings : Settings) (now : ℕ) (old new : Connection DynamicObject) (xs : List (Exchange DynamicObject))
+        → AreCalls (record { moves = IsMove meta_of; talk = talk; faults = faults; version = version }) settings now old xs new
+        → (new.changes ≡ old.changes) × (new.compacted ≡ old.compacted) }
+{}
