@@ -14,7 +14,7 @@ use Rattle.kube_final.specs.declared.delete.Deletion.{Deletion}
 use Rattle.kube_final.specs.declared.delete.Deletion.TheVariants.{Later, Told, Failed}
 use Rattle.kube_final.specs.declared.wait.Error.TheVariants.{ProbeFailed}
 use Rattle.kube_final.specs.Conditions.{is_deleted}
-use Rattle.kube_final.specs.FinalizerPolls.{Objects}
+use Rattle.kube_final.specs.FinalizerPolls.{IsLeftUnasked, Objects}
 use Rattle.kube_final.specs.Waiting.{Deleting}
 use Rattle.kube_final.specs.Waits.{Awaited, LostWait}
 
@@ -43,10 +43,10 @@ pub record IsAsked {O V : Type 0} (objects : Objects O V) (meta_of : V → Objec
   pub kept : IsKept answer (objects.held old) (objects.held new)
   pub rose : FaultRose (is_object_fault answer) (objects.faults old) (objects.faults new)
 
--- memory could not be had: nothing was asked, and what the API holds is as before; or the deletion of the object of this name was asked, once
+-- memory could not be had: nothing was asked, and the API is as before, or as want of memory leaves it, with what it tells and holds; or the deletion of the object of this name was asked, once
 abbrev pub IsAskedAtMostOnce : {O V : Type 0} → Objects O V → (V → ObjectMeta) → List ℕ → ℕ → O → O → Type 0
 IsAskedAtMostOnce objects meta_of name now old new =
-    ((objects.talk new ≡ objects.talk old) × (objects.held new ≡ objects.held old)) ⊎ ((deletion : Deletion) × IsAsked objects meta_of name now old deletion new)
+    ((objects.talk new ≡ objects.talk old) × (objects.held new ≡ objects.held old) × IsLeftUnasked objects old new) ⊎ ((deletion : Deletion) × IsAsked objects meta_of name now old deletion new)
 
 -- the answer of a poll by that of the wait
 abbrev pub ended : {W : Type 0} → Next (Found W) → Next (Result (Unit {0}) Error)

@@ -4,7 +4,7 @@ ghost use Rattle.std.specs.Prelude.{◌≡◌, ◌≤◌, true, false, [], optio
 ghost use Rattle.std.specs.Arc.{arc_value};
 ghost use Rattle.kube_api.specs.ObjectTalk.{patch_answer};
 ghost use Rattle.kube_final.specs.Finalizers.{decided as decided_by, decision_on, finalizers_in, branch_on, branch_of, patch_on, place_of};
-ghost use Rattle.kube_final.specs.FinalizerPolls.{IsPolled, IsSent, answer_by, course, course_of, is_ready, outcome_after};
+ghost use Rattle.kube_final.specs.FinalizerPolls.{IsLeftUnasked, IsPolled, IsSent, answer_by, course, course_of, is_ready, objects_in, outcome_after};
 ghost use Rattle.kube_final.specs.Guarding.{guarding};
 
 use crate::patches::patch_for;
@@ -195,11 +195,12 @@ fn send<A: ObjectApi, E: Drop>(
     action: Action,
     now: Moment,
 ) -> Result<Polled<Result<Action, Error<E>>>, NoMemory>
-    ensures sent { IfOk result (λ a. IsSent (record { moves = A.moves; held = A.held; talk = A.talk; faults = A.faults })
+    ensures sent { IfOk result (λ a. IsSent (objects_in A.ObjectApi)
         (unwrap_or meta.now.name []) (patch_on name.now (finalizers_in meta.now) decision) decision action now.0 api.old a api.new) }
     ensures rises { A.faults api.old ≤ A.faults api.new }
     ensures silent { OnErr result (A.talk api.new ≡ A.talk api.old) }
     ensures kept { OnErr result (A.held api.new ≡ A.held api.old) }
+    ensures rests { OnErr result (IsLeftUnasked (objects_in A.ObjectApi) api.old api.new) }
 {
     let patch = patch_for(alloc, decision, name, finalizers(meta))?;
     let object = match &meta.name {
@@ -296,7 +297,7 @@ impl<K: Resource> Finalizer<K> {
         now: Moment,
     ) -> Result<Polled<Result<Action, Error<E>>>, NoMemory>
         requires unready { self.old.is_over ≡ false }
-        ensures polled { IfOk result (λ a. IsPolled (record { moves = A.moves; held = A.held; talk = A.talk; faults = A.faults })
+        ensures polled { IfOk result (λ a. IsPolled (objects_in A.ObjectApi)
             self.old.name (K.meta_of self.old.object) self.old.outcome branch now.0 api.old a api.new) }
         ensures after { IfOk result (λ a. self.new ≡ record self.old {
           outcome = outcome_after (decision_on self.old.name (K.meta_of self.old.object)) self.old.outcome branch;
@@ -306,6 +307,7 @@ impl<K: Resource> Finalizer<K> {
         ensures err { OnErr result (self.new ≡ record self.old { is_spent = true }) }
         ensures silent { OnErr result (A.talk api.new ≡ A.talk api.old) }
         ensures kept { OnErr result (A.held api.new ≡ A.held api.old) }
+        ensures rests { OnErr result (IsLeftUnasked (objects_in A.ObjectApi) api.old api.new) }
         ensures spent { self.old.is_spent ≡ true → IsErr result × (api.new ≡ api.old) }
         ensures unspent { OnOk result (self.old.is_spent ≡ false) }
     {

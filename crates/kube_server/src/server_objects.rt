@@ -232,6 +232,8 @@ impl<'a> ObjectApi for ServerObjects<'a> {
     ghost moves = { λ old now raw new. IsObjectMove old.server.now old.namespace now raw new.server.now
         × (new.namespace ≡ old.namespace) × (new.server.ghost_name ≡ old.server.ghost_name) };
 
+    ghost rests = { λ old new. (new.server.now ≡ old.server.now) × (new.namespace ≡ old.namespace) × (new.server.ghost_name ≡ old.server.ghost_name) };
+
     fn patch(
         &mut self,
         alloc: Global,
@@ -253,6 +255,8 @@ impl<'a> ObjectApi for ServerObjects<'a> {
             ≡ grown (Some (map object_raw self.old.told.items)) (record { call = PatchAsked name.now (map operation_of patch.now); answer = patch_answer a })) }
         ensures unchanged { OnErr result (Some (map object_raw self.new.told.items) ≡ Some (map object_raw self.old.told.items)) }
         ensures kept { OnErr result (Some (held_document self.new.server.now self.new.namespace) ≡ Some (held_document self.old.server.now self.old.namespace)) }
+        ensures rests { OnErr result ((self.new.server.now ≡ self.old.server.now) × (self.new.namespace ≡ self.old.namespace)
+            × (self.new.server.ghost_name ≡ self.old.server.ghost_name)) }
         ensures moves { IfOk result (λ a. IsObjectMove self.old.server.now self.old.namespace _now.0 (record { call = PatchAsked name.now (map operation_of patch.now); answer = patch_answer a }) self.new.server.now
             × (self.new.namespace ≡ self.old.namespace) × (self.new.server.ghost_name ≡ self.old.server.ghost_name)) }
         ensures refused { IfOk result (λ a. RefusedAs (Some (held_document self.old.server.now self.old.namespace)) name.now (map operation_of patch.now) (patch_answer a)) }
@@ -290,6 +294,8 @@ impl<'a> ObjectApi for ServerObjects<'a> {
             ≡ grown (Some (map object_raw self.old.told.items)) (record { call = DeleteAsked name.now; answer = delete_answer a })) }
         ensures unchanged { OnErr result (Some (map object_raw self.new.told.items) ≡ Some (map object_raw self.old.told.items)) }
         ensures kept { OnErr result (Some (held_document self.new.server.now self.new.namespace) ≡ Some (held_document self.old.server.now self.old.namespace)) }
+        ensures rests { OnErr result ((self.new.server.now ≡ self.old.server.now) × (self.new.namespace ≡ self.old.namespace)
+            × (self.new.server.ghost_name ≡ self.old.server.ghost_name)) }
         ensures moves { IfOk result (λ a. IsObjectMove self.old.server.now self.old.namespace now.0 (record { call = DeleteAsked name.now; answer = delete_answer a }) self.new.server.now
             × (self.new.namespace ≡ self.old.namespace) × (self.new.server.ghost_name ≡ self.old.server.ghost_name)) }
         ensures missing { IfOk result (λ a. MissingAs (Some (held_document self.old.server.now self.old.namespace)) name.now (delete_answer a)) }

@@ -3,8 +3,7 @@
 ghost use Rattle.std.specs.Prelude.{◌≡◌, ◌++◌, List, [], true, Some, None, IfOk, IfSome, OnErr, IsErr, codes};
 ghost use Rattle.std.specs.Option.{option_map};
 ghost use Rattle.kube_model.specs.World.{default_settings};
-ghost use Rattle.kube_watch.specs.Calls.{version_of};
-ghost use Rattle.kube_watch.specs.Polls.{LostAfter};
+ghost use Rattle.kube_watch.specs.Polls.{LostAfter, api_in};
 ghost use Rattle.kube_watch.specs.Objects.{GiveNothing, IsOpened, LostObject, PolledObject, TakesAnswer, answer_to, found_of, held_after, is_held, next_found};
 ghost use Rattle.kube_watch.specs.Stands.{is_spent, settings_in};
 ghost use Rattle.kube_watch.specs.Watching.{told_of};
@@ -106,9 +105,9 @@ impl<A: ApiMode> WatchObject<A> {
         now: Moment,
         fuel: u32,
     ) -> Result<Next<Result<Option<Arc<A::Value>>, Error>>, NoMemory>
-        ensures asked { self.old.watcher.waiting ≡ [] → IfOk result (λ a. PolledObject (record { moves = A.moves; talk = A.talk; faults = A.faults; version = version_of A.Value.meta_of }) now.0 fuel self.old (next_found a) self.new) }
+        ensures asked { self.old.watcher.waiting ≡ [] → IfOk result (λ a. PolledObject (api_in A.ApiMode A.Value.meta_of) now.0 fuel self.old (next_found a) self.new) }
         ensures err { OnErr result (is_spent self.new.watcher ≡ true) }
-        ensures lost { self.old.watcher.waiting ≡ [] → OnErr result (LostAfter (record { moves = A.moves; talk = A.talk; faults = A.faults; version = version_of A.Value.meta_of }) now.0 fuel (GiveNothing (settings_in self.old.watcher) (is_held self.old)) self.old.watcher self.new.watcher) }
+        ensures lost { self.old.watcher.waiting ≡ [] → OnErr result (LostAfter (api_in A.ApiMode A.Value.meta_of) now.0 fuel (GiveNothing (settings_in self.old.watcher) (is_held self.old)) self.old.watcher self.new.watcher) }
     {
         for _asked in 0..fuel {
             let ready = self.watcher.fill(alloc, now)?;
@@ -134,9 +133,9 @@ impl<A: ApiMode> WatchObject<A> {
         now: Moment,
         fuel: u32,
     ) -> Result<Next<Result<Option<Arc<A::Value>>, Error>>, NoMemory>
-        ensures polled { IfOk result (λ a. PolledObject (record { moves = A.moves; talk = A.talk; faults = A.faults; version = version_of A.Value.meta_of }) now.0 fuel self.old (next_found a) self.new) }
+        ensures polled { IfOk result (λ a. PolledObject (api_in A.ApiMode A.Value.meta_of) now.0 fuel self.old (next_found a) self.new) }
         ensures err { OnErr result (is_spent self.new.watcher ≡ true) }
-        ensures lost { OnErr result (LostObject (record { moves = A.moves; talk = A.talk; faults = A.faults; version = version_of A.Value.meta_of }) now.0 fuel self.old self.new) }
+        ensures lost { OnErr result (LostObject (api_in A.ApiMode A.Value.meta_of) now.0 fuel self.old self.new) }
         ensures spent { is_spent self.old.watcher ≡ true → IsErr result × (self.new ≡ self.old) }
     {
         if self.watcher.is_spent() {
