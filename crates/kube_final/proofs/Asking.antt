@@ -1,18 +1,31 @@
 -- What a life asks of a server, step by step.
-use Rattle.std.proofs.Common.{◌≡◌, ℕ, suc, ◌≤◌, List, [], ◌∷◌, ◌++◌, slice_get, length, Option, Some, None, true, refl, sym, subst}
+use Rattle.std.proofs.Common.{◌≡◌, ℕ, suc, ◌≤◌, List, [], ◌∷◌, ◌++◌, slice_get, length, Option, Some, None, true, refl, sym, ap, subst}
 use Rattle.std.proofs.lemmas.List.{take_all}
 use Rattle.std.specs.Prelude.{drop, fold, take}
-use Rattle.kube_meta.specs.Reference.{Reference}
+use Rattle.kube_meta.specs.declared.dynamic.DynamicObject.{DynamicObject}
+use Rattle.kube_meta.specs.Reading.{seen_object}
+use Rattle.kube_meta.specs.Reference.{ObjectType, Reference}
 use Rattle.kube_api.specs.Patches.{Operation}
-use Rattle.kube_server.specs.Servers.{ServerState}
+use Rattle.kube_server.specs.History.{key_of}
+use Rattle.kube_server.specs.Servers.{ServerState, IsStep, put_change}
 use Rattle.kube_final.specs.declared.life.LifeStep.{LifeStep}
 use Rattle.kube_final.specs.declared.life.LifeStep.TheVariants.{Arrive}
 use Rattle.kube_final.specs.declared.play.Stage.{Stage}
 use Rattle.kube_final.specs.Finalizers.{patch_on}
 use Rattle.kube_final.specs.Lives.{Decided, Past, after, beginning, is_life_from, may_follow, past_of}
-use Rattle.kube_final.specs.Playing.{IsAnswered, IsKept, IsPatchOf, IsStage, stage_reference}
-use Rattle.kube_final.specs.Played.{AreAsked, IsArrivalAsked, IsPlayedOn, IsStepAsked}
+use Rattle.kube_final.specs.Playing.{IsAnswered, IsKept, IsPatchOf, IsStage, new_object, object_key, stage_reference}
+use Rattle.kube_final.specs.Played.{AreAsked, IsArrivalAsked, IsOpened, IsPlayedOn, IsStepAsked, no_objects}
 use Rattle.kube_final.proofs.Sights.{IsPlayed, both, played-next, taken-more}
+
+-- ---- the object is put
+
+pub put-opened : (kind : ObjectType) (old new : ServerState) (x : DynamicObject) → old ≡ no_objects kind → seen_object x ≡ new_object
+    → IsStep old new (put_change old (key_of x.metadata) (seen_object x)) → IsOpened kind new
+put-opened kind old new x e seen step =
+    let key : key_of x.metadata ≡ object_key = ap (λ o. key_of o.metadata) seen in
+    subst (λ s. IsStep s new (put_change s object_key new_object)) e
+    (subst (λ k. IsStep old new (put_change old k new_object)) key
+    (subst (λ o. IsStep old new (put_change old (key_of x.metadata) o)) seen step))
 
 -- ---- a patch that arrives
 

@@ -10,3 +10,4 @@ pub mod Staging
 pub mod Sights
 pub mod Asking
 pub mod LogLaws
+pub mod Lent
