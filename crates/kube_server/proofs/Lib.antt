@@ -23,3 +23,5 @@ pub mod TalkLemmas
 pub mod LastLemmas
 pub mod KeyLemmas
 pub mod RowLemmas
+pub mod NewestLemmas
+pub mod StateLemmas
