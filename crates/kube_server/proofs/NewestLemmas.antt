@@ -2,6 +2,7 @@
 use Rattle.std.proofs.Common.{◌≡◌, ℕ, ◌+◌, ◌≤◌, ◌<◌, ◌^◌, ◌⊎◌, inl, inr, List, [], ◌∷◌, ◌++◌, map, drop, fold, length, filter, Option, Some, None, refl, sym, ap, subst, ◌∙◌, arith, length-drop}
 use Rattle.std.specs.Prelude.{codes}
 use Rattle.std.proofs.Math.Seq.{take-length}
+use Rattle.std.proofs.lemmas.List.{drop_all}
 use Rattle.std.proofs.lemmas.List.Sorted.{IsPermutation-refl}
 use Rattle.kube_meta.specs.Pairs.{text_at}
 use Rattle.kube_meta.specs.declared.metadata.ObjectMeta.{ObjectMeta}
@@ -9,7 +10,7 @@ use Rattle.kube_model.specs.Raw.{Raw, RawAnswer, GivesAdded, GivesError, Waits, 
 use Rattle.kube_server.specs.History.{Change, Adds, Modifies, Removes}
 use Rattle.kube_server.specs.Numbers.{NameSought, name_sought}
 use Rattle.kube_server.specs.Honest.{Selection, WatchTold, watch_told, selected_between, ending_mark}
-use Rattle.kube_server.specs.Connections.{OpenWatch, Connection, Act, acted, fresh, event_of, first_named, poll_watch, poll_current, polled, selected_by, expired, ending_bookmark}
+use Rattle.kube_server.specs.Connections.{OpenWatch, Connection, Act, acted, fresh, event_of, first_named, poll_watch, poll_current, left_current, polled, after_next, selected_by, expired, ending_bookmark}
 use Rattle.kube_server.specs.Readers.{HasToldAllBy, IsToldAll}
 use Rattle.kube_server.specs.Standing.{IsToldUpTo, IsExpired, IsFollowing, IsTelling, IsBeyond, WatchStands, Stands}
 use Rattle.kube_server.proofs.PollLemmas.{IsQuiet, IsFound, is_named_change, first_named-is, selected_between-join}
@@ -81,6 +82,32 @@ module _ {V : Type 0} (meta : V → ObjectMeta) (h : List (Change V)) where
         none,
       )
 
+  -- ---- asked again
+
+  again-quiet : (name : NameSought) (r : ℕ) → r ≤ length h → IsQuiet meta name r (drop r h) (first_named meta name r (drop r h)) ⊎ IsFound meta name r (drop r h) (first_named meta name r (drop r h))
+      → (first_named meta name r (drop r h)).answer ≡ Waits → (poll_watch meta h (first_named meta name r (drop r h)).left).answer ≡ Waits
+  again-quiet name r within (inl q) waits = rw q.poll (rw (drop_all (r + length (drop r h)) h (omega (arith, length-drop r h, within))) refl)
+  again-quiet name r within (inr f) waits = absurd (event-waits f.change (ap (λ p. p.answer) (sym f.poll) ∙ waits))
+
+  again-by : (t : WatchTold V) (w : OpenWatch V) → IsExpired meta h t w ⊎ (IsFollowing meta h t w ⊎ (IsTelling meta h t w ⊎ IsBeyond meta h t w)) → (poll_watch meta h w).answer ≡ Waits
+      → (poll_watch meta h (poll_watch meta h w).left).answer ≡ Waits
+  again-by t w (inl x) waits = absurd (expired-waits w x.ends x.error waits)
+  again-by t w (inr (inl x)) waits =
+      let looked : (first_named meta w.name x.reached (drop x.reached h)).answer ≡ Waits = rw (x.nothing, x.stands) at waits in
+      rw (x.nothing, x.stands) (again-quiet w.name x.reached x.told.within (first_named-is meta w.name (drop x.reached h) x.reached) looked)
+  again-by t w (inr (inr (inl x))) waits = absurd (telling-waits w x.rest x.revision x.pending waits)
+  again-by t w (inr (inr (inr x))) waits =
+      let looked : (first_named meta w.name x.reached (drop x.reached h)).answer ≡ Waits = rw (x.nothing, x.stands) at waits in
+      rw (x.nothing, x.stands) (again-quiet w.name x.reached x.told.within (first_named-is meta w.name (drop x.reached h) x.reached) looked)
+
+  again-current : (t : Option (WatchTold V)) (w : Option (OpenWatch V)) → WatchStands meta h t w → poll_current meta h w ≡ Waits → poll_current meta h (left_current meta h w) ≡ Waits
+  again-current None None x waits = absurd (cc)
+  again-current None (Some w) x waits = absurd x
+  again-current (Some t) None x waits = absurd x
+  again-current (Some t) (Some w) x waits = again-by t w x.is waits
+
+  -- ---- so the watch has told all
+
   told-by : (talk : List (Raw V)) (t : Option (WatchTold V)) (w : Option (OpenWatch V)) → watch_told talk ≡ t → WatchStands meta h t w → poll_current meta h w ≡ Waits → IsToldAll meta (selected_by meta) h talk
   told-by talk None None is x waits = absurd (cc)
   told-by talk None (Some w) is x waits = absurd x
@@ -97,3 +124,10 @@ pub waiting : {V : Type 0} (meta : V → ObjectMeta) (changes : List (Change V))
     → IsToldAll meta (selected_by meta) (fold (acted meta) (fresh changes compacted) acts).changes (fold (acted meta) (fresh changes compacted) acts).talk
 waiting meta changes compacted acts small waits =
     told-all meta (fold (acted meta) (fresh changes compacted) acts) (all_stand meta acts (fresh changes compacted) small (Stands-fresh meta changes compacted)) waits
+
+pub waiting-again : {V : Type 0} (meta : V → ObjectMeta) (changes : List (Change V)) (compacted : ℕ) (acts : List (Act V)) → length (fold (acted meta) (fresh changes compacted) acts).changes < 2 ^ 64
+    → polled meta (fold (acted meta) (fresh changes compacted) acts) ≡ Waits → polled meta (after_next meta (fold (acted meta) (fresh changes compacted) acts)) ≡ Waits
+waiting-again meta changes compacted acts small waits =
+    let c = fold (acted meta) (fresh changes compacted) acts in
+    let s : Stands meta c = all_stand meta acts (fresh changes compacted) small (Stands-fresh meta changes compacted) in
+    again-current meta c.changes (watch_told c.talk) c.watch s.watch waits

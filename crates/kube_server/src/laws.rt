@@ -14,7 +14,7 @@ ghost use Rattle.kube_server.specs.History.{Change, Key, key_cmp, same_key, chan
 ghost use Rattle.kube_server.specs.Servers.{ServerState, data_meta, held_under, IsStep};
 ghost use Rattle.kube_server.specs.ObjectCalls.{IsObjectMove};
 ghost use Rattle.kube_server.specs.Honest.{Selection, ListTold, list_told, WatchTold, watch_told, selected_between, Follow, FollowsVersion, IsWholeList, IsHonest};
-ghost use Rattle.kube_server.specs.Connections.{Act, acted, fresh, polled, selected_by};
+ghost use Rattle.kube_server.specs.Connections.{Act, acted, after_next, fresh, polled, selected_by};
 ghost use Rattle.kube_server.specs.Readers.{IsTold, GoesOnFrom, IsByKey, BringsTo, TellBetween, TellsAfter, TellsSome, TellsAll, IsToldAll, AreState, objects_told, selected_state};
 
 /// Whatever is asked of a connection, and whenever its log grows, what it told is honest to the log that it holds.
@@ -26,11 +26,14 @@ pub fn talks_are_honest()
 {}
 
 /// Where the open watch of a connection has nothing to give, it has told all: after what it told last, no selected change
-/// stands in the log up to its newest revision.
+/// stands in the log up to its newest revision. Asked again it has nothing to give either.
 pub fn watches_that_wait_have_told_all()
-    ensures { (meta : DynamicObject → ObjectMeta) (changes : List (Change DynamicObject)) (compacted : ℕ) (acts : List (Act DynamicObject))
+    ensures all { (meta : DynamicObject → ObjectMeta) (changes : List (Change DynamicObject)) (compacted : ℕ) (acts : List (Act DynamicObject))
         → length (fold (acted meta) (fresh changes compacted) acts).changes < 2 ^ 64 → polled meta (fold (acted meta) (fresh changes compacted) acts) ≡ Waits
         → IsToldAll meta (selected_by meta) (fold (acted meta) (fresh changes compacted) acts).changes (fold (acted meta) (fresh changes compacted) acts).talk }
+    ensures again { (meta : DynamicObject → ObjectMeta) (changes : List (Change DynamicObject)) (compacted : ℕ) (acts : List (Act DynamicObject))
+        → length (fold (acted meta) (fresh changes compacted) acts).changes < 2 ^ 64 → polled meta (fold (acted meta) (fresh changes compacted) acts) ≡ Waits
+        → polled meta (after_next meta (fold (acted meta) (fresh changes compacted) acts)) ≡ Waits }
 {}
 
 /// After a put the object is found under its key, after a removal none is, and under every other key what was found before.
