@@ -16,6 +16,7 @@ use Rattle.kube_server.specs.History.{Change, Adds, Modifies, Removes, object_of
 use Rattle.kube_server.specs.Servers.{ServerState, held, next_revision, deletion, patch_change, IsStep, IsAtMostStep}
 use Rattle.kube_server.specs.declared.object_told.ObjectTold.{ObjectTold}
 use Rattle.kube_server.specs.declared.object_told.ObjectTold.TheVariants.{Patch as PatchTold, Delete as DeleteTold}
+use Rattle.kube_server.specs.declared.server_objects.ServerObjects.{ServerObjects}
 
 -- the reference of a name in a namespace
 abbrev pub reference_in : ServerState → Option (List ℕ) → List ℕ → Reference
@@ -104,3 +105,7 @@ pub record IsObjectMove (old : ServerState) (namespace : Option (List ℕ)) (now
 abbrev pub object_raw : ObjectTold → ObjectRaw DynamicObject
 object_raw (PatchTold name patch answer) = record { call = PatchAsked name (map operation_of patch.items); answer = patch_answer (Ready answer) }
 object_raw (DeleteTold name answer) = record { call = DeleteAsked name; answer = delete_answer (Ready answer) }
+
+-- the calls so far with their answers
+abbrev pub objects_talk : ServerObjects → List (ObjectRaw DynamicObject)
+objects_talk objects = map object_raw objects.told.items

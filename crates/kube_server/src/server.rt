@@ -311,7 +311,8 @@ impl Server {
 
     /// The type of its objects.
     pub fn resource(&self) -> &Arc<ApiResource>
-        ensures { resource_type (arc_value result.now) ≡ self.now.kind }
+        ensures kind { resource_type (arc_value result.now) ≡ self.now.kind }
+        ensures history { IsHistory meta_of self.now.changes }
     {
         &self.resource
     }

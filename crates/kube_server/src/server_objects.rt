@@ -8,10 +8,10 @@ ghost use Rattle.kube_meta.specs.Reading.{seen_object};
 ghost use Rattle.kube_model.specs.Raw.{grown, FaultRose};
 ghost use Rattle.kube_api.specs.Patches.{operation_of};
 ghost use Rattle.kube_api.specs.ObjectTalk.{PatchAsked, DeleteAsked, patch_answer, delete_answer, is_object_fault, RefusedAs, MissingAs, IsKept, IsNotMemory};
-ghost use Rattle.kube_server.specs.Servers.{held, next_revision, deletion, IsAtMostStep};
+ghost use Rattle.kube_server.specs.History.{IsHistory, IsLater};
+ghost use Rattle.kube_server.specs.Servers.{held, meta_of, next_revision, deletion, IsAtMostStep};
 ghost use Rattle.kube_server.specs.Stored.{change_of};
-ghost use Rattle.kube_server.specs.Servers.{meta_of};
-ghost use Rattle.kube_server.specs.ObjectCalls.{reference_in, held_document, answer_seen, answer_of_patch, IsLeftByPatch, IsKeptServer, gone_status, change_answer, deleted_answer, answer_of_delete, IsLeftByDelete, IsObjectMove, object_raw};
+ghost use Rattle.kube_server.specs.ObjectCalls.{reference_in, held_document, answer_seen, answer_of_patch, IsLeftByPatch, IsKeptServer, gone_status, change_answer, deleted_answer, answer_of_delete, IsLeftByDelete, IsObjectMove, objects_talk};
 
 use crate::entry::Entry;
 use crate::object_told::ObjectTold;
@@ -73,7 +73,7 @@ impl<'a> ServerObjects<'a> {
         ensures same_reference { result.server.ghost_name ≡ server.entry.ghost_name }
         ensures server { result.server.now ≡ server.old }
         ensures namespace { result.namespace ≡ namespace }
-        ensures told { map object_raw result.told.items ≡ [] }
+        ensures told { objects_talk result ≡ [] }
     {
         ServerObjects {
             server,
@@ -101,7 +101,7 @@ impl Server {
         ensures same_reference { IfOk result (λ o. o.server.ghost_name ≡ self.entry.ghost_name) }
         ensures server { IfOk result (λ o. o.server.now ≡ self.old) }
         ensures namespace { IfOk result (λ o. o.namespace ≡ option_copied namespace.entry) }
-        ensures told { IfOk result (λ o. map object_raw o.told.items ≡ []) }
+        ensures told { IfOk result (λ o. objects_talk o ≡ []) }
     {
         let namespace = owned(alloc, namespace)?;
         Ok(ServerObjects::over(alloc, self, namespace))
@@ -115,7 +115,8 @@ fn reference(
     namespace: &Option<Text>,
     name: &str,
 ) -> Result<ObjectRef<DynamicObject>, NoMemory>
-    ensures { IfOk result (λ r. reference_of (λ t. resource_type t.value) r ≡ reference_in server.now namespace.now name.now) }
+    ensures names { IfOk result (λ r. reference_of (λ t. resource_type t.value) r ≡ reference_in server.now namespace.now name.now) }
+    ensures history { IsHistory meta_of server.now.changes }
 {
     Ok(ObjectRef {
         dyntype: server.resource().clone()?,
@@ -154,6 +155,8 @@ fn patch_server(
     ensures not_memory { IfOk result (λ p. IsNotMemory (patch_answer (Polled.Ready p.0))) }
     ensures stays { IfOk result (λ p. IsKeptServer (patch_answer (Polled.Ready p.0)) server.old server.new) }
     ensures err { OnErr result (server.new ≡ server.old) }
+    ensures history { IsHistory meta_of server.new.changes }
+    ensures later { IsLater server.old.changes server.new.changes server.old.compacted server.new.compacted }
 {
     match server.patch_of(alloc, key, patch) {
         Ok(entry) => {
@@ -183,6 +186,8 @@ fn delete_stored(
     ensures twice { IfOk result (λ p. delete_answer (Polled.Ready p.1) ≡ delete_answer (Polled.Ready p.0)) }
     ensures left { OnOk result (IsAtMostStep server.old server.new (deletion (next_revision server.old) now.0 (seen_object (arc_value stored)))) }
     ensures err { OnErr result (server.new ≡ server.old) }
+    ensures history { IsHistory meta_of server.new.changes }
+    ensures later { IsLater server.old.changes server.new.changes server.old.compacted server.new.compacted }
 {
     let Ok(entry) = server.deletion_of(alloc, key, now) else {
         return Err(NoMemory);
@@ -213,6 +218,8 @@ fn delete_in_server(
     ensures twice { IfOk result (λ p. delete_answer (Polled.Ready p.1) ≡ delete_answer (Polled.Ready p.0)) }
     ensures left { OnOk result (IsLeftByDelete server.old server.new now.0 (held server.old (reference_of (λ t. resource_type t.value) key.now))) }
     ensures err { OnErr result (server.new ≡ server.old) }
+    ensures history { IsHistory meta_of server.old.changes → IsHistory meta_of server.new.changes }
+    ensures later { IsLater server.old.changes server.new.changes server.old.compacted server.new.compacted }
 {
     match server.object(alloc, key)? {
         Some(stored) => delete_stored(alloc, server, key, stored, now),
@@ -225,7 +232,7 @@ impl<'a> ObjectApi for ServerObjects<'a> {
 
     ghost held = { λ s. Some (held_document s.server.now s.namespace) };
 
-    ghost talk = { λ s. Some (map object_raw s.told.items) };
+    ghost talk = { λ s. Some (objects_talk s) };
 
     ghost faults = { λ _. 0 };
 
@@ -249,11 +256,13 @@ impl<'a> ObjectApi for ServerObjects<'a> {
         ensures err { OnErr result (self.new.server.now ≡ self.old.server.now) }
         ensures namespace { self.new.namespace ≡ self.old.namespace }
         ensures same_reference { self.new.server.ghost_name ≡ self.old.server.ghost_name }
+        ensures history { IsHistory meta_of self.new.server.now.changes }
+        ensures later { IsLater self.old.server.now.changes self.new.server.now.changes self.old.server.now.compacted self.new.server.now.compacted }
 
         // those of the trait
-        ensures grows { IfOk result (λ a. Some (map object_raw self.new.told.items)
-            ≡ grown (Some (map object_raw self.old.told.items)) (record { call = PatchAsked name.now (map operation_of patch.now); answer = patch_answer a })) }
-        ensures unchanged { OnErr result (Some (map object_raw self.new.told.items) ≡ Some (map object_raw self.old.told.items)) }
+        ensures grows { IfOk result (λ a. Some (objects_talk self.new)
+            ≡ grown (Some (objects_talk self.old)) (record { call = PatchAsked name.now (map operation_of patch.now); answer = patch_answer a })) }
+        ensures unchanged { OnErr result (Some (objects_talk self.new) ≡ Some (objects_talk self.old)) }
         ensures kept { OnErr result (Some (held_document self.new.server.now self.new.namespace) ≡ Some (held_document self.old.server.now self.old.namespace)) }
         ensures rests { OnErr result ((self.new.server.now ≡ self.old.server.now) × (self.new.namespace ≡ self.old.namespace)
             × (self.new.server.ghost_name ≡ self.old.server.ghost_name)) }
@@ -288,11 +297,13 @@ impl<'a> ObjectApi for ServerObjects<'a> {
         ensures err { OnErr result (self.new.server.now ≡ self.old.server.now) }
         ensures namespace { self.new.namespace ≡ self.old.namespace }
         ensures same_reference { self.new.server.ghost_name ≡ self.old.server.ghost_name }
+        ensures history { IsHistory meta_of self.new.server.now.changes }
+        ensures later { IsLater self.old.server.now.changes self.new.server.now.changes self.old.server.now.compacted self.new.server.now.compacted }
 
         // those of the trait
-        ensures grows { IfOk result (λ a. Some (map object_raw self.new.told.items)
-            ≡ grown (Some (map object_raw self.old.told.items)) (record { call = DeleteAsked name.now; answer = delete_answer a })) }
-        ensures unchanged { OnErr result (Some (map object_raw self.new.told.items) ≡ Some (map object_raw self.old.told.items)) }
+        ensures grows { IfOk result (λ a. Some (objects_talk self.new)
+            ≡ grown (Some (objects_talk self.old)) (record { call = DeleteAsked name.now; answer = delete_answer a })) }
+        ensures unchanged { OnErr result (Some (objects_talk self.new) ≡ Some (objects_talk self.old)) }
         ensures kept { OnErr result (Some (held_document self.new.server.now self.new.namespace) ≡ Some (held_document self.old.server.now self.old.namespace)) }
         ensures rests { OnErr result ((self.new.server.now ≡ self.old.server.now) × (self.new.namespace ≡ self.old.namespace)
             × (self.new.server.ghost_name ≡ self.old.server.ghost_name)) }
