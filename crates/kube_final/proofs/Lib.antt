@@ -11,3 +11,5 @@ pub mod Sights
 pub mod Asking
 pub mod LogLaws
 pub mod Lent
+pub mod MemberChanges
+pub mod AnyObject

@@ -1,5 +1,6 @@
 pub mod Conditions
 pub mod Deletions
+pub mod FinalizerPatches
 pub mod FinalizerPolls
 pub mod Finalizers
 pub mod Guarding

@@ -1,10 +1,16 @@
 //! Laws over every life of an object: nothing that a controller guards by a finalizer goes before its cleanup.
 
-ghost use Rattle.std.specs.Prelude.{◌≡◌, ◌≤◌, ◌<◌, ◌^◌, ◌++◌, ◌∷◌, [], ℕ, List, Option, length, take, true, IfOk};
+ghost use Rattle.std.specs.Prelude.{◌≡◌, ◌≤◌, ◌<◌, ◌^◌, ◌++◌, ◌∷◌, [], ℕ, List, Option, length, take, true, IfOk, IfSome};
 ghost use Rattle.std.specs.List.{list_any};
+ghost use Rattle.kube_meta.specs.Reading.{ObjectData};
 ghost use Rattle.kube_meta.specs.Reference.{Reference};
+ghost use Rattle.kube_meta.specs.Writing.{IsContent, IsSmall};
+ghost use Rattle.kube_final.specs.FinalizerPatches.{ChangesFinalizers, finalizers_changed, is_as_seen};
+ghost use Rattle.kube_final.specs.Finalizers.{finalizers_in, patch_on};
 ghost use Rattle.kube_final.specs.Played.{IsPlayedOn};
-ghost use Rattle.kube_final.specs.Lives.{ends_cleanup, is_life, others_in, past_of, starts_apply};
+ghost use Rattle.kube_final.specs.Playing.{IsSendable};
+ghost use Rattle.kube_final.specs.Lives.{ends_cleanup, is_life, others_in, past_of, patched_by, starts_apply};
+ghost use Rattle.kube_final.specs.declared.finalizer.Decision.{Decision};
 ghost use Rattle.kube_final.specs.declared.life.LifeStep.{LifeStep as Step};
 ghost use Rattle.kube_final.specs.declared.life.LifeStep.TheVariants.{Arrive};
 ghost use Rattle.kube_meta.specs.declared.dynamic.DynamicObject.{DynamicObject};
@@ -13,7 +19,7 @@ ghost use Rattle.kube_model.specs.Raw.{Raw};
 ghost use Rattle.kube_model.specs.World.{Settings};
 ghost use Rattle.kube_watch.specs.Polls.{AreCalls};
 ghost use Rattle.kube_server.specs.Connections.{Connection, IsMove};
-ghost use Rattle.kube_server.specs.Servers.{meta_of};
+ghost use Rattle.kube_server.specs.Servers.{meta_of, patch_change};
 
 use crate::life::Past;
 pub use crate::life::{LifeState, LifeStep};
@@ -71,4 +77,15 @@ pub fn calls_leave_the_log()
         (settings : Settings) (now : ℕ) (old new : Connection DynamicObject) (xs : List (Exchange DynamicObject))
         → AreCalls (record { moves = IsMove meta_of; talk = talk; faults = faults; version = version }) settings now old xs new
         → (new.changes ≡ old.changes) × (new.compacted ≡ old.compacted) }
+{}
+
+/// The patch of a decision, sent to any object that can be written (whose other members are no types, no metadata and no
+/// fractions): where its test passes it is the same object with its finalizers as the decision changes them, and else the
+/// patch is refused. The document that it makes is read as that object, and a server so makes it, with its next revision.
+pub fn patches_change_finalizers_alone()
+    ensures document { (o : ObjectData) → IsContent o.content → IfSome o.metadata.generation IsSmall → (name : List ℕ) (decision : Decision) (seen : List (List ℕ)) → IsSendable decision seen
+        → ChangesFinalizers o (patch_on name seen decision) (is_as_seen name decision seen (finalizers_in o.metadata)) (patched_by name decision seen (finalizers_in o.metadata)) }
+    ensures server { (revision : ℕ) (o : ObjectData) → IsContent o.content → IfSome o.metadata.generation IsSmall → (name : List ℕ) (decision : Decision) (seen : List (List ℕ)) → IsSendable decision seen
+        → patch_change revision (patch_on name seen decision) o
+        ≡ finalizers_changed revision o (is_as_seen name decision seen (finalizers_in o.metadata)) (patched_by name decision seen (finalizers_in o.metadata)) }
 {}
