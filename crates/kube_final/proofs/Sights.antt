@@ -10,9 +10,8 @@ use Rattle.std.specs.declared.sync.Arc.{Arc}
 use Rattle.std.specs.declared.vec.Vec.{Vec}
 use Rattle.kube_meta.specs.declared.dynamic.DynamicObject.{DynamicObject}
 use Rattle.kube_meta.specs.Reading.{ObjectData, seen_object, unless_empty}
-use Rattle.kube_meta.specs.Keys.{reference_of}
 use Rattle.kube_meta.specs.Reference.{Reference}
-use Rattle.kube_meta.specs.Resources.{resource_type}
+use Rattle.kube_meta.specs.Resources.{dynamic_reference}
 use Rattle.kube_api.specs.declared.patch.Patch.{Patch}
 use Rattle.kube_api.specs.Patches.{Operation, operation_of}
 use Rattle.kube_server.specs.History.{State, state_of as objects_after}
@@ -237,7 +236,7 @@ stage-taken old acted noted seen o p step a n more h m serves made sent sight =
     let state = state_after old.name p step in
     let same-server : noted.server ≡ acted.server = ap (λ s. s.server) n in
     let same-key : noted.key ≡ old.key = ap (λ s. s.key) n ∙ ap (λ s. s.key) a in
-    let same-reference : stage_reference noted ≡ stage_reference old = ap (λ k. reference_of (λ t. resource_type t.value) k) same-key in
+    let same-reference : stage_reference noted ≡ stage_reference old = ap (λ k. dynamic_reference k) same-key in
     let same-seen : noted.seen.items ≡ old.seen.items = ap (λ s. s.seen.items) n ∙ ap (λ s. s.seen.items) a in
     let served : Serves noted.server (stage_reference noted) state = subst (λ r. Serves noted.server r state) (sym same-reference) (subst (λ s. Serves s (stage_reference old) state) (sym same-server) (serves p h m)) in
     record {

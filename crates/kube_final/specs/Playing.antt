@@ -6,9 +6,8 @@ use Rattle.std.specs.declared.sync.Arc.{Arc}
 use Rattle.serde_json.specs.Data.{Data, null, no_members}
 use Rattle.kube_meta.specs.declared.dynamic.DynamicObject.{DynamicObject}
 use Rattle.kube_meta.specs.Reading.{ObjectData, seen_object, unless_empty}
-use Rattle.kube_meta.specs.Keys.{reference_of}
 use Rattle.kube_meta.specs.Reference.{Reference}
-use Rattle.kube_meta.specs.Resources.{no_metadata, resource_type}
+use Rattle.kube_meta.specs.Resources.{dynamic_reference, no_metadata}
 use Rattle.kube_meta.specs.Writing.{content_members}
 use Rattle.kube_api.specs.declared.patch.Patch.{Patch}
 use Rattle.kube_api.specs.declared.patch.PatchRefusal.{PatchRefusal}
@@ -162,7 +161,7 @@ AreSent name ds (v ∷ vs) (n ∷ ns) = IsPatchOf name (map operation_of v.items
 -- ---- the stage after the steps of a life
 
 abbrev pub stage_reference : Stage → Reference
-stage_reference s = reference_of (λ t. resource_type t.value) s.key
+stage_reference s = dynamic_reference s.key
 
 -- what was seen, decided and sent
 pub record IsKept (name : List ℕ) (s : Stage) (p : Past) : Type 0 where

@@ -2,10 +2,9 @@
 
 ghost use Rattle.std.specs.Prelude.{◌≡◌, ◌<◌, ◌^◌, ◌++◌, ◌∷◌, [], true, false, map, length, List, ℕ, Some, option_map, option_copied, slice_get, IfOk, OnOk};
 ghost use Rattle.std.specs.Arc.{arc_value};
-ghost use Rattle.kube_meta.specs.Keys.{reference_of};
 ghost use Rattle.kube_meta.specs.Reading.{seen_object};
 ghost use Rattle.kube_meta.specs.Reference.{Reference};
-ghost use Rattle.kube_meta.specs.Resources.{resource_type};
+ghost use Rattle.kube_meta.specs.Resources.{dynamic_reference, resource_type};
 ghost use Rattle.kube_api.specs.Patches.{operation_of};
 ghost use Rattle.kube_server.specs.Servers.{held as held_by, reference_key};
 ghost use Rattle.kube_final.specs.declared.life.LifeState.{LifeState as State};
@@ -99,7 +98,7 @@ fn held(
     server: &Server,
     key: &ObjectRef<DynamicObject>,
 ) -> Result<Option<Arc<DynamicObject>>, NoMemory>
-    ensures { IfOk result (λ o. (state : State) → Serves server.now (reference_of (λ t. resource_type t.value) key.now) state → IsSight o state) }
+    ensures { IfOk result (λ o. (state : State) → Serves server.now (dynamic_reference key.now) state → IsSight o state) }
 {
     match server.get(alloc, key)? {
         Some(object) => Ok(Some(object.clone()?)),
@@ -115,7 +114,7 @@ fn send(
     patch: &[Patch],
 ) -> Result<(), NoMemory>
     requires { length patch.now < 2 ^ 32 }
-    ensures { OnOk result (IsAnswered server.old server.new (reference_of (λ t. resource_type t.value) key.now) (map operation_of patch.now)) }
+    ensures { OnOk result (IsAnswered server.old server.new (dynamic_reference key.now) (map operation_of patch.now)) }
 {
     match server.patch(alloc, key, patch) {
         Ok(_revision) => Ok(()),
@@ -131,9 +130,9 @@ fn change(
     key: &ObjectRef<DynamicObject>,
     names: &[Text],
 ) -> Result<(), NoMemory>
-    ensures serves { OnOk result ((state : State) → state.gone ≡ false → Serves server.old (reference_of (λ t. resource_type t.value) key.now) state
-        → Serves server.new (reference_of (λ t. resource_type t.value) key.now) (state_with names.now state.deleting)) }
-    ensures asked { OnOk result (IsAnswered server.old server.new (reference_of (λ t. resource_type t.value) key.now) (replacement_of names.now)) }
+    ensures serves { OnOk result ((state : State) → state.gone ≡ false → Serves server.old (dynamic_reference key.now) state
+        → Serves server.new (dynamic_reference key.now) (state_with names.now state.deleting)) }
+    ensures asked { OnOk result (IsAnswered server.old server.new (dynamic_reference key.now) (replacement_of names.now)) }
 {
     let patch = replacement(alloc, names)?;
     send(alloc, server, key, patch.as_slice())
@@ -145,9 +144,9 @@ fn request(
     server: &mut Server,
     key: &ObjectRef<DynamicObject>,
 ) -> Result<(), NoMemory>
-    ensures serves { OnOk result ((state : State) → state.gone ≡ false → Serves server.old (reference_of (λ t. resource_type t.value) key.now) state
-        → Serves server.new (reference_of (λ t. resource_type t.value) key.now) (state_with state.finalizers true)) }
-    ensures asked { OnOk result (IsDeletionAsked (reference_of (λ t. resource_type t.value) key.now) server.old server.new) }
+    ensures serves { OnOk result ((state : State) → state.gone ≡ false → Serves server.old (dynamic_reference key.now) state
+        → Serves server.new (dynamic_reference key.now) (state_with state.finalizers true)) }
+    ensures asked { OnOk result (IsDeletionAsked (dynamic_reference key.now) server.old server.new) }
 {
     // (it is there, so it is refused only where memory is out)
     match server.request_delete(alloc, key, Moment(0)) {
@@ -163,10 +162,10 @@ fn arrive(
     key: &ObjectRef<DynamicObject>,
     patch: &[Patch],
 ) -> Result<(), NoMemory>
-    ensures serves { OnOk result ((name : List ℕ) (state : State) (d : Decided) → IsPatchOf name (map operation_of patch.now) (Some d) → Serves server.old (reference_of (λ t. resource_type t.value) key.now) state
-        → Serves server.new (reference_of (λ t. resource_type t.value) key.now) (arrived name state (Some d))) }
+    ensures serves { OnOk result ((name : List ℕ) (state : State) (d : Decided) → IsPatchOf name (map operation_of patch.now) (Some d) → Serves server.old (dynamic_reference key.now) state
+        → Serves server.new (dynamic_reference key.now) (arrived name state (Some d))) }
     ensures asked { OnOk result ((name : List ℕ) (d : Decided) → IsPatchOf name (map operation_of patch.now) (Some d)
-        → IsAnswered server.old server.new (reference_of (λ t. resource_type t.value) key.now) (patch_on name d.seen d.decision)) }
+        → IsAnswered server.old server.new (dynamic_reference key.now) (patch_on name d.seen d.decision)) }
 {
     if patch.len() > 2 {
         return Ok(());

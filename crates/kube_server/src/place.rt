@@ -1,8 +1,7 @@
 //! Where objects stand: by namespace, none first, and then by name.
 
 ghost use Rattle.std.specs.Prelude.{◌≡◌, Some, None, option_map, string_bytes, unwrap_or, [], IfOk, decimal};
-ghost use Rattle.kube_meta.specs.Keys.{reference_of};
-ghost use Rattle.kube_meta.specs.Resources.{resource_type};
+ghost use Rattle.kube_meta.specs.Resources.{dynamic_reference};
 ghost use Rattle.kube_server.specs.History.{key_of};
 ghost use Rattle.kube_server.specs.Servers.{reference_key};
 ghost use Rattle.kube_server.specs.Stored.{key_at};
@@ -56,7 +55,7 @@ pub(crate) fn place_named(
     alloc: Global,
     reference: &ObjectRef<DynamicObject>,
 ) -> Result<Place, NoMemory>
-    ensures { IfOk result (λ p. key_at p ≡ reference_key (reference_of (λ t. resource_type t.value) reference.now)) }
+    ensures { IfOk result (λ p. key_at p ≡ reference_key (dynamic_reference reference.now)) }
 {
     let namespace = owned_option(alloc, &reference.namespace)?;
     let name = owned(alloc, &reference.name)?;

@@ -2,8 +2,7 @@
 
 ghost use Rattle.std.specs.Prelude.{◌≡◌, ◌<◌, ◌≤◌, ◌^◌, [], length, map, IfOk, OnOk, OnErr, Some, option_copied, option_map};
 ghost use Rattle.std.specs.Arc.{arc_value};
-ghost use Rattle.kube_meta.specs.Keys.{reference_of};
-ghost use Rattle.kube_meta.specs.Resources.{resource_type};
+ghost use Rattle.kube_meta.specs.Resources.{dynamic_reference};
 ghost use Rattle.kube_meta.specs.Reading.{seen_object};
 ghost use Rattle.kube_model.specs.Raw.{grown, FaultRose};
 ghost use Rattle.kube_api.specs.Patches.{operation_of};
@@ -115,7 +114,7 @@ fn reference(
     namespace: &Option<Text>,
     name: &str,
 ) -> Result<ObjectRef<DynamicObject>, NoMemory>
-    ensures names { IfOk result (λ r. reference_of (λ t. resource_type t.value) r ≡ reference_in server.now namespace.now name.now) }
+    ensures names { IfOk result (λ r. dynamic_reference r ≡ reference_in server.now namespace.now name.now) }
     ensures history { IsHistory meta_of server.now.changes }
 {
     Ok(ObjectRef {
@@ -149,9 +148,9 @@ fn patch_server(
 ) -> Result<(PatchAnswer<DynamicObject>, PatchAnswer<DynamicObject>), NoMemory>
     requires { length patch.now < 2 ^ 32 }
     ensures answer { IfOk result (λ p. answer_seen seen_object (patch_answer (Polled.Ready p.0))
-        ≡ answer_of_patch (next_revision server.old) (map operation_of patch.now) (held server.old (reference_of (λ t. resource_type t.value) key.now))) }
+        ≡ answer_of_patch (next_revision server.old) (map operation_of patch.now) (held server.old (dynamic_reference key.now))) }
     ensures twice { IfOk result (λ p. patch_answer (Polled.Ready p.1) ≡ patch_answer (Polled.Ready p.0)) }
-    ensures left { OnOk result (IsLeftByPatch server.old server.new (map operation_of patch.now) (held server.old (reference_of (λ t. resource_type t.value) key.now))) }
+    ensures left { OnOk result (IsLeftByPatch server.old server.new (map operation_of patch.now) (held server.old (dynamic_reference key.now))) }
     ensures not_memory { IfOk result (λ p. IsNotMemory (patch_answer (Polled.Ready p.0))) }
     ensures stays { IfOk result (λ p. IsKeptServer (patch_answer (Polled.Ready p.0)) server.old server.new) }
     ensures err { OnErr result (server.new ≡ server.old) }
@@ -180,7 +179,7 @@ fn delete_stored(
     stored: Arc<DynamicObject>,
     now: Moment,
 ) -> Result<(DeleteAnswer<DynamicObject>, DeleteAnswer<DynamicObject>), NoMemory>
-    requires { held server.old (reference_of (λ t. resource_type t.value) key.now) ≡ Some (seen_object (arc_value stored)) }
+    requires { held server.old (dynamic_reference key.now) ≡ Some (seen_object (arc_value stored)) }
     ensures answer { IfOk result (λ p. answer_seen seen_object (delete_answer (Polled.Ready p.0))
         ≡ deleted_answer (seen_object (arc_value stored)) (deletion (next_revision server.old) now.0 (seen_object (arc_value stored)))) }
     ensures twice { IfOk result (λ p. delete_answer (Polled.Ready p.1) ≡ delete_answer (Polled.Ready p.0)) }
@@ -214,9 +213,9 @@ fn delete_in_server(
     now: Moment,
 ) -> Result<(DeleteAnswer<DynamicObject>, DeleteAnswer<DynamicObject>), NoMemory>
     ensures answer { IfOk result (λ p. answer_seen seen_object (delete_answer (Polled.Ready p.0))
-        ≡ answer_of_delete (next_revision server.old) now.0 (held server.old (reference_of (λ t. resource_type t.value) key.now))) }
+        ≡ answer_of_delete (next_revision server.old) now.0 (held server.old (dynamic_reference key.now))) }
     ensures twice { IfOk result (λ p. delete_answer (Polled.Ready p.1) ≡ delete_answer (Polled.Ready p.0)) }
-    ensures left { OnOk result (IsLeftByDelete server.old server.new now.0 (held server.old (reference_of (λ t. resource_type t.value) key.now))) }
+    ensures left { OnOk result (IsLeftByDelete server.old server.new now.0 (held server.old (dynamic_reference key.now))) }
     ensures err { OnErr result (server.new ≡ server.old) }
     ensures history { IsHistory meta_of server.old.changes → IsHistory meta_of server.new.changes }
     ensures later { IsLater server.old.changes server.new.changes server.old.compacted server.new.compacted }
