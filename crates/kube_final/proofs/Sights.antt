@@ -1,8 +1,8 @@
 -- What a stage keeps of a life, step by step.
-use Rattle.std.proofs.Common.{◌≡◌, inl, inr, ℕ, suc, zero, ◌<◌, ◌&&◌, List, [], ◌∷◌, ◌++◌, map, length, slice_get, ◌≤◌, Option, Some, None, Result, Ok, Err, Bool, true, false, not, is_some, OnOk, IfOk, refl, sym, ap, ◌∙◌, subst, true≢false, append-nil, arith}
+use Rattle.std.proofs.Common.{◌≡◌, inl, inr, ℕ, suc, zero, ◌<◌, ◌^◌, ◌&&◌, List, [], ◌∷◌, ◌++◌, map, length, slice_get, ◌≤◌, Option, Some, None, Result, Ok, Err, Bool, true, false, not, is_some, OnOk, IfOk, refl, sym, ap, ◌∙◌, subst, true≢false, append-nil, arith}
 use Rattle.std.specs.Prelude.{unwrap_or, nat_lt, drop, fold, take}
 use Rattle.std.proofs.lemmas.List.Sums.{fold-append}
-use Rattle.std.proofs.lemmas.List.{drop_all}
+use Rattle.std.proofs.lemmas.List.{drop_all, length-map}
 use Rattle.std.proofs.lemmas.Bool.Decides.{nat_tests}
 use Rattle.std.specs.Arc.{arc_value}
 use Rattle.std.specs.declared.alloc.Global.{Global}
@@ -23,9 +23,9 @@ use Rattle.kube_final.specs.declared.life.LifeStep.{LifeStep}
 use Rattle.kube_final.specs.declared.life.LifeStep.TheVariants.{Arrive}
 use Rattle.kube_final.specs.declared.play.Stage.{Stage}
 use Rattle.kube_final.specs.declared.play.Made.{Made}
-use Rattle.kube_final.specs.Finalizers.{decided, decision_on, finalizers_in, place_of, replacement}
+use Rattle.kube_final.specs.Finalizers.{decided, decision_on, finalizers_in, patch_on, place_of, replacement}
 use Rattle.kube_final.specs.Lives.{Decided, Past, after, arrived, beginning, decided_on, decisions_after, sent_by, is_life_from, may_follow, past_of, state_after, is_made, is_there, state_of, with_decision}
-use Rattle.kube_final.specs.Playing.{AreMade, AreSent, AreSights, IsAnswered, IsDue, IsHeldAs, IsKept, IsMadeAs, IsPatchOf, IsSeenAs, IsSight, IsStage, Serves, is_due, stage_reference, there}
+use Rattle.kube_final.specs.Playing.{AreMade, AreSent, AreShort, AreSights, IsAnswered, IsDue, IsHeldAs, IsKept, IsMadeAs, IsPatchOf, IsSeenAs, IsSight, IsStage, Serves, is_due, stage_reference, there}
 use Rattle.kube_final.proofs.Staging.{arrived-done, arrived-refused, change-gives, held-only, only, patch-done, patch-refused}
 
 pub on-ok : {A E : Type 0} (r : Result A E) (P Q : Type 0) → (P → Q) → OnOk r P → OnOk r Q
@@ -171,6 +171,33 @@ none-sent name ds [] (m ∷ ns) n h e t = h
 none-sent name ds (w ∷ vs) [] n h e t = h
 none-sent name ds (w ∷ vs) (m ∷ ns) zero h e t = some-no w e
 none-sent name ds (w ∷ vs) (m ∷ ns) (suc n) h e t = none-sent name ds vs ns n h.1 e (omega (arith, t))
+
+-- ---- patches are short
+
+due-short : (name : List ℕ) (seen : List (List ℕ)) (d : Decision) → length (patch_on name seen d) ≤ 2
+due-short name seen Apply = omega arith
+due-short name seen (Cleanup i) = omega arith
+due-short name seen AddFirst = omega arith
+due-short name seen AddMore = omega arith
+due-short name seen Nothing = omega arith
+due-short name seen Unnamed = omega arith
+
+patch-short : (name : List ℕ) (os : List Operation) (o : Option Decided) → IsPatchOf name os o → length os ≤ 2
+patch-short name os None h = absurd h
+patch-short name os (Some d) h = subst (λ x. length x ≤ 2) (sym h.0) (due-short name d.seen d.decision)
+
+pub sent-short : (name : List ℕ) (ds : List Decided) (vs : List (Vec Patch Global)) (ns : List ℕ) → AreSent name ds vs ns → AreShort vs
+sent-short name ds [] [] h = tt
+sent-short name ds [] (n ∷ ns) h = absurd h
+sent-short name ds (v ∷ vs) [] h = absurd h
+sent-short name ds (v ∷ vs) (n ∷ ns) h =
+    let few = patch-short name (map operation_of v.items) (slice_get ds n) h.0 in
+    (omega (arith, few, length-map v.items operation_of), sent-short name ds vs ns h.1)
+
+pub short-there : (vs : List (Vec Patch Global)) (n : ℕ) (v : Vec Patch Global) → AreShort vs → slice_get vs n ≡ Some v → length v.items < 2 ^ 32
+short-there [] n v h e = absurd (some-no v (sym e))
+short-there (w ∷ vs) zero v h e = subst (λ x. length x.items < 2 ^ 32) (some-same w v e) h.0
+short-there (w ∷ vs) (suc n) v h e = short-there vs n v h.1 e
 
 -- ---- one step more
 

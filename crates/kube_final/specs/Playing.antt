@@ -1,5 +1,5 @@
 -- What a stage on which a life is played holds after the steps so far: a server with the object, what was seen of it, the decisions, and the patches that were sent. Of all this the clauses of public calls show the object and what a server answered.
-use Rattle.std.specs.Prelude.{◌≡◌, ◌⊎◌, ℕ, ◌<◌, ◌^◌, Bool, true, false, ◌&&◌, is_some, List, [], ◌∷◌, ◌++◌, map, slice_get, Option, Some, None, codes}
+use Rattle.std.specs.Prelude.{◌≡◌, ◌⊎◌, ℕ, ◌<◌, ◌^◌, Bool, true, false, ◌&&◌, is_some, List, [], ◌∷◌, ◌++◌, length, map, slice_get, Option, Some, None, codes}
 use Rattle.std.specs.Arc.{arc_value}
 use Rattle.std.specs.declared.alloc.Global.{Global}
 use Rattle.std.specs.declared.sync.Arc.{Arc}
@@ -157,6 +157,11 @@ AreSent name ds [] [] = Unit {0}
 AreSent name ds [] (n ∷ ns) = ⊥
 AreSent name ds (v ∷ vs) [] = ⊥
 AreSent name ds (v ∷ vs) (n ∷ ns) = IsPatchOf name (map operation_of v.items) (slice_get ds n) × AreSent name ds vs ns
+
+-- each patch has fewer operations than a refusal can count
+abbrev pub AreShort : List (Vec Patch Global) → Type 0
+AreShort [] = Unit {0}
+AreShort (v ∷ vs) = (length v.items < 2 ^ 32) × AreShort vs
 
 -- ---- the stage after the steps of a life
 

@@ -10,7 +10,7 @@ ghost use Rattle.kube_server.specs.Servers.{held as held_by, reference_key};
 ghost use Rattle.kube_final.specs.declared.life.LifeState.{LifeState as State};
 ghost use Rattle.kube_final.specs.Finalizers.{decision_on};
 ghost use Rattle.kube_final.specs.Lives.{Decided, Past, after, arrived, beginning, decision_at, decisions_after, first_state, is_life, past_of, sent_by, is_made, is_there, may_follow, state_after, state_at, state_of as state_with, with_decision};
-ghost use Rattle.kube_final.specs.Playing.{AreMade, AreSent, IsAnswered, IsKept, IsDue, IsMadeAs, IsPatchOf, IsSight, IsStage, Serves, is_due, new_object, object_key, stage_reference, there};
+ghost use Rattle.kube_final.specs.Playing.{AreMade, AreSent, AreShort, IsAnswered, IsKept, IsDue, IsMadeAs, IsPatchOf, IsSight, IsStage, Serves, is_due, new_object, object_key, stage_reference, there};
 ghost use Rattle.kube_final.specs.Finalizers.{patch_on, replacement as replacement_of};
 ghost use Rattle.kube_final.specs.Played.{IsDeletionAsked, IsOpened, IsPlayedOn, IsStepAsked};
 
@@ -162,14 +162,12 @@ fn arrive(
     key: &ObjectRef<DynamicObject>,
     patch: &[Patch],
 ) -> Result<(), NoMemory>
+    requires { length patch.now < 2 ^ 32 }
     ensures serves { OnOk result ((name : List ℕ) (state : State) (d : Decided) → IsPatchOf name (map operation_of patch.now) (Some d) → Serves server.old (dynamic_reference key.now) state
         → Serves server.new (dynamic_reference key.now) (arrived name state (Some d))) }
     ensures asked { OnOk result ((name : List ℕ) (d : Decided) → IsPatchOf name (map operation_of patch.now) (Some d)
         → IsAnswered server.old server.new (dynamic_reference key.now) (patch_on name d.seen d.decision)) }
 {
-    if patch.len() > 2 {
-        return Ok(());
-    }
     send(alloc, server, key, patch)
 }
 
@@ -266,6 +264,7 @@ impl Stage {
 
     // What a step makes of the server.
     fn act(&mut self, alloc: Global, step: &LifeStep) -> Result<(), NoMemory>
+        requires { AreShort self.old.sent.items }
         ensures rest { self.new ≡ record self.old { server = self.new.server } }
         ensures server { OnOk result ((p : Past) → IsStage self.old.name self.old p → may_follow self.old.name p step.now ≡ true
             → Serves self.new.server (stage_reference self.old) (state_after self.old.name p step.now)) }
@@ -302,6 +301,7 @@ impl Stage {
 
     // Takes a step.
     fn take(&mut self, alloc: Global, step: &LifeStep) -> Result<(), NoMemory>
+        requires { AreShort self.old.sent.items }
         ensures named { OnOk result (self.new.name ≡ self.old.name) }
         ensures key { OnOk result (stage_reference self.new ≡ stage_reference self.old) }
         ensures stage { OnOk result ((p : Past) → IsStage self.old.name self.old p → may_follow self.old.name p step.now ≡ true

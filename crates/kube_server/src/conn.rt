@@ -25,7 +25,7 @@ use crate::status::{expired, unsupported};
 use crate::talk::{Talk, Told};
 use crate::token::{Token, decimal, number, read_token};
 use crate::watching::Watching;
-use kube_api::copies::{copy_list_params, copy_listed, copy_watch_params, share_all};
+use kube_api::copies::{copy_given, copy_list_params, copy_listed, copy_watch_params, share_all};
 use kube_api::{ApiError, ApiMode, ListParams, Page, WatchEvent, WatchParams};
 use kube_meta::{DynamicObject, Moment, NoMemory, Polled, Text};
 use std::alloc::Global;
@@ -300,6 +300,20 @@ fn next_event(
     }
 }
 
+/// The same answer; its object is shared.
+fn copy_next(
+    alloc: Global,
+    answer: &Polled<Option<Result<WatchEvent<DynamicObject>, ApiError>>>,
+) -> Result<Polled<Option<Result<WatchEvent<DynamicObject>, ApiError>>>, NoMemory>
+    ensures { IfOk result (λ a. next_answer a ≡ next_answer answer.now) }
+{
+    Ok(match answer {
+        Polled::NotReady => Polled::NotReady,
+        Polled::Ready(None) => Polled::Ready(None),
+        Polled::Ready(Some(given)) => Polled::Ready(Some(copy_given(alloc, given)?)),
+    })
+}
+
 /// Goes past what the open watch was polled.
 fn advance(watch: &mut Option<Watching>, log: &[Entry], place: usize)
     requires { IsCurrentPlace (option_map watch_of watch.old) (map change_of log.now) place }
@@ -438,7 +452,7 @@ impl ApiMode for Conn {
         let log = self.log.entries();
         let place = current_place(&self.watch, log);
         let answer = next_event(alloc, &self.watch, log, place)?;
-        let kept = next_event(alloc, &self.watch, log, place)?;
+        let kept = copy_next(alloc, &answer)?;
         self.talk.tell(Told::Next(kept))?;
         advance(&mut self.watch, self.log.entries(), place);
         Ok(answer)

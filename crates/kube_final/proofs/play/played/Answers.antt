@@ -1,7 +1,7 @@
 use Rattle.std.proofs.Common.{◌≡◌, suc, ◌<◌, ◌∷◌, length, drop, ap, sym, ◌∙◌, arith, drop-cons}
 use Rattle.kube_final.specs.Lives.{past_of}
 use Rattle.kube_final.proofs.Asking.{played-on, played-so-next}
-use Rattle.kube_final.proofs.Sights.{played-end}
+use Rattle.kube_final.proofs.Sights.{played-end, sent-short}
 use Rattle.kube_final.proofs.play.played.Goals as goal
 
 pub loop-step-preserved : goal.loop-step-preserved
@@ -12,6 +12,11 @@ loop-step-preserved c =
     let l : i < length life = omega arith in
     let here : drop i life ≡ step ∷ drop (suc i) life = drop-cons life i step l ∙ ap (λ s. s ∷ drop (suc i) life) (sym c.step-item.is) in
     played-so-next c.args.name.now life i _ c.loop-step.stage c.take.new.self step (omega arith) c.loop-step.invariant here c.in_ok-take.ensures.named c.in_ok-take.ensures.stage c.in_ok-take.ensures.key c.in_ok-take.ensures.asked
+
+pub take-requires : goal.take-requires
+take-requires c =
+    let played = c.loop-step.invariant.played in
+    sent-short c.args.name.now played.past.decisions c.loop-step.stage.sent.items played.past.sent played.stage.kept.sent
 
 pub returns-clause-state : goal.returns-clause-state
 returns-clause-state c =

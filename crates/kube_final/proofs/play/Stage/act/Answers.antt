@@ -1,10 +1,10 @@
-use Rattle.std.proofs.Common.{◌≡◌, Some, None, slice_get, map, true, ap, sym, subst, ◌∙◌}
+use Rattle.std.proofs.Common.{◌≡◌, ◌<◌, ◌^◌, length, Some, None, slice_get, map, true, ap, sym, subst, ◌∙◌}
 use Rattle.kube_api.specs.Patches.{operation_of}
 use Rattle.kube_final.specs.Lives.{may_follow, state_after}
 use Rattle.kube_final.specs.Playing.{IsPatchOf, Serves, stage_reference}
 use Rattle.kube_final.specs.Played.{IsStepAsked}
 use Rattle.kube_final.proofs.Asking.{asked-as}
-use Rattle.kube_final.proofs.Sights.{arrived-as, none-arrives, on-ok, sent-there}
+use Rattle.kube_final.proofs.Sights.{arrived-as, none-arrives, on-ok, sent-there, short-there}
 use Rattle.kube_final.proofs.play.Stage.act.Goals as goal
 
 pub returns-in-Some-clause-server : goal.returns-in-Some-clause-server
@@ -42,3 +42,8 @@ returns-in-None-clause-asked c p k m =
     let name = c.args.self.now.name in
     let nothing : slice_get c.args.self.now.sent.items c.in-Arrive.send ≡ None = ap (λ vs. slice_get vs c.in-Arrive.send) (sym c.as_slice-in-Arrive.ensures.value) ∙ sym c.in-None.ensures in
     absurd (none-arrives name p c.args.self.now.sent.items c.in-Arrive.send k.sent nothing (subst (λ step. may_follow name p step ≡ true) c.in-Arrive.is m))
+
+pub arrive-requires : goal.arrive-requires
+arrive-requires c =
+    let there : slice_get c.args.self.now.sent.items c.in-Arrive.send ≡ Some c.in-Some.patch.now = ap (λ vs. slice_get vs c.in-Arrive.send) (sym c.as_slice-in-Arrive.ensures.value) ∙ sym c.in-Some.ensures in
+    subst (λ os. length os < 2 ^ 32) (sym c.as_slice-in-Some.ensures.value) (short-there c.args.self.now.sent.items c.in-Arrive.send c.in-Some.patch.now c.requires there)
