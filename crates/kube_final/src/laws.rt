@@ -18,7 +18,7 @@ ghost use Rattle.kube_model.specs.History.{Exchange};
 ghost use Rattle.kube_model.specs.Raw.{Raw};
 ghost use Rattle.kube_model.specs.World.{Settings};
 ghost use Rattle.kube_watch.specs.Polls.{AreCalls};
-ghost use Rattle.kube_server.specs.Connections.{Connection, IsMove};
+ghost use Rattle.kube_server.specs.Connections.{Connection, IsMove, IsSameLog};
 ghost use Rattle.kube_server.specs.Servers.{meta_of, patch_change};
 
 use crate::life::Past;
@@ -76,7 +76,7 @@ pub fn calls_leave_the_log()
     ensures { (talk : Connection DynamicObject → Option (List (Raw DynamicObject))) (faults : Connection DynamicObject → ℕ) (version : DynamicObject → Option (List ℕ))
         (settings : Settings) (now : ℕ) (old new : Connection DynamicObject) (xs : List (Exchange DynamicObject))
         → AreCalls (record { moves = IsMove meta_of; talk = talk; faults = faults; version = version }) settings now old xs new
-        → (new.changes ≡ old.changes) × (new.compacted ≡ old.compacted) }
+        → IsSameLog old new }
 {}
 
 /// The patch of a decision, sent to any object that can be written (whose other members are no types, no metadata and no

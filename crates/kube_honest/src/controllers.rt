@@ -16,7 +16,7 @@ ghost use Rattle.kube_model.specs.Traces.{IsTrace, steps, unread};
 ghost use Rattle.kube_server.specs.History.{Change, IsHistory, IsLater};
 ghost use Rattle.kube_server.specs.Honest.{Selection, IsHonest};
 ghost use Rattle.kube_server.specs.Readers.{IsByKey};
-ghost use Rattle.kube_server.specs.Connections.{Act, Connection, acted, fresh, polled, selected_by};
+ghost use Rattle.kube_server.specs.Connections.{Act, Connection, IsSameLog, acted, fresh, polled, selected_by};
 ghost use Rattle.kube_server.specs.Servers.{meta_of};
 ghost use Rattle.kube_watch.specs.Calls.{version_of};
 ghost use Rattle.kube_watch.specs.Stands.{api_of, settings_in};
@@ -65,7 +65,7 @@ pub fn connections_stay_honest_in_runs<S: RelatedSet<DynamicObject>>()
         → (more : List (Act DynamicObject)) × (api_of r'.watcher ≡ fold (acted meta_of) (fresh changes compacted) more) }
     ensures log { (before ds : List (Dated DynamicObject)) (r r' : RootWatching (Connection DynamicObject) DynamicObject) (s s' : S)
         → ArePolled ⟦<WatchRoot<Conn> as RootSource>⟧.polls S.polls before r s ds r' s'
-        → ((api_of r'.watcher).changes ≡ (api_of r.watcher).changes) × ((api_of r'.watcher).compacted ≡ (api_of r.watcher).compacted) }
+        → IsSameLog (api_of r.watcher) (api_of r'.watcher) }
 {}
 
 /// A controller over a connection, however that was fed between its runs, stored a state of the server's history after each turn

@@ -212,6 +212,10 @@ pub record IsMove {V : Type 0} (meta : V → ObjectMeta) (old : Connection V) (n
   pub answer : raw.answer ≡ answered meta raw.call old
   pub left : new ≡ left_by meta raw.call old
 
+-- the log is as it was, and so is up to which revision it counts as gone
+abbrev pub IsSameLog : {V : Type 0} → Connection V → Connection V → Type 0
+IsSameLog old new = (new.changes ≡ old.changes) × (new.compacted ≡ old.compacted)
+
 -- ---- whole talks
 
 -- what is done with a connection: a call, or the log of its server grows and is copied
