@@ -1,5 +1,6 @@
 //! Objects, read from JSON and written.
 
+use kube_meta::reading::member;
 use kube_meta::{
     DynamicObject, List, ObjectFault, ObjectMeta, Text, TextMap, read_object, write_object,
 };
@@ -192,4 +193,12 @@ fn what_is_no_content_and_what_is_empty_is_left_out(rt: HostRuntime) {
         empty.as_str(),
         r#"{"metadata":{"generation":0,"name":""}}"#
     );
+}
+
+#[test]
+fn greatest_number_is_read(rt: HostRuntime) {
+    let text = r#"{"term":18446744073709551615}"#;
+    let value = Value::from_str(rt.alloc(), text).expect(&rt, "JSON");
+    let term: u64 = member(rt.alloc(), &value, "term").expect(&rt, "a number");
+    assert_eq!(rt; term, u64::MAX);
 }
