@@ -36,8 +36,8 @@ deletion_by meta_of (AnswersRefusal refusal) = None
 -- the deletion of the object of this name was asked at this moment, once, which is all that was asked of the API: it is what that made of it
 pub record IsAsked {O V : Type 0} (objects : Objects O V) (meta_of : V → ObjectMeta) (name : List ℕ) (now : ℕ) (old : O) (deletion : Deletion) (new : O) : Type 0 where
   pub answer : ObjectAnswer V
-  pub moved : objects.moves old now (record { call = DeleteAsked name; answer = answer }) new
   pub told : objects.talk new ≡ grown (objects.talk old) (record { call = DeleteAsked name; answer = answer })
+  pub moved : objects.moves old now (record { call = DeleteAsked name; answer = answer }) new
   pub comes_to : deletion_by meta_of answer ≡ Some deletion
   pub missing : MissingAs (objects.held old) name answer
   pub kept : IsKept answer (objects.held old) (objects.held new)

@@ -115,8 +115,8 @@ IsLeftUnasked api old new = (new ≡ old) ⊎ api.rests old new
 -- the patch was sent at this moment, once, which is all that was asked of the API: it is what that made of it, and its answer is that of the poll
 pub record IsSent {A V E : Type 0} (api : Objects A V) (name : List ℕ) (patch : List Operation) (decision : Decision) (action : Option ℕ) (now : ℕ) (old : A) (answer : Polled (Answer E)) (new : A) : Type 0 where
   pub patched : ObjectAnswer V
-  pub moved : api.moves old now (record { call = PatchAsked name patch; answer = patched }) new
   pub told : api.talk new ≡ grown (api.talk old) (record { call = PatchAsked name patch; answer = patched })
+  pub moved : api.moves old now (record { call = PatchAsked name patch; answer = patched }) new
   pub answers : answer_by decision action patched ≡ Some answer
   pub refused : RefusedAs (api.held old) name patch patched
   pub not_memory : IsNotMemory patched
