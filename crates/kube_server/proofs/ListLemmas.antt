@@ -18,7 +18,7 @@ use Rattle.kube_model.specs.Raw.{RawAnswer, ListAsked, GivesPage}
 use Rattle.kube_server.specs.History.{Key, key_of, key_cmp, same_key, State, Change, Adds, Modifies, Removes, with_object, without_object, changed, objects_of, state_at}
 use Rattle.kube_server.specs.Numbers.{NameSought, name_sought, Token, token_text, token_at}
 use Rattle.kube_server.specs.Honest.{Selection, same_selection, list_selection, ListTold, goes_on, after_page, list_after, selected_at, IsWholeList, IsHonestEnd, IsHonestList}
-use Rattle.kube_server.specs.Connections.{Connection, selects_name, selected_by, is_known, if_known, named_at, place_asked, last_page, page_within, page_of, page_at, listed_by, listed}
+use Rattle.kube_server.specs.Connections.{Connection, selects_name, selected_by, is_known, if_known, named_at, token_asked, last_page, page_within, page_of, page_at, listed_by, listed}
 use Rattle.kube_server.specs.Standing.{IsListing, ListGoesOn, ListStands}
 use Rattle.kube_server.proofs.HonestLemmas.{longer, selected_at-more, IsHonestEnd-more}
 use Rattle.kube_server.proofs.NumberLemmas.{token_at-token_text}
@@ -160,7 +160,7 @@ module _ {V : Type 0} (meta : V → ObjectMeta) (c : Connection V) where
         | inr other ↦ let e' = rw other at e in absurd (cc)
       ]
 
-  place_of_token : (text : List ℕ) (p t : Token) → text ≡ token_text p → p.revision < 2 ^ 64 → p.offset < 2 ^ 64 → place_asked c (Some text) ≡ Some t → p ≡ t
+  place_of_token : (text : List ℕ) (p t : Token) → text ≡ token_text p → p.revision < 2 ^ 64 → p.offset < 2 ^ 64 → token_asked c (Some text) ≡ Some t → p ≡ t
   place_of_token text p t is revision offset asked =
       let read : token_at text ≡ Some p = rw is (token_at-token_text p revision offset) in
       place_known p.revision p t (rw read at asked)
@@ -182,7 +182,7 @@ module _ {V : Type 0} (meta : V → ObjectMeta) (c : Connection V) where
   given_none params text answer by_token page =
       rw page.is (subst (λ o. ListStands meta c.changes (after_page None o params page.items page.token page.version)) (sym by_token) tt)
 
-  page_after : (l : ListTold V) (params : ListParams) (name : NameSought) (text : List ℕ) (t : Token) → length c.changes < 2 ^ 64 → name_sought params.label_selector params.field_selector ≡ Some name → params.continue_token ≡ Some text → place_asked c (Some text) ≡ Some t → ListStands meta c.changes (Some l) → goes_on l params ≡ true → ListStands meta c.changes (list_after (Some l) (ListAsked params) (page_at meta c name params.limit (Some t)))
+  page_after : (l : ListTold V) (params : ListParams) (name : NameSought) (text : List ℕ) (t : Token) → length c.changes < 2 ^ 64 → name_sought params.label_selector params.field_selector ≡ Some name → params.continue_token ≡ Some text → token_asked c (Some text) ≡ Some t → ListStands meta c.changes (Some l) → goes_on l params ≡ true → ListStands meta c.changes (list_after (Some l) (ListAsked params) (page_at meta c name params.limit (Some t)))
   page_after l params name text t small names by_token asked stands on =
       let both = and_both (option_eq bytes_eq l.token params.continue_token) (same_selection l.selection (list_selection params)) on in
       let token : l.token ≡ Some text = same_text l.token params.continue_token both.0 ∙ by_token in
@@ -202,7 +202,7 @@ module _ {V : Type 0} (meta : V → ObjectMeta) (c : Connection V) where
       let page' : IsPage meta c.changes (list_selection params) [] (page_at meta c name params.limit (Some (record { revision = length c.changes; offset = 0 }))) = rw (named_at-is meta c.changes (list_selection params) name (length c.changes) names) page in
       given_first list params _ begins page'
 
-  next_page : (list : Option (ListTold V)) (params : ListParams) (name : NameSought) (text : List ℕ) (t : Token) → length c.changes < 2 ^ 64 → name_sought params.label_selector params.field_selector ≡ Some name → params.continue_token ≡ Some text → place_asked c (Some text) ≡ Some t → ListStands meta c.changes list → ListStands meta c.changes (list_after list (ListAsked params) (page_at meta c name params.limit (Some t)))
+  next_page : (list : Option (ListTold V)) (params : ListParams) (name : NameSought) (text : List ℕ) (t : Token) → length c.changes < 2 ^ 64 → name_sought params.label_selector params.field_selector ≡ Some name → params.continue_token ≡ Some text → token_asked c (Some text) ≡ Some t → ListStands meta c.changes list → ListStands meta c.changes (list_after list (ListAsked params) (page_at meta c name params.limit (Some t)))
   next_page None params name text t small names by_token asked stands = given_none params text _ by_token (page_of-gives params.limit t (drop t.offset (named_at meta name c.changes t.revision)))
   next_page (Some l) params name text t small names by_token asked stands =
       elim (cases_Bool (goes_on l params)) [
@@ -210,7 +210,7 @@ module _ {V : Type 0} (meta : V → ObjectMeta) (c : Connection V) where
         | inr off ↦ given_off l params text _ by_token off (page_of-gives params.limit t (drop t.offset (named_at meta name c.changes t.revision)))
       ]
 
-  placed : (list : Option (ListTold V)) (params : ListParams) (name : NameSought) (token : Option (List ℕ)) (place : Option Token) → length c.changes < 2 ^ 64 → name_sought params.label_selector params.field_selector ≡ Some name → params.continue_token ≡ token → place_asked c token ≡ place → ListStands meta c.changes list → ListStands meta c.changes (list_after list (ListAsked params) (page_at meta c name params.limit place))
+  placed : (list : Option (ListTold V)) (params : ListParams) (name : NameSought) (token : Option (List ℕ)) (place : Option Token) → length c.changes < 2 ^ 64 → name_sought params.label_selector params.field_selector ≡ Some name → params.continue_token ≡ token → token_asked c token ≡ place → ListStands meta c.changes list → ListStands meta c.changes (list_after list (ListAsked params) (page_at meta c name params.limit place))
   placed list params name token None small names by asked stands = stands
   placed list params name None (Some t) small names by asked stands =
       let first : record { revision = length c.changes; offset = 0 } ≡ t = (cc) in
@@ -219,7 +219,7 @@ module _ {V : Type 0} (meta : V → ObjectMeta) (c : Connection V) where
 
   sought : (list : Option (ListTold V)) (params : ListParams) (name : Option NameSought) → length c.changes < 2 ^ 64 → name_sought params.label_selector params.field_selector ≡ name → ListStands meta c.changes list → ListStands meta c.changes (list_after list (ListAsked params) (listed_by meta c params name))
   sought list params None small names stands = stands
-  sought list params (Some name) small names stands = placed list params name params.continue_token (place_asked c params.continue_token) small names refl refl stands
+  sought list params (Some name) small names stands = placed list params name params.continue_token (token_asked c params.continue_token) small names refl refl stands
 
   -- a list call leaves the list under way where its pages go on
   pub ListStands-listed : (list : Option (ListTold V)) (params : ListParams) → length c.changes < 2 ^ 64 → ListStands meta c.changes list → ListStands meta c.changes (list_after list (ListAsked params) (listed meta params c))

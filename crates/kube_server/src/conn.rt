@@ -10,7 +10,7 @@ ghost use Rattle.kube_server.specs.History.{Change, state_at, objects_of, IsLate
 ghost use Rattle.kube_server.specs.Numbers.{name_sought, number_at};
 ghost use Rattle.kube_server.specs.Tokens.{token_of};
 ghost use Rattle.kube_server.specs.Honest.{IsHonest};
-ghost use Rattle.kube_server.specs.Connections.{fresh, selected_by, place_asked, version_known, named_at, last_page, page_within, page_of, listed, after_list, watched, opening, opened, after_watch, poll_current, left_current, polled, after_next, IsMove};
+ghost use Rattle.kube_server.specs.Connections.{fresh, selected_by, token_asked, version_known, named_at, last_page, page_within, page_of, listed, after_list, watched, opening, opened, after_watch, poll_current, left_current, polled, after_next, IsMove};
 ghost use Rattle.kube_server.specs.Servers.{meta_of};
 ghost use Rattle.kube_server.specs.Stored.{change_of, name_of};
 ghost use Rattle.kube_server.specs.Watches.{watch_of};
@@ -162,9 +162,9 @@ fn is_known(revision: u64, compacted: u64, newest: usize) -> bool
 }
 
 /// Where a list goes on; none where its token says no such place.
-fn place(asked: &Option<Text>, compacted: u64, newest: usize) -> Option<Token>
+fn asked_token(asked: &Option<Text>, compacted: u64, newest: usize) -> Option<Token>
     ensures known { IfSome result (λ t. t.revision ≤ newest) }
-    ensures place { (changes : List (Change DynamicObject)) → length changes ≡ newest → option_map token_of result ≡ place_asked (fresh changes compacted) asked.now }
+    ensures token { (changes : List (Change DynamicObject)) → length changes ≡ newest → option_map token_of result ≡ token_asked (fresh changes compacted) asked.now }
 {
     let Some(text) = asked else {
         return Some(Token {
@@ -215,7 +215,7 @@ fn list_answered(
     let Some(name) = name_asked(alloc, &params.label_selector, &params.field_selector)? else {
         return Ok(Err(unsupported(alloc)?));
     };
-    let Some(token) = place(&params.continue_token, compacted, newest) else {
+    let Some(token) = asked_token(&params.continue_token, compacted, newest) else {
         return Ok(Err(ApiError::Api(expired(alloc)?)));
     };
     Ok(Ok(page_at(alloc, log, &name, token, params.limit)?))
