@@ -23,7 +23,7 @@ use Rattle.kube_final.specs.declared.life.LifeStep.{LifeStep}
 use Rattle.kube_final.specs.declared.life.LifeStep.TheVariants.{Arrive}
 use Rattle.kube_final.specs.declared.play.Stage.{Stage}
 use Rattle.kube_final.specs.declared.play.Made.{Made}
-use Rattle.kube_final.specs.Finalizers.{decided, decision_on, finalizers_in, patch_on, place_of, replacement}
+use Rattle.kube_final.specs.Finalizers.{decided, decision_on, finalizers_in, patch_on, first_index, replacement}
 use Rattle.kube_final.specs.Lives.{Decided, Past, after, arrived, beginning, decided_on, decisions_after, sent_by, is_life_from, may_follow, past_of, state_after, is_made, is_there, state_of, with_decision}
 use Rattle.kube_final.specs.Playing.{AreMade, AreSent, AreShort, AreSights, IsAnswered, IsDue, IsHeldAs, IsKept, IsMadeAs, IsPatchOf, IsSeenAs, IsSight, IsStage, Serves, is_due, stage_reference, there}
 use Rattle.kube_final.proofs.Staging.{arrived-done, arrived-refused, change-gives, held-only, only, patch-done, patch-refused}
@@ -81,11 +81,11 @@ plain-finalizers (n ∷ ns) = refl
 pub seen-finalizers : (x : DynamicObject) (state : LifeState) → IsSeenAs (seen_object x) state → finalizers_in x.metadata ≡ state.finalizers
 seen-finalizers x state h = ap (λ d. finalizers_in d.metadata) h.is ∙ plain-finalizers state.finalizers
 
-seen-decision : (name : List ℕ) (x : DynamicObject) (state : LifeState) → IsSeenAs (seen_object x) state → decision_on name x.metadata ≡ decided true state.deleting (place_of name state.finalizers) state.finalizers
+seen-decision : (name : List ℕ) (x : DynamicObject) (state : LifeState) → IsSeenAs (seen_object x) state → decision_on name x.metadata ≡ decided true state.deleting (first_index name state.finalizers) state.finalizers
 seen-decision name x state h =
     ap (λ d. decision_on name d.metadata) h.is
-    ∙ ap (λ fs. decided true (is_some h.deleted) (place_of name fs) fs) (plain-finalizers state.finalizers)
-    ∙ ap (λ b. decided true b (place_of name state.finalizers) state.finalizers) h.deleting
+    ∙ ap (λ fs. decided true (is_some h.deleted) (first_index name fs) fs) (plain-finalizers state.finalizers)
+    ∙ ap (λ b. decided true b (first_index name state.finalizers) state.finalizers) h.deleting
 
 made-seen : (name : List ℕ) (m : Made) (x : DynamicObject) (state : LifeState) → IsSeenAs (seen_object x) state → m.decision ≡ decision_on name x.metadata → arc_value m.object ≡ x → IsMadeAs name m (decided_on name state)
 made-seen name m x state h e f = record {

@@ -3,7 +3,7 @@
 ghost use Rattle.std.specs.Prelude.{◌≡◌, ◌≤◌, true, false, [], option_map, IfOk, OnOk, OnErr, IsErr, Some, unwrap_or};
 ghost use Rattle.std.specs.Arc.{arc_value};
 ghost use Rattle.kube_api.specs.ObjectTalk.{patch_answer};
-ghost use Rattle.kube_final.specs.Finalizers.{decided as decided_by, decision_on, finalizers_in, branch_on, branch_of, patch_on, place_of};
+ghost use Rattle.kube_final.specs.Finalizers.{decided as decided_by, decision_on, finalizers_in, branch_on, branch_of, patch_on, first_index};
 ghost use Rattle.kube_final.specs.FinalizerPolls.{IsLeftUnasked, IsPolled, IsSent, answer_by, course, course_of, is_ready, objects_in, outcome_after};
 ghost use Rattle.kube_final.specs.Guarding.{guarding};
 
@@ -87,17 +87,17 @@ pub(crate) fn decided(named: bool, deleting: bool, index: Option<u64>, names: &[
     }
 }
 
-fn place_of(names: &[Text], name: &str) -> Option<usize>
-    ensures { result ≡ place_of name.now names.now }
+fn first_index(names: &[Text], name: &str) -> Option<usize>
+    ensures { result ≡ first_index name.now names.now }
 {
     names.iter().position(|other| other.as_str() == name)
 }
 
-/// The first place of a name.
+/// The index at which a name stands first.
 pub(crate) fn index_of(names: &[Text], name: &str) -> Option<u64>
-    ensures { result ≡ place_of name.now names.now }
+    ensures { result ≡ first_index name.now names.now }
 {
-    match place_of(names, name) {
+    match first_index(names, name) {
         Some(index) => Some(index as u64),
         None => None,
     }
