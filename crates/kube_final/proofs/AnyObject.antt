@@ -1,18 +1,15 @@
 -- What the patches of finalizers make of any object that can be written.
-use Rattle.std.proofs.Common.{◌≡◌, ℕ, ◌^◌, ◌<◌, List, [], ◌∷◌, ◌++◌, map, Option, Some, None, Result, Ok, Err, IfSome, Bool, true, false, cond, bytes_eq, codes, decimal, refl, sym, ap, subst, ◌∙◌, true≢false}
+use Rattle.std.proofs.Common.{◌≡◌, ℕ, ◌^◌, ◌<◌, List, [], ◌∷◌, ◌++◌, Option, Some, None, Ok, IfSome, Bool, true, false, cond, bytes_eq, codes, decimal, refl, sym, ap, subst, ◌∙◌, true≢false}
 use Rattle.std.specs.Prelude.{slice_get, remove, option_map, option_and_then, unwrap_or}
 use Rattle.std.specs.Option.{option_eq}
 use Rattle.std.proofs.lemmas.Slice.Eq.{bytes_eq-Decides}
 use Rattle.serde_json.specs.Data.{Data, null, string, object, Members, no_members, put}
 use Rattle.serde_json.specs.Find.{get, get_member, as_str, unescape}
-use Rattle.serde_json.specs.View.{items_of}
 use Rattle.kube_meta.specs.Reading.{ObjectData, object_data_at, others, unless_empty}
 use Rattle.kube_meta.specs.Writing.{IsContent, IsSmall, as_read, content_members, list_data, meta_data, meta_fields, object_data, type_fields, with_fields, without_empties}
 use Rattle.kube_meta.proofs.ReadBack.{IsReplaced, finalizers_back, object_with, same_put, under_name}
-use Rattle.kube_api.specs.declared.patch.PatchRefusal.{PatchRefusal}
-use Rattle.kube_api.specs.declared.patch.PatchRefusal.TheVariants.{TestFailed}
-use Rattle.kube_api.specs.Patches.{Change, Operation, Tests, Changes, Puts, Takes, added, changed_at, changed_by, changed_member, changed_part, found_at, found_by, has_same, is_object, is_read, passes, patched, removed, stays, text_of}
-use Rattle.kube_server.specs.Servers.{patch_change, patch_document, patch_result, read_patched}
+use Rattle.kube_api.specs.Patches.{Change, Operation, Tests, Changes, Puts, Takes, added, changed_at, changed_by, changed_part, found_at, found_by, has_same, is_object, is_read, passes, removed, stays, text_of}
+use Rattle.kube_server.specs.Servers.{patch_change, patch_document, read_patched}
 use Rattle.kube_final.specs.declared.finalizer.Decision.{Decision}
 use Rattle.kube_final.specs.declared.finalizer.Decision.TheVariants.{Apply, Cleanup, AddFirst, AddMore, Nothing, Unnamed}
 use Rattle.kube_final.specs.FinalizerPatches.{ChangesFinalizers, finalizers_changed, is_as_seen, with_finalizers}

@@ -1,5 +1,5 @@
 -- A deletion that watches a connection to the server from which it deletes.
-use Rattle.std.proofs.Common.{◌≡◌, ℕ, List, Option, Some, sym, ap, subst, ◌∙◌}
+use Rattle.std.proofs.Common.{◌≡◌, ℕ, Some, ap, ◌∙◌}
 use Rattle.kube_meta.specs.declared.dynamic.DynamicObject.{DynamicObject}
 use Rattle.kube_api.specs.ObjectTalk.{ObjectRaw}
 use Rattle.kube_server.specs.Connections.{Connection, IsSameLog, fresh}

@@ -10,12 +10,12 @@ use Rattle.std.proofs.lemmas.List.Elements.{filter_map-append}
 use Rattle.std.proofs.lemmas.List.Folds.{list_any-append}
 use Rattle.kube_meta.specs.Reference.{Reference}
 use Rattle.kube_meta.specs.ReferenceLaws.{same_reference_equiv}
-use Rattle.kube_model.specs.World.{World, Watched, default_settings}
+use Rattle.kube_model.specs.World.{World}
 use Rattle.kube_model.specs.History.{Message, same_message, Exchange, Dated, Taken, exchanges_of}
-use Rattle.kube_model.specs.Fits.{IsOfSource, requests_of_watch, updated}
+use Rattle.kube_model.specs.Fits.{IsOfSource, updated}
 use Rattle.kube_model.specs.Queue.{Request, QueueEvent, Requested as QueueRequested, Settled as QueueSettled, Took as QueueTook, Entry, entry_of, entry_requested, entry_settled}
 use Rattle.kube_model.specs.Requests.{Timed, asked_at, requested_at}
-use Rattle.kube_model.specs.Settled.{about, if_keyed}
+use Rattle.kube_model.specs.Settled.{about}
 use Rattle.kube_model.specs.Store.{found, is_ready, store_of}
 use Rattle.kube_model.proofs.Alls.{all-both, all-map, all-of_map, or-left, or-right}
 use Rattle.kube_model.proofs.Entries.{entry-append, entry_by, on_from}
@@ -25,9 +25,9 @@ use Rattle.kube_model.proofs.SettledSteps.{requests-brought}
 use Rattle.kube_model.proofs.Stores.{IsFoundIn, all-store, distinct-store, each-found, requested}
 use Rattle.kube_model.proofs.Waits.{entry-alike}
 use Rattle.kube_history.specs.CoreWorld.{CoreWorld, world_of}
-use Rattle.kube_history.specs.CoreEvents.{CoreEvent, Answered, Requested, Reloaded, Finished, Settled, Took, Shut, answers_in, cache_of, is_shutdown, moment_of, next_candidate, next_taken, queue_by, queue_of, queue_with, requests_by, root_answers, running_of, take_of, was_shut}
+use Rattle.kube_history.specs.CoreEvents.{CoreEvent, Answered, Requested, Reloaded, Finished, Settled, Took, Shut, answers_in, cache_of, is_shutdown, moment_of, next_candidate, queue_by, queue_of, queue_with, requests_by, root_answers, running_of, take_of, was_shut}
 use Rattle.kube_history.specs.Legal.{AreLegal, IsLegal}
-use Rattle.kube_history.specs.SettledEvents.{AreSettled, IsSettledIn, handed_by, has_entry, last_handed_in}
+use Rattle.kube_history.specs.SettledEvents.{AreSettled, IsSettledIn, handed_by, last_handed_in}
 use Rattle.kube_history.proofs.Segments.{answers-append, queue-append, shut-append}
 
 -- ---- entries after queue events that don't take the message

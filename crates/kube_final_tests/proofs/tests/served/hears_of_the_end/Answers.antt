@@ -1,4 +1,4 @@
-use Rattle.std.proofs.Common.{sym, ap, subst, ◌∙◌}
+use Rattle.std.proofs.Common.{ap, subst, ◌∙◌}
 use Rattle.kube_server.specs.History.{IsLater}
 use Rattle.kube_server.proofs.LaterLemmas.{later_later}
 use Rattle.kube_final_tests.proofs.Fed.{made-behind}

@@ -1,4 +1,4 @@
-use Rattle.std.proofs.Common.{map, ap, sym, refl, subst, ◌∙◌}
+use Rattle.std.proofs.Common.{map, ap, refl, subst, ◌∙◌}
 use Rattle.kube_meta.specs.declared.poll.Polled.TheVariants.{Ready}
 use Rattle.kube_api.specs.Patches.{operation_of}
 use Rattle.kube_api.specs.ObjectTalk.{patch_answer}
