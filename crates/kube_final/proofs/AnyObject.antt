@@ -142,7 +142,7 @@ module _ (o : ObjectData) (content : IsContent o.content) (whole : IfSome o.meta
 
   listed : get_member (codes "finalizers") fields ≡ list_of names
   unfolding meta_fields
-  listed = under_name (codes "finalizers") o.metadata _ refl ∙ list-of-unless o.metadata.finalizers
+  listed = under_name (codes "finalizers") o.metadata (option_map (list_data string) (unless_empty o.metadata.finalizers)) refl ∙ list-of-unless o.metadata.finalizers
 
   read-with : (new : List (List ℕ)) (after : Members) → IsReplaced (codes "finalizers") (names_data new) fields after → object_data_at (document_of besides after) ≡ Ok (as_read (with_finalizers new o))
   read-with new after r = object_with o after (without_empties (record o.metadata { finalizers = Some new })) content (finalizers_back o.metadata new after whole r)

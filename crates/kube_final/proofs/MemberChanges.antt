@@ -53,7 +53,7 @@ here f k l x e ms is h =
       after = member l e ms;
       changed = rw (equal_text k l is, h) refl;
       replaced = record {
-        there = rw is refl;
+        there = ap (λ o. match_ordering o (get_member k ms) (Some e) (get_member k ms)) is;
         others = λ q other. beside q l x e ms (slice_cmp nat_cmp q l) refl (subst (λ n. bytes_eq q n ≡ false) same other);
       };
     }
@@ -64,7 +64,9 @@ behind f k l x e ms o is other keeps c = record {
   after = member l x c.after;
   changed = rw (other_text k l o is other, c.changed) refl;
   replaced = record {
-    there = rw is (ap (λ g. match_ordering o g (Some x) g) c.replaced.there ∙ keeps);
+    there =
+        ap (λ q. match_ordering q (get_member k c.after) (Some x) (get_member k c.after)) is
+        ∙ (ap (λ g. match_ordering o g (Some x) g) c.replaced.there ∙ keeps);
     others = λ q differs. ap (λ g. match_ordering (slice_cmp nat_cmp q l) g (Some x) g) (c.replaced.others q differs);
   };
 }

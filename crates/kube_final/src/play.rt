@@ -6,7 +6,7 @@ ghost use Rattle.kube_meta.specs.Reading.{seen_object};
 ghost use Rattle.kube_meta.specs.Reference.{Reference};
 ghost use Rattle.kube_meta.specs.Resources.{dynamic_reference, resource_type};
 ghost use Rattle.kube_api.specs.Patches.{operation_of};
-ghost use Rattle.kube_server.specs.Servers.{held as held_by, reference_key};
+ghost use Rattle.kube_server.specs.Servers.{reference_key};
 ghost use Rattle.kube_final.specs.declared.life.LifeState.{LifeState as State};
 ghost use Rattle.kube_final.specs.Finalizers.{decision_on};
 ghost use Rattle.kube_final.specs.Lives.{Decided, Past, after, arrived, beginning, decision_at, decisions_after, first_state, is_life, past_of, sent_by, is_made, is_there, may_follow, state_after, state_at, state_of as state_with, with_decision};

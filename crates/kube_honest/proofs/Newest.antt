@@ -1,22 +1,20 @@
 -- A root whose open watch has told all stores the newest state.
-use Rattle.std.proofs.Common.{◌≡◌, ℕ, ◌≤◌, ◌<◌, ◌^◌, inl, inr, Bool, true, false, List, [], ◌∷◌, ◌++◌, map, fold, length, Option, Some, refl, sym, ap, subst, ◌∙◌, arith}
+use Rattle.std.proofs.Common.{◌≡◌, ℕ, ◌≤◌, ◌<◌, ◌^◌, inl, inr, Bool, true, false, List, [], ◌∷◌, ◌++◌, map, length, Option, Some, refl, sym, ap, subst, ◌∙◌, arith}
 use Rattle.std.specs.Prelude.{decimal}
 use Rattle.std.proofs.lemmas.Bool.{false≢true}
 use Rattle.kube_meta.specs.declared.metadata.ObjectMeta.{ObjectMeta}
 use Rattle.kube_model.specs.declared.call.Call.TheVariants.{Next}
 use Rattle.kube_model.specs.World.{Settings}
 use Rattle.kube_model.specs.Raw.{Raw, RawAnswer, GivesAdded, GivesBookmark}
-use Rattle.kube_server.specs.History.{Key, Change, changed, objects_of, state_at, IsHistory}
+use Rattle.kube_server.specs.History.{Key, Change, IsHistory}
 use Rattle.kube_server.specs.Numbers.{number_at}
 use Rattle.kube_server.specs.Honest.{Selection, ListTold, WatchTold, watch_told, selected_between, Follow}
-use Rattle.kube_server.specs.Readers.{IsByKey, HasToldAllBy, IsToldAll, selected_state}
+use Rattle.kube_server.specs.Readers.{IsByKey, HasToldAllBy, IsToldAll}
 use Rattle.kube_server.proofs.NumberLemmas.{number_at-decimal}
-use Rattle.kube_server.proofs.ReaderLemmas.{states-selected}
 use Rattle.kube_server.proofs.TalkLemmas.{between}
-use Rattle.kube_server.proofs.WholeLemmas.{objects-selected}
 use Rattle.kube_honest.specs.States.{selection_by}
 use Rattle.kube_honest.proofs.Finds.{under}
-use Rattle.kube_honest.proofs.Follows.{at_revision}
+use Rattle.kube_honest.proofs.Follows.{at_revision, stays}
 use Rattle.kube_honest.proofs.Phases as phases
 use Rattle.kube_honest.proofs.Summaries.{Summary}
 
@@ -69,16 +67,6 @@ module _ {V : Type 0} (meta : V → ObjectMeta) (selects : Selection → V → B
   begins-all told from later known by (inl b) h = later-all told from later known b (all-by false told b.initial by h)
   begins-all told from later known by (inr b) h = mark-all told from later known b (all-by true told b.initial by h)
 
-  -- from there to the newest revision the state stays
-  newest-state : (to : ℕ) → to ≤ length history → selected_between meta selects history selection to (length history) ≡ [] → (k : Key)
-      → at_revision meta selects history selection by_key is_history to k ≡ at_revision meta selects history selection by_key is_history (length history) k
-  newest-state to known quiet k =
-      let states : selected_state meta selects history selection to ≡ selected_state meta selects history selection (length history) =
-      ap (λ cs. fold (changed meta) (selected_state meta selects history selection to) cs) (sym quiet) ∙ states-selected meta selects history selection to (length history) is_history by_key known in
-      ap (under meta k)
-      (objects-selected (selects selection) (state_at meta history to)
-      ∙ (ap objects_of states ∙ sym (objects-selected (selects selection) (state_at meta history (length history)))))
-
   -- an initial watch that has told all gave more than objects
   never-marked : (xs ys : List V) (e : RawAnswer V) (es : List (RawAnswer V)) → phases.is_added e ≡ false → map GivesAdded xs ++ e ∷ es ≡ map GivesAdded ys → ⊥
   never-marked [] [] e es n h = cc
@@ -99,7 +87,7 @@ module _ {V : Type 0} (meta : V → ObjectMeta) (selects : Selection → V → B
       let same : w ≡ later.told = let e : Some w ≡ Some later.told = sym is ∙ later.is in cc in
       let r = begins-all later.told later.from later.later later.known later.by later.begins (subst (λ t. HasAll t.initial t.selection t.version t.events) same h) in
       let known = (between meta selects history selection later.from later.later r.to later.known r.follow).known in
-      later.follows r.to r.follow k ∙ newest-state r.to known r.quiet k
+      later.follows r.to r.follow k ∙ sym (stays meta selects history selection by_key is_history r.to (length history) known r.quiet k)
 
   pub newest-finds : (list : Option (ListTold V)) (talk : List (Raw V)) (s : Summary V) → phases.Holds meta selects history settings by_key is_history small list (watch_told talk) s → s.owed ≡ Next
       → IsToldAll meta selects history talk → (k : Key) → under meta k s.store ≡ at_revision meta selects history selection by_key is_history (length history) k
