@@ -11,7 +11,7 @@ pub mod WatchLemmas
 pub mod NumberLemmas
 pub mod ListLemmas
 pub mod StandingLemmas
-pub mod PlaceLemmas
+pub mod IndexLemmas
 pub mod SelectorLemmas
 pub mod LogLemmas
 pub mod ConnLemmas

@@ -14,8 +14,8 @@ ghost use Rattle.kube_server.specs.Connections.{fresh, selected_by, token_asked,
 ghost use Rattle.kube_server.specs.Servers.{meta_of};
 ghost use Rattle.kube_server.specs.Stored.{change_of, name_of};
 ghost use Rattle.kube_server.specs.Watches.{watch_of};
-ghost use Rattle.kube_server.specs.Places.{IsNextPlace};
-ghost use Rattle.kube_server.specs.Standing.{IsCurrentPlace};
+ghost use Rattle.kube_server.specs.Indices.{IsNextIndex};
+ghost use Rattle.kube_server.specs.Standing.{IsCurrentIndex};
 
 use crate::entry::Entry;
 use crate::log::Log;
@@ -137,7 +137,7 @@ fn within(
     })
 }
 
-/// A page of what is left of a list at a place; a limit of 0 is none.
+/// A page of what is left of a list from a token on; a limit of 0 is none.
 fn page(
     alloc: Global,
     objects: &[Arc<DynamicObject>],
@@ -161,7 +161,7 @@ fn is_known(revision: u64, compacted: u64, newest: usize) -> bool
     compacted <= revision && revision <= newest as u64
 }
 
-/// Where a list goes on; none where its token says no such place.
+/// The token from which a list goes on; none where that names no revision that is known.
 fn asked_token(asked: &Option<Text>, compacted: u64, newest: usize) -> Option<Token>
     ensures known { IfSome result (λ t. t.revision ≤ newest) }
     ensures token { (changes : List (Change DynamicObject)) → length changes ≡ newest → option_map token_of result ≡ token_asked (fresh changes compacted) asked.now }
@@ -180,7 +180,7 @@ fn asked_token(asked: &Option<Text>, compacted: u64, newest: usize) -> Option<To
     }
 }
 
-/// The page of a list at a place.
+/// The page of a list from a token on.
 fn page_at(
     alloc: Global,
     log: &mut Log,
@@ -274,9 +274,9 @@ fn asked_watch(
     Ok(Some(opened_watch(alloc, log, compacted, name, initial, version)?))
 }
 
-/// The place of the next entry that the open watch gives.
-fn current_place(watch: &Option<Watching>, log: &[Entry]) -> usize
-    ensures { IsCurrentPlace (option_map watch_of watch.now) (map change_of log.now) result }
+/// The index of the next entry that the open watch gives.
+fn current_index(watch: &Option<Watching>, log: &[Entry]) -> usize
+    ensures { IsCurrentIndex (option_map watch_of watch.now) (map change_of log.now) result }
 {
     match watch {
         Some(watch) => watch.seek(log),
@@ -289,13 +289,13 @@ fn next_event(
     alloc: Global,
     watch: &Option<Watching>,
     log: &[Entry],
-    place: usize,
+    index: usize,
 ) -> Result<Polled<Option<Result<WatchEvent<DynamicObject>, ApiError>>>, NoMemory>
-    requires { IsCurrentPlace (option_map watch_of watch.now) (map change_of log.now) place }
+    requires { IsCurrentIndex (option_map watch_of watch.now) (map change_of log.now) index }
     ensures { IfOk result (λ a. next_answer a ≡ poll_current meta_of (map change_of log.now) (option_map watch_of watch.now)) }
 {
     match watch {
-        Some(watch) => watch.answer(alloc, log, place),
+        Some(watch) => watch.answer(alloc, log, index),
         None => Ok(Polled::Ready(None)),
     }
 }
@@ -315,12 +315,12 @@ fn copy_next(
 }
 
 /// Goes past what the open watch was polled.
-fn advance(watch: &mut Option<Watching>, log: &[Entry], place: usize)
-    requires { IsCurrentPlace (option_map watch_of watch.old) (map change_of log.now) place }
+fn advance(watch: &mut Option<Watching>, log: &[Entry], index: usize)
+    requires { IsCurrentIndex (option_map watch_of watch.old) (map change_of log.now) index }
     ensures { option_map watch_of watch.new ≡ left_current meta_of (map change_of log.now) (option_map watch_of watch.old) }
 {
     if let Some(watch) = watch {
-        watch.advance(log, place);
+        watch.advance(log, index);
     }
 }
 
@@ -450,11 +450,11 @@ impl ApiMode for Conn {
         ensures rises { self.old.failures ≤ self.new.failures }
     {
         let log = self.log.entries();
-        let place = current_place(&self.watch, log);
-        let answer = next_event(alloc, &self.watch, log, place)?;
+        let index = current_index(&self.watch, log);
+        let answer = next_event(alloc, &self.watch, log, index)?;
         let kept = copy_next(alloc, &answer)?;
         self.talk.tell(Told::Next(kept))?;
-        advance(&mut self.watch, self.log.entries(), place);
+        advance(&mut self.watch, self.log.entries(), index);
         Ok(answer)
     }
 }
