@@ -57,7 +57,8 @@ pub(crate) fn found<'a>(
     ensures { IfOk result (λ o. option_map (λ a. seen_object (arc_value a)) (option_copied o) ≡ held_under server.now (key_of meta.now)) }
 {
     let key = reference(alloc, server, meta)?;
-    server.get(alloc, &key)
+    let object = server.get(alloc, &key)?;
+    Ok(object)
 }
 
 // ---- puts

@@ -110,7 +110,7 @@ fn fault_of(
 }
 
 /// What was done, by the decision and what failed.
-fn handled(decision: Decision, fault: Option<GenFault>) -> Handled
+fn done(decision: Decision, fault: Option<GenFault>) -> Handled
     ensures { result ≡ handled_so decision fault }
 {
     let succeeded = fault.is_none();
@@ -159,5 +159,6 @@ pub(crate) fn hand_over(
     let owed = guard.event()?;
     let branch = run_branch(alloc, children, parents.resource(), owed)?;
     let answer = poll(alloc, parents, &mut guard, &namespace, branch, now)?;
-    Ok(handled(decision, fault_of(answer)?))
+    let fault = fault_of(answer)?;
+    Ok(done(decision, fault))
 }

@@ -74,7 +74,7 @@ fn only(alloc: Global, owner: &OwnerReference) -> Result<List<OwnerReference>, N
 /// The data of a child.
 ///
 /// Errors: `NoMemory`.
-fn content(alloc: Global, value: &Value) -> Result<Value, NoMemory>
+fn content_of(alloc: Global, value: &Value) -> Result<Value, NoMemory>
     ensures { IfOk result (λ v. view v ≡ object (member (codes "spec") (view value.now) no_members)) }
 {
     let copy = value.clone()?;
@@ -99,7 +99,7 @@ fn new_child(
     metadata.name = Some(named(alloc, text_of(&parent.name), member)?);
     metadata.namespace = copy_option(alloc, &parent.namespace)?;
     metadata.owner_references = Some(only(alloc, owner)?);
-    let content = content(alloc, value)?;
+    let content = content_of(alloc, value)?;
     Ok(DynamicObject {
         types: None,
         metadata,

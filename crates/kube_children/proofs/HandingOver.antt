@@ -1,0 +1,148 @@
+-- A hand-over, from its branch and the poll of its finalizer.
+use Rattle.std.proofs.Common.{◌≡◌, ℕ, true, false, List, Option, Some, None, Result, Ok, Err, is_none, refl, sym, ap, subst, ◌∙◌}
+use Rattle.kube_meta.specs.declared.dynamic.DynamicObject.{DynamicObject}
+use Rattle.kube_meta.specs.declared.poll.Polled.{Polled}
+use Rattle.kube_meta.specs.declared.poll.Polled.TheVariants.{Ready, NotReady}
+use Rattle.kube_meta.specs.Reading.{ObjectData, seen_object}
+use Rattle.kube_meta.specs.Reference.{ObjectType}
+use Rattle.kube_model.specs.declared.error.ApiError.{ApiError}
+use Rattle.kube_api.specs.declared.patch.PatchRefusal.{PatchRefusal}
+use Rattle.kube_api.specs.ObjectTalk.{ObjectAnswer, AnswersLater, AnswersFault, AnswersObject, AnswersGone, AnswersNone, AnswersRefusal}
+use Rattle.kube_server.specs.Servers.{ServerState}
+use Rattle.kube_server.specs.ObjectCalls.{answer_seen}
+use Rattle.kube_final.specs.declared.finalizer.Decision.{Decision}
+use Rattle.kube_final.specs.declared.finalizer.Decision.TheVariants.{Apply, Cleanup, AddFirst, AddMore, Nothing, Unnamed}
+use Rattle.kube_final.specs.declared.finalizer.PatchFailed.TheVariants.{Refused, Fault}
+use Rattle.kube_final.specs.Finalizers.{Branch, branch_on, decision_on}
+use Rattle.kube_final.specs.FinalizerPolls.{Answer, answer_by, applied, course, failed}
+use Rattle.kube_children.specs.declared.hand_over.Handled.{Handled}
+use Rattle.kube_children.specs.declared.round.GenFault.{GenFault}
+use Rattle.kube_children.specs.declared.round.GenFault.TheVariants.{Patch}
+use Rattle.kube_children.specs.Branches.{Holding, holding, apply_fault, name_in}
+use Rattle.kube_children.specs.HandOvers.{Servers, IsHandedOver, IsLeftOn, after_branch, answer_on, handled_by, operations_on, patch_fault}
+use Rattle.kube_children.specs.Handling.{IsPolledOn, IsPolledTo, IsSentTo, after_owed, branch_result, ended_by, fault_told, handled_so}
+
+-- ---- what failed, by the answer of a patch
+
+told-refused : (d : Decision) (r : PatchRefusal) → fault_told (Ready (Err (failed d (Refused r)))) ≡ Some (Some (Patch r))
+told-refused Apply r = refl
+told-refused (Cleanup i) r = refl
+told-refused AddFirst r = refl
+told-refused AddMore r = refl
+told-refused Nothing r = refl
+told-refused Unnamed r = refl
+
+told-fault : (d : Decision) (e : ApiError) → fault_told (Ready (Err (failed d (Fault e)))) ≡ None
+told-fault Apply e = refl
+told-fault (Cleanup i) e = refl
+told-fault AddFirst e = refl
+told-fault AddMore e = refl
+told-fault Nothing e = refl
+told-fault Unnamed e = refl
+
+answered : (d : Decision) (answer : Polled (Answer GenFault)) (f : Option GenFault) (server : ObjectAnswer ObjectData) (patched : ObjectAnswer DynamicObject)
+    → answer_by d None patched ≡ Some answer → answer_seen seen_object patched ≡ server → fault_told answer ≡ Some f → f ≡ patch_fault server
+answered d answer f server AnswersLater a e t =
+    let is : NotReady ≡ answer = cc in
+    let no : None ≡ Some f = ap fault_told is ∙ t in
+    absurd (cc)
+answered d answer f server (AnswersFault x) a e t =
+    let is : Ready (Err (failed d (Fault x))) ≡ answer = cc in
+    let no : None ≡ Some f = sym (told-fault d x) ∙ (ap fault_told is ∙ t) in
+    absurd (cc)
+answered d answer f server (AnswersObject x) a e t =
+    let is : Ready (Ok None) ≡ answer = cc in
+    let both : Some None ≡ Some f = ap fault_told is ∙ t in
+    let none : f ≡ None = cc in
+    none ∙ ap patch_fault e
+answered d answer f server (AnswersGone x) a e t = absurd (cc)
+answered d answer f server AnswersNone a e t = absurd (cc)
+answered d answer f server (AnswersRefusal r) a e t =
+    let is : Ready (Err (failed d (Refused r))) ≡ answer = cc in
+    let both : Some (Some (Patch r)) ≡ Some f = sym (told-refused d r) ∙ (ap fault_told is ∙ t) in
+    let some : f ≡ Some (Patch r) = cc in
+    some ∙ ap patch_fault e
+
+-- ---- what was done, by what failed
+
+abbrev cleaned : Option GenFault → Handled
+cleaned f = record { fault = f; applied = false; cleaned = true; patched = is_none f }
+
+abbrev added : Option GenFault → Handled
+added f = record { fault = f; applied = false; cleaned = false; patched = is_none f }
+
+so-cleaned : (i : ℕ) (f : Option GenFault) → handled_so (Cleanup i) f ≡ cleaned f
+so-cleaned i None = refl
+so-cleaned i (Some x) = refl
+
+so-added-first : (f : Option GenFault) → handled_so AddFirst f ≡ added f
+so-added-first None = refl
+so-added-first (Some x) = refl
+
+so-added-more : (f : Option GenFault) → handled_so AddMore f ≡ added f
+so-added-more None = refl
+so-added-more (Some x) = refl
+
+-- ---- by the decision
+
+module _ (kind : ObjectType) (name : List ℕ) (o : DynamicObject) (at : ℕ) (ps ps' : ServerState) (h : Holding) (answer : Polled (Answer GenFault)) (f : Option GenFault) (told : fault_told answer ≡ Some f) where
+  abbrev Polls : Decision → Option (Result (Option ℕ) GenFault) → Type 0
+  Polls d branch = IsPolledTo o.metadata.namespace (name_in o.metadata) (operations_on name o.metadata) d (course d None branch) at ps answer ps'
+
+  abbrev Comes : Decision → Type 0
+  Comes d = (handled_so d f ≡ handled_by d (apply_fault kind (seen_object o) h) (answer_on name o.metadata ps)) × IsLeftOn d name o.metadata ps ps'
+
+  by-fault : (fault : Option GenFault) → IsPolledTo o.metadata.namespace (name_in o.metadata) (operations_on name o.metadata) Apply (applied (Some (ended_by fault))) at ps answer ps'
+      → (handled_so Apply f ≡ handled_by Apply fault (answer_on name o.metadata ps)) × (ps' ≡ ps)
+  by-fault None p =
+      let both : Some None ≡ Some f = sym (ap fault_told p.0) ∙ told in
+      let none : f ≡ None = cc in
+      (ap (handled_so Apply) none, p.1)
+  by-fault (Some x) p =
+      let both : Some (Some x) ≡ Some f = sym (ap fault_told p.0) ∙ told in
+      let some : f ≡ Some x = cc in
+      (ap (handled_so Apply) some, p.1)
+
+  by-patch : (d : Decision) → IsSentTo o.metadata.namespace (name_in o.metadata) (operations_on name o.metadata) d None at ps answer ps' → f ≡ patch_fault (answer_on name o.metadata ps)
+  by-patch d s = answered d answer f (answer_on name o.metadata ps) s.patched s.answers s.told told
+
+  pub by-decision : (d : Decision) → Polls d (branch_result kind h (branch_on d o)) → Comes d
+  by-decision Apply p = by-fault (apply_fault kind (seen_object o) h) p
+  by-decision (Cleanup i) p = (so-cleaned i f ∙ ap cleaned (by-patch (Cleanup i) p), p.left)
+  by-decision AddFirst p = (so-added-first f ∙ ap added (by-patch AddFirst p), p.left)
+  by-decision AddMore p = (so-added-more f ∙ ap added (by-patch AddMore p), p.left)
+  by-decision Nothing p =
+      let both : Some None ≡ Some f = sym (ap fault_told p.0) ∙ told in
+      let none : f ≡ None = cc in
+      (ap (handled_so Nothing) none, p.1)
+  by-decision Unnamed p =
+      let both : Some None ≡ Some f = sym (ap fault_told p.0) ∙ told in
+      let none : f ≡ None = cc in
+      (ap (handled_so Unnamed) none, p.1)
+
+branch-left : (d : Decision) (kind : ObjectType) (o : DynamicObject) (h : Holding) → after_owed kind (branch_on d o) h ≡ after_branch d kind (seen_object o) h
+branch-left Apply kind o h = refl
+branch-left (Cleanup i) kind o h = refl
+branch-left AddFirst kind o h = refl
+branch-left AddMore kind o h = refl
+branch-left Nothing kind o h = refl
+branch-left Unnamed kind o h = refl
+
+-- ---- the whole
+
+pub handed-over : (kind : ObjectType) (name : List ℕ) (o : DynamicObject) (at : ℕ) (ps cs ps' cs' : ServerState) (owed : Option (Branch DynamicObject)) (branch : Option (Result (Option ℕ) GenFault))
+    (answer : Polled (Answer GenFault)) (f : Option GenFault) (h : Handled)
+    → owed ≡ branch_on (decision_on name o.metadata) o → branch ≡ branch_result kind (holding cs) owed → holding cs' ≡ after_owed kind owed (holding cs) → cs'.kind ≡ cs.kind
+    → IsPolledOn o.metadata.namespace name o.metadata None branch at ps answer ps' → fault_told answer ≡ Some f → h ≡ handled_so (decision_on name o.metadata) f
+    → IsHandedOver kind name o (record { parents = ps; children = cs }) h (record { parents = ps'; children = cs' })
+handed-over kind name o at ps cs ps' cs' owed branch answer f h owes ran left same polled told is =
+    let d = decision_on name o.metadata in
+    let ends : branch ≡ branch_result kind (holding cs) (branch_on d o) = ran ∙ ap (branch_result kind (holding cs)) owes in
+    let p = subst (λ b. IsPolledTo o.metadata.namespace (name_in o.metadata) (operations_on name o.metadata) d (course d None b) at ps answer ps') ends polled in
+    let comes = by-decision kind name o at ps ps' (holding cs) answer f told d p in
+    record {
+      done = is ∙ comes.0;
+      parents = comes.1;
+      children = left ∙ (ap (λ w. after_owed kind w (holding cs)) owes ∙ branch-left d kind o (holding cs));
+      same_type = same;
+    }

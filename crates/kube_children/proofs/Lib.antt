@@ -1,0 +1,6 @@
+pub mod Holdings
+pub mod Branching
+pub mod HandingOver
+pub mod Dealing
+pub mod Asking
+pub mod Rounding
