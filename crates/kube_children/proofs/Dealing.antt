@@ -1,11 +1,10 @@
 -- Takes that are dealt with, one after another.
 use Rattle.std.proofs.Common.{◌≡◌, ℕ, ◌+◌, ◌≤◌, ◌^◌, min, Bool, true, false, cond, not, ◌&&◌, ◌||◌, List, [], ◌∷◌, ◌++◌, map, length, fold, filter, filter_map, flat_map, count_by, Option, Some, None, Result, Ok, Err, is_none, refl, sym, ap, subst, ◌∙◌, append_assoc, append-nil, arith}
 use Rattle.std.specs.List.{cons_option, list_any}
-use Rattle.std.proofs.lemmas.List.Sums.{fold-append}
-use Rattle.std.proofs.lemmas.Slice.Eq.{bytes_eq-Decides}
+use Rattle.std.proofs.lemmas.List.Sums.{fold-append, sum_by_from}
 use Rattle.kube_meta.specs.declared.dynamic.DynamicObject.{DynamicObject}
 use Rattle.kube_meta.specs.Reference.{ObjectType, Reference, same_reference}
-use Rattle.kube_meta.specs.ReferenceLaws.{seen_equiv}
+use Rattle.kube_meta.specs.ReferenceLaws.{same_reference_equiv}
 use Rattle.kube_model.specs.History.{Exchange, Taken}
 use Rattle.kube_model.specs.Takes.{Running, runs, started}
 use Rattle.kube_history.specs.CoreEvents.{CoreEvent, Took, Finished, answers_in, running_of, running_with, was_shut, is_shutdown, answer_in}
@@ -46,7 +45,7 @@ counts-more r ds d = fold-append (λ counts x. with_handled counts x.handled) r 
 -- ---- what runs
 
 same-itself : (r : Reference) → same_reference r r ≡ true
-same-itself r = (seen_equiv (λ (x : Reference). x)).refl r
+same-itself r = same_reference_equiv.refl r
 
 runs-last : (rs : List (Running DynamicObject)) (p : Running DynamicObject) → runs (rs ++ p ∷ []) p.reference ≡ true
 runs-last [] p = ap (λ b. b || false) (same-itself p.reference)
@@ -127,6 +126,11 @@ one-fault (Some x) fs = refl
 zero-more : (n : ℕ) → n + 0 ≡ n
 zero-more n = omega arith
 
+count-first : (p : Dealt → Bool) (d : Dealt) (ds : List Dealt) → count_by p (d ∷ ds) ≡ cond (p d) 1 0 + count_by p ds
+count-first p d ds =
+    let begun = sum_by_from (λ x. cond (p x) 1 0) (0 + cond (p d) 1 0) ds in
+    omega (arith, begun)
+
 -- counts go on from what was counted before
 tally : (r : Round) (ds : List Dealt) (a c p : ℕ) → r.applied ≡ counted a → r.cleaned ≡ counted c → r.patched ≡ counted p
     → with_dealt r ds ≡ record r {
@@ -140,9 +144,12 @@ tally r (d ∷ ds) a c p ha hc hp =
     let n = count_by (λ x. x.handled.applied) ds in
     let m = count_by (λ x. x.handled.cleaned) ds in
     let k = count_by (λ x. x.handled.patched) ds in
-    let applied : n + (cond h.applied 1 0 + a) ≡ (cond h.applied 1 0 + n) + a = omega arith in
-    let cleaned : m + (cond h.cleaned 1 0 + c) ≡ (cond h.cleaned 1 0 + m) + c = omega arith in
-    let patched : k + (cond h.patched 1 0 + p) ≡ (cond h.patched 1 0 + k) + p = omega arith in
+    let first_applied = count-first (λ x. x.handled.applied) d ds in
+    let first_cleaned = count-first (λ x. x.handled.cleaned) d ds in
+    let first_patched = count-first (λ x. x.handled.patched) d ds in
+    let applied : n + (cond h.applied 1 0 + a) ≡ count_by (λ x. x.handled.applied) (d ∷ ds) + a = omega (arith, first_applied) in
+    let cleaned : m + (cond h.cleaned 1 0 + c) ≡ count_by (λ x. x.handled.cleaned) (d ∷ ds) + c = omega (arith, first_cleaned) in
+    let patched : k + (cond h.patched 1 0 + p) ≡ count_by (λ x. x.handled.patched) (d ∷ ds) + p = omega (arith, first_patched) in
     let failed : (r.failed ++ cons_option h.fault []) ++ faults_of ds ≡ r.failed ++ cons_option h.fault (faults_of ds) =
     append_assoc r.failed (cons_option h.fault []) (faults_of ds) ∙ ap (λ fs. r.failed ++ fs) (one-fault h.fault (faults_of ds)) in
     tally (with_handled r h) ds (cond h.applied 1 0 + a) (cond h.cleaned 1 0 + c) (cond h.patched 1 0 + p)

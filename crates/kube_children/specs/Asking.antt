@@ -1,6 +1,6 @@
 -- Asks of a round, one after another, each told to the core. B is the type of a backoff's states.
 use Rattle.std.specs.Prelude.{◌≡◌, ◌⊎◌, ◌≤◌, ℕ, Bool, true, false, List, [], ◌∷◌, ◌++◌, map, length, Option, Some, None}
-use Rattle.std.specs.List.{list_any}
+use Rattle.std.specs.List.{list_any, AllByRecursion}
 use Rattle.std.specs.declared.alloc.Global.{Global}
 use Rattle.std.specs.declared.sync.Arc.{Arc}
 use Rattle.kube_meta.specs.declared.dynamic.ApiResource.{ApiResource}
@@ -48,6 +48,7 @@ module _ {B : Type 0} (delays : backoff.Ghosts B) (first : B) (kind : ObjectType
   -- these were made, from the first of the round on
   pub record AreAskedSo (budget : ℕ) (before : List (Dated DynamicObject)) (es : List (CoreEvent DynamicObject)) (at : ℕ) (a : Asking Root NoRelated B) (xs : List (Exchange DynamicObject)) (a' : Asking Root NoRelated B) (core' : Parts DynamicObject (Arc ApiResource Global)) : Type 0 where
     pub polled : ArePolled root_polls related_polls before a.root a.related (dated at xs) a'.root a'.related
+    pub own : AllByRecursion (λ x. x.source ≡ 0) xs
     pub may : MayAsk (budget ∷ []) before (dated at xs) (es ++ map (Answered at) xs) a' core'
 
   -- all that were left to make
