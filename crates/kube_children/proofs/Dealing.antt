@@ -83,7 +83,7 @@ no-answers-by : (at : ℕ) (r : Reference) (found : Option DynamicObject) (h : H
 no-answers-by at r None h = refl
 no-answers-by at r (Some o) h = refl
 
-answers-join : (es fs : List (CoreEvent DynamicObject)) → answers_in (es ++ fs) ≡ answers_in es ++ answers_in fs
+pub answers-join : (es fs : List (CoreEvent DynamicObject)) → answers_in (es ++ fs) ≡ answers_in es ++ answers_in fs
 answers-join [] fs = refl
 answers-join (e ∷ es) fs = by-answer (answer_in e) (answers-join es fs)
   where
