@@ -187,8 +187,8 @@ module _ {B : Type 0} (delays : backoff.Ghosts B) (first : B) where
 -- ---- until it is spent
 
 -- the log of the connection stays in a round, and the parents' log goes on
-pub live-after : (old new : ServerState) (fed kept : Connection DynamicObject) → fed.changes ≡ old.changes → fed.compacted ≡ old.compacted → IsSameLog fed kept
+pub live-after : (old new : ServerState) (start kept : Connection DynamicObject) → start.changes ≡ old.changes → start.compacted ≡ old.compacted → IsSameLog start kept
     → IsLater old.changes new.changes old.compacted new.compacted → IsLater kept.changes new.changes kept.compacted new.compacted
-live-after old new fed kept changes compacted same later =
+live-after old new start kept changes compacted same later =
     later_later kept.changes old.changes new.changes kept.compacted old.compacted new.compacted
     (later_equal kept.changes old.changes kept.compacted old.compacted (same.0 ∙ changes) (same.1 ∙ compacted)) later

@@ -14,9 +14,9 @@ use Rattle.kube_children.specs.declared.round.GenError.{GenError}
 use Rattle.kube_children.specs.declared.round.GenError.TheVariants.{BadMoment}
 
 -- an object that is put holds no number that is neither a `u64` nor an `i64`
-abbrev pub IsPlain : Change → Type 0
-IsPlain (Put object) = has_float (view object.content) ≡ false
-IsPlain (Delete reference) = Unit {0}
+abbrev pub is_plain : Change → Bool
+is_plain (Put object) = not (has_float (view object.content))
+is_plain (Delete reference) = true
 
 -- over an object that is there its uid, its finalizers and its deletion timestamp stay
 abbrev pub put_as : Option ObjectData → ObjectData → ObjectData

@@ -6,9 +6,10 @@ ghost use Rattle.kube_meta.specs.Keys.{is_named};
 ghost use Rattle.kube_meta.specs.Reading.{seen_object};
 ghost use Rattle.kube_server.specs.History.{key_of, IsLater};
 ghost use Rattle.kube_server.specs.Servers.{held_under, newest, put_change, IsStep};
-ghost use Rattle.kube_children.specs.Changes.{put_as};
+ghost use Rattle.kube_children.specs.Changes.{is_plain, put_as};
 
 use crate::branch::found;
+use kube_api::patch::holds_fraction;
 use kube_meta::text::{copy_option, copy_texts};
 use kube_meta::{DynamicObject, List, NoMemory, ObjectMeta, ObjectRef, Text};
 use kube_server::{Server, ServerRefusal};
@@ -22,6 +23,19 @@ pub enum Change {
     Put(DynamicObject),
     /// The object of a reference is asked to go.
     Delete(ObjectRef<DynamicObject>),
+}
+
+impl Change {
+    /// Whether an object that is put holds no number that is neither a `u64` nor an `i64`. One that `kube_meta::read_object`
+    /// has read holds none.
+    pub fn is_plain(&self) -> bool
+        ensures { result ≡ is_plain self.now }
+    {
+        match self {
+            Change::Put(object) => !holds_fraction(&object.content),
+            Change::Delete(_) => true,
+        }
+    }
 }
 
 /// The finalizers of an object, in memory of their own.

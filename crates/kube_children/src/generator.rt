@@ -6,7 +6,7 @@ ghost use Rattle.kube_backoff.specs.Backoffs.{default_backoff};
 ghost use Rattle.kube_server.specs.History.{IsLater};
 ghost use Rattle.kube_server.specs.Servers.{newest};
 ghost use Rattle.kube_children.specs.declared.round.GenError.TheVariants as errors;
-ghost use Rattle.kube_children.specs.Changes.{IsChanged, IsPlain, is_unnamed, names_none, refusal_of};
+ghost use Rattle.kube_children.specs.Changes.{IsChanged, is_plain, is_unnamed, names_none, refusal_of};
 ghost use Rattle.kube_children.specs.Generators.{Past, StandsFor, IsRound, no_rounds};
 ghost use Rattle.kube_children.specs.Kept.{AreNewParents, HoldsWhatParentsWant, IsAtRest, Keeps, had_foreign};
 ghost use Rattle.kube_children.specs.Rounds.{conn_of, fed};
@@ -134,7 +134,8 @@ impl Generator {
     }
 
     /// Puts a parent, or asks one to go, at a moment in nanoseconds, and answers the newest revision of the parents. A put over
-    /// a parent that is there keeps its uid, its finalizers and its deletion timestamp, whatever the object brings.
+    /// a parent that is there keeps its uid, its finalizers and its deletion timestamp, whatever the object brings. An object
+    /// that is put holds no number that is neither a `u64` nor an `i64` (`Change::is_plain`).
     ///
     /// # Errors
     ///
@@ -146,7 +147,7 @@ impl Generator {
         change: Change,
         now: Moment,
     ) -> Result<u64, ServerRefusal>
-        requires whole { IsPlain change }
+        requires plain { is_plain change ≡ true }
         ensures revision { IfOk result (λ r. r ≡ newest self.new.servers.parents) }
         ensures changed { OnOk result (IsChanged change now.0 self.old.servers.parents self.new.servers.parents) }
         ensures unnamed { (result ≡ Err ServerRefusal.Unnamed) ↔ (is_unnamed change ≡ true) }
