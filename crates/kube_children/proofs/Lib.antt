@@ -1,3 +1,4 @@
+pub mod Wanting
 pub mod Holdings
 pub mod Branching
 pub mod HandingOver
