@@ -1,6 +1,8 @@
 -- What a server holds, as it is seen, after one change more.
-use Rattle.std.proofs.Common.{◌≡◌, ℕ, ◌+◌, Bool, true, false, cond, List, [], ◌∷◌, ◌++◌, length, map, option_map, Option, Some, None, Ordering, Less, Equal, Greater, refl, sym, ap, subst, ◌∙◌, length-append}
+use Rattle.std.proofs.Common.{◌≡◌, ℕ, ◌+◌, Bool, true, false, cond, List, [], ◌∷◌, ◌++◌, length, map, option_map, Option, Some, None, Ordering, Less, Equal, Greater, Global, refl, sym, ap, subst, ◌∙◌, length-append}
+use Rattle.std.specs.Arc.{arc_value}
 use Rattle.std.specs.Ordering.{match_ordering}
+use Rattle.std.specs.declared.sync.Arc.{Arc}
 use Rattle.std.proofs.lemmas.Slice.Eq.{bytes_eq-Decides}
 use Rattle.kube_meta.specs.declared.metadata.ObjectMeta.{ObjectMeta}
 use Rattle.kube_meta.specs.declared.dynamic.DynamicObject.{DynamicObject}
@@ -42,6 +44,11 @@ held-own s r m e = ap (held s) e ∙ ap (λ b. cond b (held_under s (key_of m)) 
 pub objects-seen : (state : State DynamicObject) → objects_of (seen_state state) ≡ map seen_object (objects_of state)
 objects-seen [] = refl
 objects-seen (e ∷ es) = ap (λ os. seen_object e.1 ∷ os) (objects-seen es)
+
+-- objects that are shared are seen as they are
+pub shared-seen : (objects : List (Arc DynamicObject Global)) → map (λ a. seen_object (arc_value a)) objects ≡ map seen_object (map arc_value objects)
+shared-seen [] = refl
+shared-seen (a ∷ objects) = ap (λ os. seen_object (arc_value a) ∷ os) (shared-seen objects)
 
 -- ---- changes
 

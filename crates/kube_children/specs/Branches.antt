@@ -64,6 +64,9 @@ less_found h (Some o) = holding_after h (removal (h.revision + 1) o)
 abbrev pub less_at : Holding → ObjectMeta → Holding
 less_at h m = less_found h (found_in h m)
 
+abbrev pub less_where : Bool → Holding → ObjectMeta → Holding
+less_where unwanted h m = if unwanted then less_at h m else h
+
 abbrev pub less_objects : Holding → List ObjectData → Holding
 less_objects h os = fold (λ left o. less_at left o.metadata) h os
 

@@ -7,7 +7,7 @@ ghost use Rattle.kube_meta.specs.Reading.{seen_object};
 ghost use Rattle.kube_meta.specs.Resources.{dynamic_reference, resource_type};
 ghost use Rattle.kube_server.specs.History.{key_of};
 ghost use Rattle.kube_server.specs.Servers.{held_under};
-ghost use Rattle.kube_children.specs.Branches.{holding, found_in, name_in, same_place, is_there as is_there_in, with_child, with_children, less_at, is_among as is_among_data, is_unwanted as is_unwanted_data, less_objects, less_unwanted, unwanted, is_foreign as is_foreign_data, first_foreign as first_foreign_in, with_wanted, apply_fault, after_apply, after_cleanup};
+ghost use Rattle.kube_children.specs.Branches.{holding, found_in, name_in, same_place, is_there as is_there_in, with_child, with_children, less_at, is_among as is_among_data, is_unwanted as is_unwanted_data, less_objects, less_unwanted, less_where, unwanted, is_foreign as is_foreign_data, first_foreign as first_foreign_in, with_wanted, apply_fault, after_apply, after_cleanup};
 
 use crate::round::GenFault;
 use crate::wanted::{is_child_of, is_owned_by, is_same, owner_of, text_of, wanted_by};
@@ -69,13 +69,11 @@ pub(crate) fn found<'a>(
 fn is_there(alloc: Global, server: &Server, child: &DynamicObject) -> Result<bool, NoMemory>
     ensures { IfOk result (λ there. there ≡ is_there_in (holding server.now) (seen_object child.now)) }
 {
-    match found(alloc, server, &child.metadata)? {
-        Some(object) => {
-            let object: &DynamicObject = object;
-            is_same(alloc, object, child)
-        }
-        None => Ok(false),
-    }
+    let Some(object) = found(alloc, server, &child.metadata)? else {
+        return Ok(false);
+    };
+    let same = is_same(alloc, object, child)?;
+    Ok(same)
 }
 
 /// Puts a child of which a copy stays, unless an equal one is there.
@@ -85,11 +83,13 @@ fn bring(alloc: Global, server: &mut Server, child: &DynamicObject) -> Result<()
     ensures brought { OnOk result (holding server.new ≡ with_child (holding server.old) (seen_object child.now)) }
     ensures kind { server.new.kind ≡ server.old.kind }
 {
-    if is_there(alloc, server, child)? {
+    let there = is_there(alloc, server, child)?;
+    if there {
         return Ok(());
     }
+    let copy = child.copy(alloc)?;
     // (a child has a name, so it is refused only where memory is out)
-    match server.put(alloc, child.copy(alloc)?) {
+    match server.put(alloc, copy) {
         Ok(_revision) => Ok(()),
         Err(_refusal) => Err(NoMemory),
     }
@@ -126,7 +126,8 @@ fn is_among(children: &[DynamicObject], meta: &ObjectMeta) -> bool
     ensures { result ≡ is_among_data (map seen_object children.now) meta.now }
 {
     for child in children {
-        if same_place(&child.metadata, meta) {
+        let same = same_place(&child.metadata, meta);
+        if same {
             return true;
         }
     }
@@ -156,6 +157,27 @@ fn remove(alloc: Global, server: &mut Server, meta: &ObjectMeta) -> Result<(), N
     }
 }
 
+/// Removes what stands in the place of an object where that is a child of a parent with this uid, and none of these.
+///
+/// Errors: `NoMemory`.
+fn remove_where(
+    alloc: Global,
+    server: &mut Server,
+    uid: &str,
+    children: &[DynamicObject],
+    meta: &ObjectMeta,
+) -> Result<(), NoMemory>
+    ensures left { OnOk result (holding server.new ≡ less_where (is_unwanted_data uid.now (map seen_object children.now) meta.now) (holding server.old) meta.now) }
+    ensures kind { server.new.kind ≡ server.old.kind }
+{
+    let unwanted = is_unwanted(uid, children, meta);
+    if !unwanted {
+        return Ok(());
+    }
+    remove(alloc, server, meta)?;
+    Ok(())
+}
+
 /// Removes of these objects what is a child of a parent with this uid and none of these children.
 ///
 /// Errors: `NoMemory`.
@@ -170,9 +192,7 @@ fn remove_each(
     ensures kind { server.new.kind ≡ server.old.kind }
 {
     for object in objects {
-        if is_unwanted(uid, children, &object.metadata) {
-            remove(alloc, server, &object.metadata)?;
-        }
+        remove_where(alloc, server, uid, children, &object.metadata)?;
     }
     Ok(())
 }
@@ -190,7 +210,8 @@ fn remove_unwanted(
     ensures kind { server.new.kind ≡ server.old.kind }
 {
     let objects = server.objects(alloc)?;
-    remove_each(alloc, server, uid, children, objects.as_slice())
+    remove_each(alloc, server, uid, children, objects.as_slice())?;
+    Ok(())
 }
 
 // ---- Apply
@@ -206,10 +227,11 @@ fn is_foreign(
 ) -> Result<bool, NoMemory>
     ensures { IfOk result (λ foreign. foreign ≡ is_foreign_data owner.now (found_in (holding server.now) child.now)) }
 {
-    match found(alloc, server, child)? {
-        Some(object) => Ok(!is_owned_by(&object.metadata, owner)),
-        None => Ok(false),
-    }
+    let Some(object) = found(alloc, server, child)? else {
+        return Ok(false);
+    };
+    let owned = is_owned_by(&object.metadata, owner);
+    Ok(!owned)
 }
 
 /// The name of the first child in whose place stands an object of another owner.
@@ -224,8 +246,10 @@ fn first_foreign(
     ensures { IfOk result (λ name. name ≡ first_foreign_in owner.now (holding server.now) (map seen_object children.now)) }
 {
     for child in children {
-        if is_foreign(alloc, server, owner, &child.metadata)? {
-            return Ok(Some(name_of(alloc, &child.metadata)?));
+        let foreign = is_foreign(alloc, server, owner, &child.metadata)?;
+        if foreign {
+            let name = name_of(alloc, &child.metadata)?;
+            return Ok(Some(name));
         }
     }
     Ok(None)
@@ -244,7 +268,8 @@ fn make(
     ensures kind { server.new.kind ≡ server.old.kind }
 {
     bring_all(alloc, server, children)?;
-    remove_unwanted(alloc, server, owner.uid.as_str(), children)
+    remove_unwanted(alloc, server, owner.uid.as_str(), children)?;
+    Ok(())
 }
 
 /// The branch of Apply of a parent of a type: makes its children those that it wants. Why it failed, where it did: then it
@@ -263,13 +288,12 @@ pub(crate) fn apply(
 {
     let owner = owner_of(alloc, resource, &parent.metadata)?;
     let children = wanted_by(alloc, &owner, parent)?;
-    match first_foreign(alloc, server, &owner, children.as_slice())? {
-        Some(name) => Ok(Some(GenFault::Foreign { name })),
-        None => {
-            make(alloc, server, &owner, children.as_slice())?;
-            Ok(None)
-        }
+    let foreign = first_foreign(alloc, server, &owner, children.as_slice())?;
+    if let Some(name) = foreign {
+        return Ok(Some(GenFault::Foreign { name }));
     }
+    make(alloc, server, &owner, children.as_slice())?;
+    Ok(None)
 }
 
 // ---- Cleanup
@@ -287,5 +311,6 @@ pub(crate) fn clean_up(
     ensures kind { server.new.kind ≡ server.old.kind }
 {
     let owner = owner_of(alloc, resource, &parent.metadata)?;
-    remove_unwanted(alloc, server, owner.uid.as_str(), &[])
+    remove_unwanted(alloc, server, owner.uid.as_str(), &[])?;
+    Ok(())
 }
