@@ -1,5 +1,5 @@
 -- The loops of the branches, one object after another.
-use Rattle.std.proofs.Common.{◌≡◌, ℕ, suc, ◌+◌, Bool, true, false, cond, not, ◌||◌, List, [], ◌∷◌, map, drop, Option, Some, None, Global, refl, sym, ap, ◌∙◌}
+use Rattle.std.proofs.Common.{◌≡◌, ℕ, suc, ◌+◌, Bool, true, false, cond, not, ◌||◌, List, [], ◌∷◌, map, drop, Option, Some, None, Global, option_map, refl, sym, ap, ap₂, ◌∙◌}
 use Rattle.std.specs.Arc.{arc_value}
 use Rattle.std.specs.declared.sync.Arc.{Arc}
 use Rattle.kube_meta.specs.declared.metadata.ObjectMeta.{ObjectMeta}
@@ -8,8 +8,10 @@ use Rattle.kube_meta.specs.declared.dynamic.DynamicObject.{DynamicObject}
 use Rattle.kube_meta.specs.Reading.{ObjectData, seen_object}
 use Rattle.kube_server.specs.History.{key_of}
 use Rattle.kube_server.specs.Servers.{ServerState, held_under, put_over}
-use Rattle.kube_children.specs.Wanted.{is_owned_by, same_child}
-use Rattle.kube_children.specs.Branches.{Holding, found_in, first_foreign, holding, holding_after, is_among, is_foreign, is_same_as, is_there, is_unwanted, less_at, less_objects, less_where, name_in, same_place, unwanted, with_child, with_children}
+use Rattle.kube_meta.specs.Reference.{ObjectType}
+use Rattle.kube_children.specs.declared.round.GenFault.TheVariants.{Foreign}
+use Rattle.kube_children.specs.Wanted.{is_owned_by, owner_of, same_child, wanted}
+use Rattle.kube_children.specs.Branches.{Holding, after_apply, apply_fault, found_in, first_foreign, holding, holding_after, is_among, is_foreign, is_same_as, is_there, is_unwanted, less_at, less_objects, less_where, name_in, same_place, unless_foreign, unwanted, with_child, with_children, with_wanted}
 use Rattle.kube_children.proofs.Holdings.{found-held}
 
 -- ---- what is there
@@ -86,3 +88,23 @@ pub among-next : (m : ObjectMeta) (all : Bool) (children : List DynamicObject) (
 among-next m all children i j child next here e f =
     ap (λ n. is_among (map seen_object (drop n children)) m) next
     ∙ (sym (ap (λ b. b || is_among (map seen_object (drop (suc i) children)) m) e) ∙ (ap (λ zs. is_among (map seen_object zs) m) (sym here) ∙ f))
+
+-- ---- Apply and Cleanup
+
+module _ (kind : ObjectType) (parent : ObjectData) (h : Holding) (owner : OwnerReference) (children : List ObjectData) (owner-is : owner ≡ owner_of kind parent.metadata) (children-are : children ≡ wanted kind parent) where
+  same-first : first_foreign owner h children ≡ first_foreign (owner_of kind parent.metadata) h (wanted kind parent)
+  same-first = ap₂ (λ o cs. first_foreign o h cs) owner-is children-are
+
+  pub applied-some : (name : List ℕ) → Some name ≡ first_foreign owner h children → (Some (Foreign name) ≡ apply_fault kind parent h) × (h ≡ after_apply kind parent h)
+  applied-some name e =
+      let found : Some name ≡ first_foreign (owner_of kind parent.metadata) h (wanted kind parent) = e ∙ same-first in (
+        ap (option_map Foreign) found,
+        ap (λ o. unless_foreign o (with_wanted (owner_of kind parent.metadata) (wanted kind parent) h) h) found,
+      )
+
+  pub applied-none : (left : Holding) → None ≡ first_foreign owner h children → left ≡ with_wanted owner children h → (None ≡ apply_fault kind parent h) × (left ≡ after_apply kind parent h)
+  applied-none left e made =
+      let none : None ≡ first_foreign (owner_of kind parent.metadata) h (wanted kind parent) = e ∙ same-first in (
+        ap (option_map Foreign) none,
+        made ∙ (ap₂ (λ o cs. with_wanted o cs h) owner-is children-are ∙ ap (λ o. unless_foreign o (with_wanted (owner_of kind parent.metadata) (wanted kind parent) h) h) none),
+      )

@@ -1,20 +1,24 @@
 -- A hand-over, from its branch and the poll of its finalizer.
 use Rattle.std.proofs.Common.{◌≡◌, ℕ, true, false, List, Option, Some, None, Result, Ok, Err, is_none, refl, sym, ap, subst, ◌∙◌}
 use Rattle.kube_meta.specs.declared.dynamic.DynamicObject.{DynamicObject}
+use Rattle.kube_meta.specs.declared.metadata.ObjectMeta.{ObjectMeta}
 use Rattle.kube_meta.specs.declared.poll.Polled.{Polled}
 use Rattle.kube_meta.specs.declared.poll.Polled.TheVariants.{Ready, NotReady}
 use Rattle.kube_meta.specs.Reading.{ObjectData, seen_object}
 use Rattle.kube_meta.specs.Reference.{ObjectType}
 use Rattle.kube_model.specs.declared.error.ApiError.{ApiError}
 use Rattle.kube_api.specs.declared.patch.PatchRefusal.{PatchRefusal}
-use Rattle.kube_api.specs.ObjectTalk.{ObjectAnswer, AnswersLater, AnswersFault, AnswersObject, AnswersGone, AnswersNone, AnswersRefusal}
+use Rattle.kube_api.specs.Patches.{Operation}
+use Rattle.kube_api.specs.ObjectTalk.{ObjectAnswer, PatchAsked, AnswersLater, AnswersFault, AnswersObject, AnswersGone, AnswersNone, AnswersRefusal}
 use Rattle.kube_server.specs.Servers.{ServerState}
-use Rattle.kube_server.specs.ObjectCalls.{answer_seen}
+use Rattle.kube_server.specs.ObjectCalls.{IsObjectMove, answer_seen, held_document, objects_talk}
+use Rattle.kube_server.specs.declared.server_objects.ServerObjects.{ServerObjects}
 use Rattle.kube_final.specs.declared.finalizer.Decision.{Decision}
 use Rattle.kube_final.specs.declared.finalizer.Decision.TheVariants.{Apply, Cleanup, AddFirst, AddMore, Nothing, Unnamed}
 use Rattle.kube_final.specs.declared.finalizer.PatchFailed.TheVariants.{Refused, Fault}
 use Rattle.kube_final.specs.Finalizers.{Branch, branch_on, decision_on}
-use Rattle.kube_final.specs.FinalizerPolls.{Answer, answer_by, applied, course, failed}
+use Rattle.kube_final.specs.FinalizerPolls.{Answer, Course, Ends, Waits, Sends, IsPolled, IsPolledBy, Objects, answer_by, applied, course, failed}
+use Rattle.kube_final.specs.Guarding.{Guarding, guarding}
 use Rattle.kube_children.specs.declared.hand_over.Handled.{Handled}
 use Rattle.kube_children.specs.declared.round.GenFault.{GenFault}
 use Rattle.kube_children.specs.declared.round.GenFault.TheVariants.{Patch}
@@ -127,6 +131,52 @@ branch-left AddFirst kind o h = refl
 branch-left AddMore kind o h = refl
 branch-left Nothing kind o h = refl
 branch-left Unnamed kind o h = refl
+
+-- ---- the guard, and the poll over a server
+
+-- a guard that was just made owes the branch of its object
+pub owed-by : (guard : Guarding DynamicObject) (name : List ℕ) (o : DynamicObject) → guard ≡ guarding name o → (owed : Option (Branch DynamicObject))
+    → owed ≡ branch_on (decision_on guard.name guard.object.metadata) guard.object → owed ≡ branch_on (decision_on name o.metadata) o
+owed-by guard name o is owed e = e ∙ ap (λ (g : Guarding DynamicObject). branch_on (decision_on g.name g.object.metadata) g.object) is
+
+pub ran-by : (kind other : ObjectType) → other ≡ kind → (h : Holding) (owed : Option (Branch DynamicObject)) → branch_result other h owed ≡ branch_result kind h owed
+ran-by kind other e h owed = ap (λ k. branch_result k h owed) e
+
+pub left-by : (kind other : ObjectType) → other ≡ kind → (h : Holding) (owed : Option (Branch DynamicObject)) → after_owed other owed h ≡ after_owed kind owed h
+left-by kind other e h owed = ap (λ k. after_owed k owed h) e
+
+-- it is polled by its name and object
+pub polled-by : (guard : Guarding DynamicObject) (name : List ℕ) (o : DynamicObject) → guard ≡ guarding name o → (namespace : Option (List ℕ)) (branch : Option (Result (Option ℕ) GenFault)) (at : ℕ) (old : ServerState) (answer : Polled (Answer GenFault)) (new : ServerState)
+    → namespace ≡ o.metadata.namespace → IsPolledOn namespace guard.name guard.object.metadata guard.outcome branch at old answer new → IsPolledOn o.metadata.namespace name o.metadata None branch at old answer new
+polled-by guard name o is namespace branch at old answer new same polled =
+    subst (λ n. IsPolledOn n name o.metadata None branch at old answer new) same
+    (subst (λ (g : Guarding DynamicObject). IsPolledOn namespace g.name g.object.metadata g.outcome branch at old answer new) is polled)
+
+-- what is asked of the objects of a server
+abbrev objects : Objects ServerObjects DynamicObject
+objects = record {
+  moves = λ old now raw new. IsObjectMove old.server.now old.namespace now raw new.server.now × (new.namespace ≡ old.namespace) × (new.server.ghost_name ≡ old.server.ghost_name);
+  rests = λ old new. (new.server.now ≡ old.server.now) × (new.namespace ≡ old.namespace) × (new.server.ghost_name ≡ old.server.ghost_name);
+  held = λ s. Some (held_document s.server.now s.namespace);
+  talk = λ s. Some (objects_talk s);
+  faults = λ s. 0;
+}
+
+polled-so : (namespace : Option (List ℕ)) (name : List ℕ) (patch : List Operation) (d : Decision) (course : Course GenFault) (at : ℕ) (old new : ServerObjects) (answer : Polled (Answer GenFault)) (parents : ServerState)
+    → old.server.now ≡ parents → old.namespace ≡ namespace → IsPolledBy objects name patch d course at old answer new → IsPolledTo namespace name patch d course at parents answer new.server.now
+polled-so namespace name patch d (Ends wanted) at old new answer parents over within p = (p.0, ap (λ (s : ServerObjects). s.server.now) p.1 ∙ over)
+polled-so namespace name patch d Waits at old new answer parents over within p = (p.0, ap (λ (s : ServerObjects). s.server.now) p.1 ∙ over)
+polled-so namespace name patch d (Sends action) at old new answer parents over within p =
+    let move : IsObjectMove parents namespace at (record { call = PatchAsked name patch; answer = p.patched }) new.server.now =
+    subst (λ n. IsObjectMove parents n at (record { call = PatchAsked name patch; answer = p.patched }) new.server.now) within
+    (subst (λ s. IsObjectMove s old.namespace at (record { call = PatchAsked name patch; answer = p.patched }) new.server.now) over p.moved.0) in
+    record { patched = p.patched; answers = p.answers; told = move.answer; left = move.left }
+
+-- a poll over the objects of a server is one over the server
+pub polled-over : (namespace : Option (List ℕ)) (name : List ℕ) (m : ObjectMeta) (outcome : Option (Option ℕ)) (branch : Option (Result (Option ℕ) GenFault)) (at : ℕ) (old new : ServerObjects) (answer : Polled (Answer GenFault)) (parents : ServerState)
+    → old.server.now ≡ parents → old.namespace ≡ namespace → IsPolled objects name m outcome branch at old answer new → IsPolledOn namespace name m outcome branch at parents answer new.server.now
+polled-over namespace name m outcome branch at old new answer parents over within p =
+    polled-so namespace (name_in m) (operations_on name m) (decision_on name m) (course (decision_on name m) outcome branch) at old new answer parents over within p
 
 -- ---- the whole
 

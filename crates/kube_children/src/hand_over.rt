@@ -1,6 +1,6 @@
 //! A parent that is handed over: the branch that its finalizer owes, and the patch.
 
-ghost use Rattle.std.specs.Prelude.{◌≡◌, false, Some, IfOk, OnOk, option_map};
+ghost use Rattle.std.specs.Prelude.{◌≡◌, false, Some, IfOk, OnOk, option_copied, option_map};
 ghost use Rattle.std.specs.Arc.{arc_value};
 ghost use Rattle.kube_meta.specs.Resources.{resource_type};
 ghost use Rattle.kube_final.specs.Finalizers.{branch_of};
@@ -64,6 +64,16 @@ fn run_branch(
     }
 }
 
+/// The text, where there is one.
+fn shown(text: &Option<Text>) -> Option<&str>
+    ensures { option_copied result ≡ text.now }
+{
+    match text {
+        Some(text) => Some(text.as_str()),
+        None => None,
+    }
+}
+
 /// Polls a finalizer over the parents of a namespace.
 ///
 /// Errors: `NoMemory`.
@@ -78,12 +88,10 @@ fn poll(
     requires unready { guard.old.is_over ≡ false }
     ensures polled { IfOk result (λ a. IsPolledOn namespace.now guard.old.name guard.old.object.metadata guard.old.outcome branch now.0 parents.old a parents.new) }
 {
-    let namespace = match namespace {
-        Some(namespace) => Some(namespace.as_str()),
-        None => None,
-    };
+    let namespace = shown(namespace);
     let mut objects = parents.objects_in(alloc, namespace)?;
-    guard.poll(alloc, &mut objects, branch, now)
+    let answer = guard.poll(alloc, &mut objects, branch, now)?;
+    Ok(answer)
 }
 
 /// What failed, by the answer of a poll. (A server's objects are always ready and never fail, so any other answer is want of
