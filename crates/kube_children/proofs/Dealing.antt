@@ -25,9 +25,9 @@ use Rattle.kube_children.specs.declared.hand_over.Handled.{Handled}
 use Rattle.kube_children.specs.declared.round.GenFault.{GenFault}
 use Rattle.kube_children.specs.declared.round.Round.{Round}
 use Rattle.kube_children.specs.Branches.{name_in}
-use Rattle.kube_children.specs.HandOvers.{Servers, Dealt, AreDealt, IsDealt, IsDealtBy, IsHandedOver, IsLeftOn, IsPatchedBy, operations_on, reference_on}
-use Rattle.kube_children.specs.Handling.{one_more, opened_by, with_dealt, with_handled}
-use Rattle.kube_children.specs.Rounds.{counted, dealt_events, faults_of, finish_of, round_of, takes_of}
+use Rattle.kube_children.specs.HandOvers.{Servers, Dealt, nothing_done, AreDealt, IsDealt, IsDealtBy, IsHandedOver, IsLeftOn, IsPatchedBy, operations_on, reference_on}
+use Rattle.kube_children.specs.Handling.{IsTake, one_more, opened_by, with_dealt, with_handled}
+use Rattle.kube_children.specs.Rounds.{action_after, counted, dealt_events, faults_of, finish_of, round_of, takes_of}
 
 -- ---- one more
 
@@ -225,3 +225,45 @@ dealt-kind kind name old new (d ∷ ds) h = dealt-kind kind name h.0 new ds h.2 
 
 pub handed-kind : (kind : ObjectType) (name : List ℕ) (o : DynamicObject) (old new : Servers) (h : Handled) → IsHandedOver kind name o old h new → new.parents.kind ≡ old.parents.kind
 handed-kind kind name o old new h k = (kind-by kind name (Some o) old new h k).0
+
+-- ---- one take. S says for which events the core stands
+
+pub found-take : (S : List (CoreEvent DynamicObject) → Type 0) (es : List (CoreEvent DynamicObject)) (at : ℕ) (t : Taken DynamicObject) (o : DynamicObject) (h : Handled) (ran : Bool) → t.object ≡ Some o
+    → ran ≡ runs (running_of (es ++ Took at (Some t) ∷ [])) t.message.reference
+    → S ((es ++ Took at (Some t) ∷ []) ++ Finished at t.message.reference (is_none h.fault) (action_after h.fault) ran ∷ []) → S (es ++ dealt_events at (record { taken = t; handled = h }))
+found-take S es at t o h ran found runs-so s =
+    let finish : Bool → List (CoreEvent DynamicObject) = λ b. Finished at t.message.reference (is_none h.fault) (action_after h.fault) b ∷ [] in
+    let ran-true : ran ≡ true = runs-so ∙ taken-runs es at t o found in
+    let joined : S (es ++ Took at (Some t) ∷ finish true) = subst S (append_assoc es (Took at (Some t) ∷ []) (finish true)) (subst (λ b. S ((es ++ Took at (Some t) ∷ []) ++ finish b)) ran-true s) in
+    subst (λ x. S (es ++ Took at (Some t) ∷ finish_of at t.message.reference x h)) (sym found) joined
+
+-- nothing was found
+pub missed-take : (S : List (CoreEvent DynamicObject) → Type 0) (kind : ObjectType) (name : List ℕ) (es : List (CoreEvent DynamicObject)) (at : ℕ) (t : Taken DynamicObject) (s : Servers) (r : Round) → t.object ≡ None
+    → S (es ++ Took at (Some t) ∷ []) → IsTake S kind name at es true s r s r
+missed-take S kind name es at t s r none stands =
+    let d : Dealt = record { taken = t; handled = nothing_done } in (
+      d,
+      subst (λ x. IsDealtBy kind name x s nothing_done s) (sym none) (refl, refl),
+      (λ i. record r { failed = sym (append-nil r.failed) i }),
+      subst (λ x. S (es ++ Took at (Some t) ∷ finish_of at t.message.reference x nothing_done)) (sym none) stands,
+    )
+
+pub took-more : (S : List (CoreEvent DynamicObject) → Type 0) (kind : ObjectType) (name : List ℕ) (at : ℕ) (es : List (CoreEvent DynamicObject)) (ds : List Dealt) (old mid new : Servers) (r r1 r2 : Round)
+    → AreDealt kind name old ds mid → r1 ≡ with_dealt r ds → IsTake S kind name at (es ++ takes_of at ds) true mid r1 new r2
+    → (all : List Dealt) × AreDealt kind name old all new × (r2 ≡ with_dealt r all) × S (es ++ takes_of at all)
+took-more S kind name at es ds old mid new r r1 r2 dealt counts t =
+    let d = t.0 in (
+      ds ++ d ∷ [],
+      dealt-more kind name old mid new ds d dealt t.1,
+      t.2 ∙ (ap (λ x. with_handled x d.handled) counts ∙ sym (counts-more r ds d)),
+      subst S (append_assoc es (takes_of at ds) (dealt_events at d) ∙ ap (λ fs. es ++ fs) (sym (takes-more at ds d))) t.3,
+    )
+
+pub took-last : (S : List (CoreEvent DynamicObject) → Type 0) (kind : ObjectType) (name : List ℕ) (at : ℕ) (es : List (CoreEvent DynamicObject)) (ds : List Dealt) (old mid new : Servers) (r r1 r2 : Round)
+    → AreDealt kind name old ds mid → r1 ≡ with_dealt r ds → IsTake S kind name at (es ++ takes_of at ds) false mid r1 new r2
+    → AreDealt kind name old ds new × (r2 ≡ with_dealt r ds) × S (es ++ takes_of at ds ++ Took at None ∷ [])
+took-last S kind name at es ds old mid new r r1 r2 dealt counts t = (
+  subst (AreDealt kind name old ds) (sym t.0) dealt,
+  t.1 ∙ counts,
+  subst S (append_assoc es (takes_of at ds) (Took at None ∷ [])) t.2,
+)

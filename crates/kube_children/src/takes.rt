@@ -39,7 +39,8 @@ fn take_one(
         → IsTake (λ fs. StandsFor type_of meta_of world fs core.new) parents.old.kind finalizer.now now.0 es more
         (record { parents = parents.old; children = children.old }) round.old (record { parents = parents.new; children = children.new }) round.new) }
 {
-    match core.take(alloc, now)? {
+    let taken = core.take(alloc, now)?;
+    match taken {
         Taken::Started {
             reference,
             object,
