@@ -116,12 +116,12 @@ module _ {B : Type 0} (delays : backoff.Ghosts B) (first : B) (kind : ObjectType
   all-last [] x all e = (e, tt)
   all-last (y ∷ xs) x all e = (all.0, all-last xs x all.1 e)
 
-  pub asked-begun : (budget : ℕ) (before : List (Dated DynamicObject)) (es : List (CoreEvent DynamicObject)) (at : ℕ) (a : Asking Root NoRelated B) (core : Parts DynamicObject (Arc ApiResource Global))
-      → MayAsk delays first kind (budget ∷ []) before [] es a core → AreAskedSo delays first kind budget before es at a [] a core
-  asked-begun budget before es at a core may = record {
-    polled = (refl, refl);
+  pub asked-begun : (budget : ℕ) (before : List (Dated DynamicObject)) (es : List (CoreEvent DynamicObject)) (at : ℕ) (a b : Asking Root NoRelated B) (core : Parts DynamicObject (Arc ApiResource Global))
+      → b.root ≡ a.root → b.related ≡ a.related → MayAsk delays first kind (budget ∷ []) before [] es b core → AreAskedSo delays first kind budget before es at a [] b core
+  asked-begun budget before es at a b core root related may = record {
+    polled = (root, related);
     own = tt;
-    may = subst (λ fs. MayAsk delays first kind (budget ∷ []) before [] fs a core) (sym (append-nil es)) may;
+    may = subst (λ fs. MayAsk delays first kind (budget ∷ []) before [] fs b core) (sym (append-nil es)) may;
   }
 
   pub asked-more : (budget : ℕ) (before : List (Dated DynamicObject)) (es : List (CoreEvent DynamicObject)) (at : ℕ) (a b c : Asking Root NoRelated B) (xs : List (Exchange DynamicObject)) (mid core : Parts DynamicObject (Arc ApiResource Global)) (told : Bool)

@@ -12,6 +12,7 @@ use Rattle.kube_meta.specs.Reference.{ObjectType, Reference, same_type}
 use Rattle.kube_server.specs.History.{Key, key_of, key_cmp, same_key, State, object_at, objects_of, with_object, without_object, Change, Adds, Modifies, Removes, change_seen, changed, state_of}
 use Rattle.kube_server.specs.Servers.{ServerState, meta_of, data_meta, held, held_under, next_revision, put_change, put_over, removal, remove_change, IsStep, IsMade}
 use Rattle.kube_server.proofs.HistoryLemmas.{state-more}
+use Rattle.kube_children.specs.Changes.{put_as}
 use Rattle.kube_children.specs.Branches.{Holding, holding, holding_after, found_in, less_at, less_found, seen_entry, seen_state}
 
 -- ---- look-ups
@@ -96,6 +97,19 @@ put-holding old new x o seen step =
     let change : IsStep old new (put_change old (key_of o.metadata) o) = subst (λ d. IsStep old new (put_change old (key_of d.metadata) d)) seen step in
     step-holding old new (put_change old (key_of o.metadata) o) change
     ∙ ap (λ found. holding_after (holding old) (put_over (next_revision old) found o)) (sym (found-held old o.metadata))
+
+key-kept : (found : Option ObjectData) (o : ObjectData) → key_of (put_as found o).metadata ≡ key_of o.metadata
+key-kept None o = refl
+key-kept (Some stored) o = refl
+
+-- a put over what is there, of which it keeps some
+pub put-kept : (old new : ServerState) (x : DynamicObject) (o : ObjectData) → seen_object x ≡ put_as (held_under old (key_of o.metadata)) o → IsStep old new (put_change old (key_of x.metadata) (seen_object x))
+    → IsStep old new (put_change old (key_of o.metadata) (put_as (held_under old (key_of o.metadata)) o))
+put-kept old new x o seen step =
+    let kept : ObjectData = put_as (held_under old (key_of o.metadata)) o in
+    let same : key_of kept.metadata ≡ key_of o.metadata = key-kept (held_under old (key_of o.metadata)) o in
+    let change : IsStep old new (put_change old (key_of kept.metadata) kept) = subst (λ d. IsStep old new (put_change old (key_of d.metadata) d)) seen step in
+    subst (λ k. IsStep old new (put_change old k kept)) same change
 
 made-holding : (old new : ServerState) (found : Option ObjectData) → IsMade old new (option_map (removal (next_revision old)) found) → holding new ≡ less_found (holding old) found
 made-holding old new None h = absurd h

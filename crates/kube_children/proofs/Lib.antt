@@ -5,3 +5,4 @@ pub mod HandingOver
 pub mod Dealing
 pub mod Asking
 pub mod Rounding
+pub mod Keeping

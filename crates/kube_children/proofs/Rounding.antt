@@ -26,13 +26,15 @@ use Rattle.kube_asks.specs.Asking.{Asking, AskStands, SourcesStand}
 use Rattle.kube_asks.specs.Lending.{with_root_api}
 use Rattle.kube_asks.specs.Roots.{RootStands}
 use Rattle.kube_step.specs.Calls.{ArePolled}
+use Rattle.kube_honest.proofs.Reached.{HasLog, log-on}
+use Rattle.kube_honest.proofs.Tellings.{reached-polls}
 use Rattle.kube_children.specs.declared.asking.Asked.{Asked}
 use Rattle.kube_children.specs.declared.round.Round.{Round}
 use Rattle.kube_children.specs.Asking.{AreAsked, MayAsk}
-use Rattle.kube_children.specs.Generators.{Generating, IsRound, Past, StandsFor, type_of, with_round, world_of}
+use Rattle.kube_children.specs.Generators.{Generating, IsRound, Past, StandsFor, no_rounds, type_of, with_round, world_of}
 use Rattle.kube_children.specs.Handling.{opened_by, with_dealt}
 use Rattle.kube_children.specs.HandOvers.{AreDealt, Dealt, Servers}
-use Rattle.kube_children.specs.Rounds.{Root, fed, generator_world, is_held, related_polls, root_polls, round_events, round_of, takes_of}
+use Rattle.kube_children.specs.Rounds.{Root, conn_api, conn_of, fed, generator_world, is_held, related_polls, root_polls, root_settings, round_events, round_of, takes_of}
 use Rattle.kube_children.proofs.Dealing.{answers-join, counts-are, dealt-kind, shut-join, takes-answer-nothing, takes-idle, takes-shut-nothing}
 
 -- ---- another API of the root leaves what it stands for
@@ -184,7 +186,52 @@ module _ {B : Type 0} (delays : backoff.Ghosts B) (first : B) where
         by-count e (inl all) = inl (e ∙ all)
         by-count e (inr held) = inr (subst (λ b. is_held (generator_world delays first kind) at.0 (b ++ dated at.0 xs) ≡ true) s.joined held)
 
+-- ---- before the first round, and after a change of the parents
+
+module _ {B : Type 0} (delays : backoff.Ghosts B) (first : B) where
+  pub stands-first : (g : Generating B) → g.asks.root.kind ≡ g.servers.parents.kind → settings_in g.asks.root.watcher ≡ root_settings → CoreStands type_of meta_of (core_world (world_of delays first g)) [] g.core
+      → AskStands (world_of delays first g) (λ own. RootStands meta_of own g.asks.root) (λ place own. ⊤) 0 [] [] [] g.asks.kept → g.asks.is_spent ≡ false → g.is_spent ≡ false → StandsFor delays first no_rounds g
+  stands-first g kind settings core asks sound unspent = record {
+    kind = kind;
+    settings = settings;
+    core_stands = core;
+    budget = [];
+    before = [];
+    mine = [];
+    joined = refl;
+    asks_stand = asks;
+    fits = tt;
+    idle = refl;
+    open = refl;
+    sound = sound;
+    unspent = unspent;
+  }
+
+  -- the parents' server makes no difference but by its type
+  pub stands-changed : (past : Past) (old : Generating B) (parents : ServerState) → parents.kind ≡ old.servers.parents.kind → StandsFor delays first past old
+      → StandsFor delays first past (record old { servers = record old.servers { parents = parents } })
+  stands-changed past old parents same s = record {
+    kind = s.kind ∙ sym same;
+    settings = s.settings;
+    core_stands = subst (λ t. CoreStands type_of meta_of (core_world (generator_world delays first t)) past.events old.core) (sym same) s.core_stands;
+    budget = s.budget;
+    before = s.before;
+    mine = s.mine;
+    joined = s.joined;
+    asks_stand = subst (λ t. AskStands (generator_world delays first t) (λ own. RootStands meta_of own old.asks.root) (λ place own. ⊤) 0 s.budget s.before s.mine old.asks.kept) (sym same) s.asks_stand;
+    fits = subst (λ t. EachFits (generator_world delays first t) [] (answers_in past.events)) (sym same) s.fits;
+    idle = s.idle;
+    open = s.open;
+    sound = s.sound;
+    unspent = s.unspent;
+  }
+
 -- ---- until it is spent
+
+-- polls of the root leave the log of its connection
+pub log-kept : (before ds : List (Dated DynamicObject)) (r r' : Root) (s s' : NoRelated) → ArePolled root_polls related_polls before r s ds r' s' → IsSameLog (conn_of r) (conn_of r')
+log-kept before ds r r' s s' p =
+    reached-polls meta_of conn_api (settings_in r.watcher) related_polls (HasLog (conn_of r).changes (conn_of r).compacted) (λ a now raw b. log-on meta_of (conn_of r).changes (conn_of r).compacted a now raw b) before ds r s r' s' (refl, refl) p
 
 -- the log of the connection stays in a round, and the parents' log goes on
 pub live-after : (old new : ServerState) (start kept : Connection DynamicObject) → start.changes ≡ old.changes → start.compacted ≡ old.compacted → IsSameLog start kept

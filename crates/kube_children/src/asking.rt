@@ -4,20 +4,15 @@ ghost use Rattle.std.specs.Prelude.{◌≡◌, ◌≤◌, ◌++◌, [], List, �
 ghost use Rattle.kube_meta.specs.declared.dynamic.DynamicObject.{DynamicObject as Parent};
 ghost use Rattle.kube_meta.specs.Reference.{ObjectType};
 ghost use Rattle.kube_model.specs.History.{Dated};
-ghost use Rattle.kube_backoff.specs.Backoffs.{default_backoff};
 ghost use Rattle.kube_history.specs.CoreEvents.{CoreEvent};
 ghost use Rattle.kube_children.specs.Asking.{AreAsked, IsOneAsked, MayAsk};
 
-use kube_asks::{Asks, NoRelated, WatchRoot};
-use kube_backoff::{Backoff, DefaultBackoff};
+use kube_asks::{Asks, Backoff, NoRelated, WatchRoot};
 use kube_core::Core;
 use kube_meta::{DynamicObject, Moment, NoMemory};
 use kube_server::Conn;
 use kube_turn::Answer;
 use std::alloc::Global;
-
-/// What asks the parents' server: a root that lists and watches it, and no other source.
-pub(crate) type Sources = Asks<WatchRoot<Conn>, NoRelated, DefaultBackoff>;
 
 /// What a round asked.
 #[derive(Clone, Copy)]
@@ -30,17 +25,17 @@ pub(crate) struct Asked {
 /// Asks the root once more, where it is left to ask, and tells the core what it answered. Whether it told not ready.
 ///
 /// Errors: `NoMemory`. (The objects of a server have names, and nothing was asked after a fault, so no other fault comes.)
-fn ask_one(
+fn ask_one<B: Backoff>(
     alloc: Global,
-    asks: &mut Sources,
+    asks: &mut Asks<WatchRoot<Conn>, NoRelated, B>,
     core: &mut Core<DynamicObject>,
     now: Moment,
 ) -> Result<Option<bool>, NoMemory>
     requires clock { core.old.clock.0 ≤ now.0 }
     ensures clock { OnOk result (core.new.clock.0 ≤ now.0) }
-    ensures asked { IfOk result (λ told. (kind : ObjectType) (budget : List ℕ) (before mine : List (Dated Parent)) (es : List (CoreEvent Parent))
-        → MayAsk ⟦<DefaultBackoff as Backoff>⟧ default_backoff kind budget before mine es asks.old core.old
-        → IsOneAsked ⟦<DefaultBackoff as Backoff>⟧ default_backoff kind budget before mine es now.0 asks.old told asks.new core.new) }
+    ensures asked { IfOk result (λ told. (first : B) (kind : ObjectType) (budget : List ℕ) (before mine : List (Dated Parent)) (es : List (CoreEvent Parent))
+        → MayAsk B.Backoff first kind budget before mine es asks.old core.old
+        → IsOneAsked B.Backoff first kind budget before mine es now.0 asks.old told asks.new core.new) }
 {
     let Ok(next) = asks.next(alloc, now) else {
         return Err(NoMemory);
@@ -55,20 +50,21 @@ fn ask_one(
 /// Asks the root up to so many times, and tells the core what it answers.
 ///
 /// Errors: `NoMemory`.
-pub(crate) fn ask_all(
+pub(crate) fn ask_all<B: Backoff>(
     alloc: Global,
-    asks: &mut Sources,
+    asks: &mut Asks<WatchRoot<Conn>, NoRelated, B>,
     core: &mut Core<DynamicObject>,
     now: Moment,
     budget: u32,
 ) -> Result<Asked, NoMemory>
     requires clock { core.old.clock.0 ≤ now.0 }
     ensures clock { OnOk result (core.new.clock.0 ≤ now.0) }
-    ensures asked { IfOk result (λ a. (kind : ObjectType) (last : List ℕ) (before mine : List (Dated Parent)) (es : List (CoreEvent Parent))
-        → MayAsk ⟦<DefaultBackoff as Backoff>⟧ default_backoff kind last before mine es asks.old core.old
-        → AreAsked ⟦<DefaultBackoff as Backoff>⟧ default_backoff kind budget (before ++ mine) es now.0 asks.old a asks.new core.new) }
+    ensures asked { IfOk result (λ a. (first : B) (kind : ObjectType) (last : List ℕ) (before mine : List (Dated Parent)) (es : List (CoreEvent Parent))
+        → MayAsk B.Backoff first kind last before mine es asks.old core.old
+        → AreAsked B.Backoff first kind budget (before ++ mine) es now.0 asks.old a asks.new core.new) }
 {
-    asks.begin(vec![in alloc; budget]?)?;
+    let budgets = vec![in alloc; budget]?;
+    asks.begin(budgets)?;
     let mut not_ready = false;
     for asks_made in 0..budget {
         match ask_one(alloc, asks, core, now)? {

@@ -103,6 +103,10 @@ pub(crate) fn put_over(
         return Err(ServerRefusal::Unnamed);
     }
     let stored = found(alloc, server, &object.metadata)?;
-    let object = kept_over(alloc, object, stored)?;
-    server.put(alloc, object)
+    let kept = kept_over(alloc, object, stored)?;
+    match server.put(alloc, kept) {
+        Ok(revision) => Ok(revision),
+        // (it has a name, so it is refused only where memory is out)
+        Err(_refusal) => Err(ServerRefusal::NoMemory),
+    }
 }

@@ -11,7 +11,7 @@ ghost use Rattle.kube_children.specs.Generators.{Past, StandsFor, IsRound, no_ro
 ghost use Rattle.kube_children.specs.Kept.{AreNewParents, HoldsWhatParentsWant, IsAtRest, Keeps, had_foreign};
 ghost use Rattle.kube_children.specs.Rounds.{conn_of, fed};
 
-use crate::asking::{Sources, ask_all};
+use crate::asking::ask_all;
 use crate::change::{Change, put_over};
 use crate::round::{GenError, Round};
 use crate::takes::take_all;
@@ -25,6 +25,9 @@ use kube_watch::Config as WatcherConfig;
 use std::alloc::Global;
 use std::marker::Model;
 use std::sync::Arc;
+
+/// What asks the parents' server: a root that lists and watches it, and no other source.
+type Sources = Asks<WatchRoot<Conn>, NoRelated, DefaultBackoff>;
 
 /// Moments are below this one.
 const MOMENT_END: u64 = 9_223_372_036_854_775_808;

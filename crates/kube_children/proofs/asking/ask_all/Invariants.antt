@@ -10,10 +10,10 @@ use Rattle.kube_children.proofs.asking.ask_all.Given as goal
 
 -- as many exchanges were made as the loop counts, and whether one told not ready is noted
 abbrev pub invariant-loop-asks_made : goal.invariant-loop-asks_made
-invariant-loop-asks_made l =
+invariant-loop-asks_made g l =
     record {
       clock : l.core.clock.0 ≤ l.now.0;
-      asked : (kind : ObjectType) (last : List ℕ) (before mine : List (Dated DynamicObject)) (es : List (CoreEvent DynamicObject)) → MayAsk _ _ kind last before mine es l.fn.asks l.fn.core
-          → (xs : List (Exchange DynamicObject)) × AreAskedSo _ _ kind l.budget (before ++ mine) es l.now.0 l.fn.asks xs l.asks l.core
+      asked : (first : _) (kind : ObjectType) (last : List ℕ) (before mine : List (Dated DynamicObject)) (es : List (CoreEvent DynamicObject)) → MayAsk g.B.Backoff first kind last before mine es l.fn.asks l.fn.core
+          → (xs : List (Exchange DynamicObject)) × AreAskedSo g.B.Backoff first kind l.budget (before ++ mine) es l.now.0 l.fn.asks xs l.asks l.core
           × (length xs ≡ l.asks_made) × (l.not_ready ≡ list_any (λ x. is_not_ready x.answer) xs);
     }

@@ -1,0 +1,54 @@
+-- What rounds keep, before the first and after a change of the parents.
+use Rattle.std.proofs.Common.{◌≡◌, ◌≤◌, ℕ, true, false, List, [], Option, Some, None, refl, sym, ap, subst, ◌∙◌, arith}
+use Rattle.kube_meta.specs.declared.dynamic.DynamicObject.{DynamicObject}
+use Rattle.kube_meta.specs.Reading.{ObjectData}
+use Rattle.kube_meta.specs.Reference.{ObjectType, Reference}
+use Rattle.kube_server.specs.History.{Key, object_at}
+use Rattle.kube_server.specs.Servers.{ServerState, meta_of}
+use Rattle.kube_server.specs.Connections.{Connection, fresh}
+use Rattle.kube_children.specs.declared.round.Round.{Round}
+use Rattle.kube_children.specs.Branches.{holding}
+use Rattle.kube_children.specs.Kept.{AreNewParents, HoldsExactly, IsKept, IsWantedLast}
+use Rattle.kube_history.specs.CoreEvents.{CoreEvent}
+
+-- of two servers without objects, before the first round
+pub kept-first : (kind : ObjectType) (name : List ℕ) (parents children : ServerState) (conn : Connection DynamicObject) → parents.changes ≡ [] → children.changes ≡ [] → conn ≡ fresh [] 0 → IsKept kind name parents children conn [] []
+kept-first kind name parents children conn none no-children made =
+    let empty : (holding children).objects ≡ [] = ap (λ cs. (holding (record children { changes = cs })).objects) no-children in
+    record {
+      acts = [];
+      made = made;
+      told = rw made tt;
+      revision = 0;
+      known = rw made (omega arith);
+      stored = λ ready. absurd (let no : false ≡ true = ready in cc);
+      sights = omega arith;
+      quiet = λ sound r. refl;
+      parents_new = subst (AreNewParents name 0) (sym none) tt;
+      staged = λ uid. tt;
+      owned = λ key o found. absurd (let no : None ≡ Some o = sym (ap (object_at key) empty) ∙ found in cc);
+      apart = record { apart = λ a b p q first second. absurd (let no : None ≡ Some p = first in cc) };
+      exact = record {
+        there = λ child wants. absurd (let no : None ≡ Some wants.parent = wants.handed in cc);
+        only = λ key o found. absurd (let no : None ≡ Some o = sym (ap (object_at key) empty) ∙ found in cc);
+      };
+    }
+
+-- a change of the parents that puts no new one with a uid or with the finalizer
+pub kept-changed : (kind : ObjectType) (name : List ℕ) (old new children : ServerState) (conn : Connection DynamicObject) (es : List (CoreEvent DynamicObject)) (rounds : List Round) → AreNewParents name 0 new.changes
+    → IsKept kind name old children conn es rounds → IsKept kind name new children conn es rounds
+kept-changed kind name old new children conn es rounds fresh-parents k = record {
+  acts = k.acts;
+  made = k.made;
+  told = k.told;
+  revision = k.revision;
+  known = k.known;
+  stored = k.stored;
+  sights = k.sights;
+  quiet = k.quiet;
+  parents_new = fresh-parents;
+  staged = k.staged;
+  owned = k.owned;
+  apart = k.apart;
+  exact = k.exact;
+}
