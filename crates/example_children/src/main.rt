@@ -41,7 +41,10 @@ fn follow(rt: &impl Print, alloc: Global, generator: &mut Generator, now: Moment
 
 fn main(rt: HostRuntime) -> Result<()> {
     let alloc = rt.alloc();
-    let (parents, children) = (kind(alloc, "ConfigMap", "configmaps")?, kind(alloc, "Pod", "pods")?);
+    let (parents, children) = (
+        kind(alloc, "ConfigMap", "configmaps")?,
+        kind(alloc, "Pod", "pods")?,
+    );
     let gone = ObjectRef::new_with(alloc, "c", parents.clone()?)?;
     let mut generator = Generator::new(alloc, parents, children, "example.dev/pods")?;
     for parent in [

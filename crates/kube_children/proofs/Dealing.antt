@@ -134,10 +134,11 @@ count-first p d ds =
 -- counts go on from what was counted before
 tally : (r : Round) (ds : List Dealt) (a c p : ℕ) → r.applied ≡ counted a → r.cleaned ≡ counted c → r.patched ≡ counted p
     → with_dealt r ds ≡ record r {
-        applied = counted (count_by (λ d. d.handled.applied) ds + a);
-        cleaned = counted (count_by (λ d. d.handled.cleaned) ds + c);
-        patched = counted (count_by (λ d. d.handled.patched) ds + p);
-        failed = r.failed ++ faults_of ds }
+      applied = counted (count_by (λ d. d.handled.applied) ds + a);
+      cleaned = counted (count_by (λ d. d.handled.cleaned) ds + c);
+      patched = counted (count_by (λ d. d.handled.patched) ds + p);
+      failed = r.failed ++ faults_of ds;
+    }
 tally r [] a c p ha hc hp = λ i. record r { applied = ha i; cleaned = hc i; patched = hp i; failed = sym (append-nil r.failed) i }
 tally r (d ∷ ds) a c p ha hc hp =
     let h = d.handled in
@@ -153,7 +154,7 @@ tally r (d ∷ ds) a c p ha hc hp =
     let failed : (r.failed ++ cons_option h.fault []) ++ faults_of ds ≡ r.failed ++ cons_option h.fault (faults_of ds) =
     append_assoc r.failed (cons_option h.fault []) (faults_of ds) ∙ ap (λ fs. r.failed ++ fs) (one-fault h.fault (faults_of ds)) in
     tally (with_handled r h) ds (cond h.applied 1 0 + a) (cond h.cleaned 1 0 + c) (cond h.patched 1 0 + p)
-        (ap (one_more h.applied) ha ∙ counted-more h.applied a) (ap (one_more h.cleaned) hc ∙ counted-more h.cleaned c) (ap (one_more h.patched) hp ∙ counted-more h.patched p)
+    (ap (one_more h.applied) ha ∙ counted-more h.applied a) (ap (one_more h.cleaned) hc ∙ counted-more h.cleaned c) (ap (one_more h.patched) hp ∙ counted-more h.patched p)
     ∙ (λ i. record r { applied = counted (applied i); cleaned = counted (cleaned i); patched = counted (patched i); failed = failed i })
 
 -- from the counts at first, which are 0

@@ -78,8 +78,8 @@ module _ (es : List (CoreEvent DynamicObject)) (at : ℕ) (xs : List (Exchange D
   asks-shut-nothing (y ∷ ys) = asks-shut-nothing ys
 
   pub open-of : was_shut es ≡ false → was_shut (es ++ round_events at xs ds) ≡ false
-  open-of open =
-      shut-join es (round_events at xs ds) open
+  open-of goes_on =
+      shut-join es (round_events at xs ds) goes_on
       (shut-join (map (Answered at) xs) (Settled at ∷ takes) (asks-shut-nothing xs) (shut-join (takes_of at ds) (Took at None ∷ []) (takes-shut-nothing at ds) refl))
 
 -- ---- asks may begin
@@ -148,7 +148,7 @@ module _ {B : Type 0} (delays : backoff.Ghosts B) (first : B) where
               (subst (λ t. AskStands (generator_world delays first t) (λ own. RootStands meta_of own asks.root) (λ place own. ⊤) 0 (budget ∷ []) (s.before ++ s.mine) (dated at.0 xs) asks.kept) (sym same) may.asks_stand);
           fits = subst (λ t. EachFits (generator_world delays first t) [] (answers_in after.events)) (sym same) (subst (EachFits (generator_world delays first kind) []) (sym answers) may.fits);
           idle = idle-of past.events at.0 xs ds s.idle;
-          open = open-of past.events at.0 xs ds s.open;
+          goes_on = open-of past.events at.0 xs ds s.goes_on;
           sound = ap (λ (a : Asking Root NoRelated B). a.is_spent) asks-are ∙ may.unspent;
           unspent = unspent;
         }
@@ -202,7 +202,7 @@ module _ {B : Type 0} (delays : backoff.Ghosts B) (first : B) where
     asks_stand = asks;
     fits = tt;
     idle = refl;
-    open = refl;
+    goes_on = refl;
     sound = sound;
     unspent = unspent;
   }
@@ -221,7 +221,7 @@ module _ {B : Type 0} (delays : backoff.Ghosts B) (first : B) where
     asks_stand = subst (λ t. AskStands (generator_world delays first t) (λ own. RootStands meta_of own old.asks.root) (λ place own. ⊤) 0 s.budget s.before s.mine old.asks.kept) (sym same) s.asks_stand;
     fits = subst (λ t. EachFits (generator_world delays first t) [] (answers_in past.events)) (sym same) s.fits;
     idle = s.idle;
-    open = s.open;
+    goes_on = s.goes_on;
     sound = s.sound;
     unspent = s.unspent;
   }

@@ -77,7 +77,7 @@ module _ {B : Type 0} (delays : backoff.Ghosts B) (first : B) where
     pub asks_stand : AskStands (world_of g) (λ own. RootStands meta_of own g.asks.root) (λ place own. ⊤) 0 budget before mine g.asks.kept
     pub fits : EachFits (world_of g) [] (answers_in past.events)
     pub idle : running_of past.events ≡ []
-    pub open : was_shut past.events ≡ false
+    pub goes_on : was_shut past.events ≡ false
     pub sound : g.asks.is_spent ≡ false
     pub unspent : g.is_spent ≡ false
 

@@ -60,8 +60,8 @@ same_owner a b = bytes_eq a.api_version b.api_version && bytes_eq a.kind b.kind 
 abbrev pub same_owners : List OwnerReference → List OwnerReference → Bool
 same_owners [] [] = true
 same_owners [] (b ∷ bs) = false
-same_owners (a ∷ as) [] = false
-same_owners (a ∷ as) (b ∷ bs) = same_owner a b && same_owners as bs
+same_owners (a ∷ rest) [] = false
+same_owners (a ∷ rest) (b ∷ bs) = same_owner a b && same_owners rest bs
 
 -- its owner references are exactly this one
 abbrev pub is_owned_by : OwnerReference → ObjectMeta → Bool

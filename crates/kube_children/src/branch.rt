@@ -98,11 +98,7 @@ fn bring(alloc: Global, server: &mut Server, child: &DynamicObject) -> Result<()
 /// Puts each child that isn't there as it is.
 ///
 /// Errors: `NoMemory`.
-fn bring_all(
-    alloc: Global,
-    server: &mut Server,
-    children: &[DynamicObject],
-) -> Result<(), NoMemory>
+fn bring_all(alloc: Global, server: &mut Server, children: &[DynamicObject]) -> Result<(), NoMemory>
     ensures brought { OnOk result (holding server.new ≡ with_children (holding server.old) (map seen_object children.now)) }
     ensures kind { server.new.kind ≡ server.old.kind }
 {

@@ -98,9 +98,7 @@ fn poll(
 /// memory.)
 ///
 /// Errors: `NoMemory`.
-fn fault_of(
-    answer: Polled<Result<Action, Error<GenFault>>>,
-) -> Result<Option<GenFault>, NoMemory>
+fn fault_of(answer: Polled<Result<Action, Error<GenFault>>>) -> Result<Option<GenFault>, NoMemory>
     ensures { IfOk result (λ f. fault_told answer ≡ Some f) }
 {
     match answer {

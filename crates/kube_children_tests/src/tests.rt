@@ -1,9 +1,7 @@
 //! Parents that are put, changed and deleted, with what each round does and the children after it.
 
 use kube_children::{Change, GenError, Generator, Round};
-use kube_meta::{
-    ApiResource, DynamicObject, Moment, ObjectRef, read_object, write_object,
-};
+use kube_meta::{ApiResource, DynamicObject, Moment, ObjectRef, read_object, write_object};
 use kube_server::{Server, ServerRefusal};
 use serde_json::Value;
 use std::alloc::Global;
@@ -70,8 +68,7 @@ fn shown(rt: &impl Abort, alloc: Global, round: &Round) -> String {
     } = round;
     let mut text = format!(in alloc;
         "{asks} asks, {not_ready}, {applied} applied, {cleaned} cleaned, {patched} patched"
-    )
-    .expect(rt, "memory");
+    ).expect(rt, "memory");
     for fault in failed.as_slice() {
         let fault = format!(in alloc; ", {fault}").expect(rt, "memory");
         text.push_str(fault.as_str()).expect(rt, "memory");
@@ -110,10 +107,18 @@ fn follows(rt: &impl Abort, alloc: Global) {
     );
     is_text(rt, put.as_str(), "1");
     let first = rounded(rt, alloc, &mut generator, 0);
-    is_text(rt, first.as_str(), "3 asks, true, 0 applied, 0 cleaned, 1 patched");
+    is_text(
+        rt,
+        first.as_str(),
+        "3 asks, true, 0 applied, 0 cleaned, 1 patched",
+    );
     is_text(rt, held(rt, alloc, generator.children()).as_str(), "");
     let second = rounded(rt, alloc, &mut generator, 1);
-    is_text(rt, second.as_str(), "2 asks, true, 1 applied, 0 cleaned, 0 patched");
+    is_text(
+        rt,
+        second.as_str(),
+        "2 asks, true, 1 applied, 0 cleaned, 0 patched",
+    );
     is_text(
         rt,
         held(rt, alloc, generator.children()).as_str(),
@@ -122,7 +127,11 @@ fn follows(rt: &impl Abort, alloc: Global) {
     let deleted = delete(rt, alloc, &mut generator, "a");
     is_text(rt, deleted.as_str(), "3");
     let third = rounded(rt, alloc, &mut generator, 2);
-    is_text(rt, third.as_str(), "2 asks, true, 0 applied, 1 cleaned, 1 patched");
+    is_text(
+        rt,
+        third.as_str(),
+        "2 asks, true, 0 applied, 1 cleaned, 1 patched",
+    );
     is_text(rt, held(rt, alloc, generator.children()).as_str(), "");
     is_text(rt, held(rt, alloc, generator.parents()).as_str(), "");
 }

@@ -13,8 +13,7 @@ loop-asks_made-init g c =
       asked = λ first kind last before mine es may.
           let start = begun g.B.Backoff first kind (c.args.budget ∷ []) last before mine es c.args.asks.now c.begin.new.self c.args.core.now may
           (ap (λ a. a.root) c.in_ok-begin.ensures.begun) (ap (λ a. a.is_spent) c.in_ok-begin.ensures.begun)
-          (rw c.in_ok-budgets.ensures.items at (c.in_ok-begin.ensures.stands _ last before mine may.asks_stand)) in
-          (
+          (rw c.in_ok-budgets.ensures.items at (c.in_ok-begin.ensures.stands _ last before mine may.asks_stand)) in (
             [],
             asked-begun g.B.Backoff first kind c.args.budget (before ++ mine) es c.args.now.0 c.args.asks.now c.begin.new.self c.args.core.now (ap (λ a. a.root) c.in_ok-begin.ensures.begun) (ap (λ a. a.related) c.in_ok-begin.ensures.begun) start,
             refl,

@@ -38,8 +38,7 @@ returns-then-not-more-clause-took c world es s =
     let e = c.in_ok-more.ensures in
     let at = c.args.now.0 in
     let k = i.stands world es s in
-    let S = λ fs. StandsFor type_of meta_of world fs c.take_one.new.core in
-    (
+    let S = λ fs. StandsFor type_of meta_of world fs c.take_one.new.core in (
       k.0,
       took-last S c.args.parents.now.kind c.args.finalizer.now at es k.0 _ _ _ c.args.round.now c.loop-_take.round c.take_one.new.round k.1 k.2
           (subst (λ t. IsTake S t c.args.finalizer.now at (es ++ takes_of at k.0) false _ c.loop-_take.round _ c.take_one.new.round) i.kind
