@@ -9,8 +9,7 @@ use std::alloc::Global;
 use std::sync::Arc;
 
 fn kind(alloc: Global, kind: &str, plural: &str) -> Result<Arc<ApiResource>> {
-    let resource = ApiResource::new(alloc, "", "v1", kind, plural)?;
-    Ok(Arc::new(alloc, resource)?)
+    Ok(Arc::new(alloc, ApiResource::new(alloc, "", "v1", kind, plural)?)?)
 }
 
 fn change(alloc: Global, generator: &mut Generator, change: Change, now: Moment) -> Result<()> {
@@ -41,10 +40,8 @@ fn follow(rt: &impl Print, alloc: Global, generator: &mut Generator, now: Moment
 
 fn main(rt: HostRuntime) -> Result<()> {
     let alloc = rt.alloc();
-    let (parents, children) = (
-        kind(alloc, "ConfigMap", "configmaps")?,
-        kind(alloc, "Pod", "pods")?,
-    );
+    let parents = kind(alloc, "ConfigMap", "configmaps")?;
+    let children = kind(alloc, "Pod", "pods")?;
     let gone = ObjectRef::new_with(alloc, "c", parents.clone()?)?;
     let mut generator = Generator::new(alloc, parents, children, "example.dev/pods")?;
     for parent in [

@@ -9,7 +9,8 @@ ghost use Rattle.kube_children.specs.declared.round.GenError.TheVariants as erro
 ghost use Rattle.kube_children.specs.Changes.{IsChanged, is_plain, is_unnamed, names_none, refusal_of};
 ghost use Rattle.kube_children.specs.Generators.{Past, StandsFor, IsRound, no_rounds};
 ghost use Rattle.kube_children.specs.Kept.{AreNewParents, HoldsWhatParentsWant, IsAtRest, Keeps, had_foreign};
-ghost use Rattle.kube_children.specs.Rounds.{conn_of, fed};
+ghost use Rattle.kube_watch.specs.Configs.{settings_of};
+ghost use Rattle.kube_children.specs.Rounds.{conn_of, fed, root_settings};
 
 use crate::asking::ask_all;
 use crate::change::{Change, put_over};
@@ -76,7 +77,9 @@ impl Model for Generator {
 }
 
 /// How the root lists and watches: a watch is never started again for its silence.
-fn watcher_config() -> WatcherConfig {
+fn watcher_config() -> WatcherConfig
+    ensures { settings_of result ≡ root_settings }
+{
     WatcherConfig::default().timeout(0)
 }
 
@@ -125,11 +128,13 @@ impl Generator {
         let parents = Server::new(alloc, parent);
         let conn = Conn::new(alloc, &parents)?;
         let root = WatchRoot::new(alloc, conn, watcher_config(), dyntype);
+        let asks = Asks::new(alloc, root, NoRelated, DefaultBackoff::default());
+        let children = Server::new(alloc, child);
         Ok(Generator {
             finalizer: Text::new(alloc, finalizer)?,
             parents,
-            children: Server::new(alloc, child),
-            asks: Asks::new(alloc, root, NoRelated, DefaultBackoff::default()),
+            children,
+            asks,
             core,
             last: Moment(0),
             spent: false,
