@@ -1,15 +1,26 @@
 -- What rounds keep, before the first and after a change of the parents.
-use Rattle.std.proofs.Common.{◌≡◌, ◌≤◌, ℕ, true, false, List, [], Option, Some, None, refl, sym, ap, subst, ◌∙◌, arith}
+use Rattle.std.proofs.Common.{◌≡◌, ℕ, zero, suc, true, false, List, [], take, Option, Some, None, refl, sym, ap, subst, ◌∙◌, arith}
 use Rattle.kube_meta.specs.declared.dynamic.DynamicObject.{DynamicObject}
 use Rattle.kube_meta.specs.Reading.{ObjectData}
 use Rattle.kube_meta.specs.Reference.{ObjectType, Reference}
-use Rattle.kube_server.specs.History.{Key, object_at}
+use Rattle.kube_server.specs.History.{Change, Key, object_at, state_at, state_of}
 use Rattle.kube_server.specs.Servers.{ServerState, meta_of}
 use Rattle.kube_server.specs.Connections.{Connection, fresh}
 use Rattle.kube_children.specs.declared.round.Round.{Round}
 use Rattle.kube_children.specs.Branches.{holding}
-use Rattle.kube_children.specs.Kept.{AreNewParents, HoldsExactly, IsKept, IsWantedLast}
+use Rattle.kube_children.specs.Kept.{AreNewParents, IsGuardedUntilCleaned, IsKept, IsNeverTakenBack}
 use Rattle.kube_history.specs.CoreEvents.{CoreEvent}
+
+-- without changes nothing stands anywhere
+none-at : (changes : List (Change DynamicObject)) → changes ≡ [] → (key : Key) (r : ℕ) (o : DynamicObject) → object_at key (state_at meta_of changes r) ≡ Some o → ⊥
+none-at changes none key r o found =
+    let nothing : state_at meta_of changes r ≡ [] = ap (λ cs. state_at meta_of cs r) none ∙ ap (state_of meta_of) (take-nothing r) in
+    let no : None ≡ Some o = sym (ap (object_at key) nothing) ∙ found in
+    cc
+  where
+    take-nothing : (n : ℕ) → take n ([] : List (Change DynamicObject)) ≡ []
+    take-nothing zero = refl
+    take-nothing (suc n) = refl
 
 -- of two servers without objects, before the first round
 pub kept-first : (kind : ObjectType) (name : List ℕ) (parents children : ServerState) (conn : Connection DynamicObject) → parents.changes ≡ [] → children.changes ≡ [] → conn ≡ fresh [] 0 → IsKept kind name parents children conn [] []
@@ -26,6 +37,8 @@ kept-first kind name parents children conn none no-children made =
       quiet = λ sound r. refl;
       parents_new = subst (AreNewParents name 0) (sym none) tt;
       staged = λ uid. tt;
+      deleted = λ key r s o p rises within at_r. absurd (none-at parents.changes none key r o at_r);
+      guarded = λ key r s o uid rises within at_r. absurd (none-at parents.changes none key r o at_r);
       owned = λ key o found. absurd (let no : None ≡ Some o = sym (ap (object_at key) empty) ∙ found in cc);
       apart = record { apart = λ a b p q first second. absurd (let no : None ≡ Some p = first in cc) };
       exact = record {
@@ -36,8 +49,8 @@ kept-first kind name parents children conn none no-children made =
 
 -- a change of the parents that puts no new one with a uid or with the finalizer
 pub kept-changed : (kind : ObjectType) (name : List ℕ) (old new children : ServerState) (conn : Connection DynamicObject) (es : List (CoreEvent DynamicObject)) (rounds : List Round) → AreNewParents name 0 new.changes
-    → IsKept kind name old children conn es rounds → IsKept kind name new children conn es rounds
-kept-changed kind name old new children conn es rounds fresh-parents k = record {
+    → IsNeverTakenBack kind name new.changes → IsGuardedUntilCleaned kind name new.changes es → IsKept kind name old children conn es rounds → IsKept kind name new children conn es rounds
+kept-changed kind name old new children conn es rounds fresh-parents deleted guarded k = record {
   acts = k.acts;
   made = k.made;
   told = k.told;
@@ -48,6 +61,8 @@ kept-changed kind name old new children conn es rounds fresh-parents k = record 
   quiet = k.quiet;
   parents_new = fresh-parents;
   staged = k.staged;
+  deleted = deleted;
+  guarded = guarded;
   owned = k.owned;
   apart = k.apart;
   exact = k.exact;

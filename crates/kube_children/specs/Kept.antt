@@ -1,6 +1,8 @@
 -- What rounds keep of two servers: the children are those that the parents' last hand-overs want. (Kubernetes API concepts: "finalizers", "owners and dependents", "resource versions".)
-use Rattle.std.specs.Prelude.{◌≡◌, ℕ, suc, ◌+◌, ◌≤◌, Bool, true, false, List, [], ◌∷◌, ◌++◌, map, length, Option, Some, None, is_some, slice_get}
+use Rattle.std.specs.Prelude.{◌≡◌, ◌⊎◌, ℕ, suc, ◌≤◌, Bool, true, false, ◌&&◌, List, [], ◌∷◌, length, Option, Some, None, is_some, slice_get}
 use Rattle.std.specs.List.{fold, list_any}
+use Rattle.std.specs.Option.{option_eq}
+use Rattle.std.specs.Str.{bytes_eq}
 use Rattle.kube_meta.specs.declared.metadata.ObjectMeta.{ObjectMeta}
 use Rattle.kube_meta.specs.declared.dynamic.DynamicObject.{DynamicObject}
 use Rattle.kube_meta.specs.Keys.{is_named, key_of as reference_to}
@@ -127,12 +129,49 @@ module _ (kind : ObjectType) (name : List ℕ) where
   stage_on None = 0
   stage_on (Some o) = stage_of (decision_on name o.metadata)
 
+  abbrev pub is_cleanup : Decision → Bool
+  is_cleanup (Cleanup i) = true
+  is_cleanup Apply = false
+  is_cleanup AddFirst = false
+  is_cleanup AddMore = false
+  is_cleanup Nothing = false
+  is_cleanup Unnamed = false
+
+  abbrev pub is_cleaned : List ℕ → Option DynamicObject → Bool
+  is_cleaned uid None = false
+  is_cleaned uid (Some o) = option_eq bytes_eq o.metadata.uid (Some uid) && is_cleanup (decision_on name o.metadata)
+
+  -- an object of this uid was handed over to be cleaned up
+  abbrev pub cleans : List ℕ → CoreEvent DynamicObject → Bool
+  cleans uid (Took at (Some t)) = is_cleaned uid t.object
+  cleans uid _ = false
+
   -- hand-overs of a uid come in the order of its life, after this stage
   abbrev pub AreStaged : List ℕ → ℕ → List (CoreEvent DynamicObject) → Type 0
   AreStaged uid stage [] = Unit {0}
   AreStaged uid stage (Took at (Some t) ∷ es) =
       (of_uid uid t.object → (stage ≤ stage_on t.object) × AreStaged uid (stage_on t.object) es) × ((of_uid uid t.object → ⊥) → AreStaged uid stage es)
   AreStaged uid stage (_ ∷ es) = AreStaged uid stage es
+
+  -- ---- lives of parents
+
+  abbrev pub is_guarded : DynamicObject → Bool
+  is_guarded o = is_some (first_index name (finalizers_in o.metadata))
+
+  -- what stands under a key at a later revision, where it is of the same uid, is being deleted if it was before
+  abbrev pub IsNeverTakenBack : List (Change DynamicObject) → Type 0
+  IsNeverTakenBack changes = (key : Key) (r s : ℕ) (o p : DynamicObject) → r ≤ s → s ≤ length changes → object_at key (state_at meta_of changes r) ≡ Some o → object_at key (state_at meta_of changes s) ≡ Some p
+      → o.metadata.uid ≡ p.metadata.uid → is_some o.metadata.deletion_timestamp ≡ true → is_some p.metadata.deletion_timestamp ≡ true
+
+  -- it stands there, of this uid and with the finalizer
+  abbrev pub StandsGuarded : Option (List ℕ) → Option DynamicObject → Type 0
+  StandsGuarded uid None = ⊥
+  StandsGuarded uid (Some p) = (p.metadata.uid ≡ uid) × (is_guarded p ≡ true)
+
+  -- what has the finalizer stands there with it at each later revision, unless it was handed over to be cleaned up
+  abbrev pub IsGuardedUntilCleaned : List (Change DynamicObject) → List (CoreEvent DynamicObject) → Type 0
+  IsGuardedUntilCleaned changes es = (key : Key) (r s : ℕ) (o : DynamicObject) (uid : List ℕ) → r ≤ s → s ≤ length changes → object_at key (state_at meta_of changes r) ≡ Some o → o.metadata.uid ≡ Some uid → is_guarded o ≡ true
+      → StandsGuarded (Some uid) (object_at key (state_at meta_of changes s)) ⊎ (list_any (cleans uid) es ≡ true)
 
   -- ---- children
 
@@ -166,8 +205,10 @@ module _ (kind : ObjectType) (name : List ℕ) where
     pub quiet : had_fault rounds ≡ false → (r : Reference) → has_entry (parents_core kind) es r ≡ false
     -- (5) each parent that is new has the uid of its revision
     pub parents_new : AreNewParents name 0 parents.changes
-    -- (6) hand-overs of each life come in its order
+    -- (6) hand-overs of each life come in its order; a deletion is never taken back, and a finalizer stays until its cleanup
     pub staged : (uid : List ℕ) → AreStaged uid 0 es
+    pub deleted : IsNeverTakenBack parents.changes
+    pub guarded : IsGuardedUntilCleaned parents.changes es
     -- (7) each child has one owner, whose last hand-over wants it; and these want children in places of their own
     pub owned : (key : Key) (o : ObjectData) → object_at key (holding children).objects ≡ Some o → IsChildOf es o
     pub apart : AreApart es

@@ -14,11 +14,11 @@ returns-in-Started-clause-took c world es s =
     let at = c.args.now.0 in
     let h = c.in_ok-handled-in-Started.handled in
     let took = subst (λ x. StandsFor type_of meta_of world (es ++ Took at (taken_of type_of x) ∷ []) c.take.new.self) c.in-Started.is (c.in_ok-taken.ensures.stands world es s) in
-    let finished = c.finish.ensures.stands world _ took in (
+    let finished = c.finish-_ran.ensures.stands world _ took in (
       _,
       c.in_ok-handled-in-Started.ensures.handed,
       c.in_ok-add-in-Started.ensures,
-      found-take (λ fs. StandsFor type_of meta_of world fs c.finish.new.self) es at _ o h c.finish.result refl (c.finish.ensures.ran world _ took)
+      found-take (λ fs. StandsFor type_of meta_of world fs c.finish-_ran.new.self) es at _ o h c.finish-_ran.result refl (c.finish-_ran.ensures.ran world _ took)
           (rw (c.is_none.ensures, c.action.ensures) at finished),
     )
 
