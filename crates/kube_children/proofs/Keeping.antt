@@ -1,5 +1,5 @@
 -- What rounds keep, before the first and after a change of the parents.
-use Rattle.std.proofs.Common.{◌≡◌, ℕ, zero, suc, true, false, List, [], take, Option, Some, None, refl, sym, ap, subst, ◌∙◌, arith}
+use Rattle.std.proofs.Common.{◌≡◌, ℕ, zero, suc, true, false, List, [], ◌∷◌, take, Option, Some, None, refl, sym, ap, subst, ◌∙◌, arith}
 use Rattle.kube_meta.specs.declared.dynamic.DynamicObject.{DynamicObject}
 use Rattle.kube_meta.specs.Reading.{ObjectData}
 use Rattle.kube_meta.specs.Reference.{ObjectType, Reference}
@@ -14,13 +14,14 @@ use Rattle.kube_history.specs.CoreEvents.{CoreEvent}
 -- without changes nothing stands anywhere
 none-at : (changes : List (Change DynamicObject)) → changes ≡ [] → (key : Key) (r : ℕ) (o : DynamicObject) → object_at key (state_at meta_of changes r) ≡ Some o → ⊥
 none-at changes none key r o found =
-    let nothing : state_at meta_of changes r ≡ [] = ap (λ cs. state_at meta_of cs r) none ∙ ap (state_of meta_of) (take-nothing r) in
+    let nothing : state_at meta_of changes r ≡ [] = ap (state_of meta_of) (none-taken r changes none) in
     let no : None ≡ Some o = sym (ap (object_at key) nothing) ∙ found in
     cc
   where
-    take-nothing : (n : ℕ) → take n ([] : List (Change DynamicObject)) ≡ []
-    take-nothing zero = refl
-    take-nothing (suc n) = refl
+    none-taken : (n : ℕ) (cs : List (Change DynamicObject)) → cs ≡ [] → take n cs ≡ []
+    none-taken zero cs e = refl
+    none-taken (suc n) [] e = refl
+    none-taken (suc n) (c ∷ cs) e = absurd (cc)
 
 -- of two servers without objects, before the first round
 pub kept-first : (kind : ObjectType) (name : List ℕ) (parents children : ServerState) (conn : Connection DynamicObject) → parents.changes ≡ [] → children.changes ≡ [] → conn ≡ fresh [] 0 → IsKept kind name parents children conn [] []

@@ -6,3 +6,4 @@ pub mod Dealing
 pub mod Asking
 pub mod Rounding
 pub mod Keeping
+pub mod Lookups
