@@ -7,3 +7,4 @@ pub mod Asking
 pub mod Rounding
 pub mod Keeping
 pub mod Lookups
+pub mod Exact
