@@ -8,3 +8,4 @@ pub mod Rounding
 pub mod Keeping
 pub mod Lookups
 pub mod Exact
+pub mod Applying
