@@ -1,5 +1,5 @@
 -- Asks of a round, each of the one root and told to the core.
-use Rattle.std.proofs.Common.{◌≡◌, ◌≤◌, ◌<◌, ◌⊎◌, inl, inr, ℕ, zero, suc, ◌+◌, ◌-◌, Bool, true, false, cond, not, ◌&&◌, ◌||◌, nat_lt, List, [], ◌∷◌, ◌++◌, map, length, find, Option, Some, None, refl, sym, ap, subst, ◌∙◌, append_assoc, append-nil, arith}
+use Rattle.std.proofs.Common.{◌≡◌, ◌≤◌, ◌<◌, ◌⊎◌, ℕ, zero, suc, ◌+◌, ◌-◌, Bool, true, false, cond, not, ◌&&◌, ◌||◌, List, [], ◌∷◌, ◌++◌, map, length, find, Option, Some, None, refl, sym, ap, subst, ◌∙◌, append_assoc, append-nil, arith}
 use Rattle.std.proofs.lemmas.List.{map-append}
 use Rattle.std.specs.List.{AllByRecursion, list_any, range_with_len}
 use Rattle.std.specs.declared.alloc.Global.{Global}
@@ -9,11 +9,9 @@ use Rattle.kube_meta.specs.declared.dynamic.DynamicObject.{DynamicObject}
 use Rattle.kube_meta.specs.Keys.{key_of}
 use Rattle.kube_meta.specs.Reference.{ObjectType}
 use Rattle.kube_model.specs.Asks.{has_budget, in_turn, is_quiet, may_be_asked, next_asked, told_not_ready}
-use Rattle.kube_model.specs.Fits.{IsFitting}
 use Rattle.kube_model.specs.History.{Dated, Exchange, dated, dated_of, exchanges_of}
 use Rattle.kube_model.specs.Named.{RootIsNamed}
 use Rattle.kube_model.specs.Owed.{is_not_ready}
-use Rattle.kube_model.specs.Pause.{gave_up, is_paused}
 use Rattle.kube_model.specs.World.{World, Watched}
 use Rattle.kube_backoff.specs.declared.backoff.Backoff as backoff
 use Rattle.kube_history.specs.Agrees.{EachFits}
@@ -29,7 +27,6 @@ use Rattle.kube_watch.specs.Polls.{dated_now}
 use Rattle.kube_watch.specs.Stands.{settings_in}
 use Rattle.kube_asks.specs.declared.sets.NoRelated.{NoRelated}
 use Rattle.kube_asks.specs.Asking.{Asking, AskStands, IsNextAsked, IsPolledAt, IsWorldOf, SourcesStand}
-use Rattle.kube_asks.specs.Kept.{IsKept}
 use Rattle.kube_asks.specs.Roots.{RootStands}
 use Rattle.kube_asks.proofs.Names.{recorded-named}
 use Rattle.kube_step.specs.Calls.{ArePolled}

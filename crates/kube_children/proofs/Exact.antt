@@ -1,6 +1,6 @@
 -- An Apply keeps the children exactly those that are wanted.
-use Rattle.std.proofs.Common.{◌≡◌, ℕ, zero, suc, Bool, true, false, cond, not, ◌&&◌, ◌||◌, List, [], ◌∷◌, ◌++◌, slice_get, Option, Some, None, refl, sym, ap, ap₂, subst, ◌∙◌, append-nil, true≢false}
-use Rattle.std.specs.List.{AllByRecursion, IsDistinct, cons_option, filter_map, list_any}
+use Rattle.std.proofs.Common.{◌≡◌, ℕ, zero, suc, Bool, true, false, cond, not, ◌&&◌, ◌||◌, List, [], ◌∷◌, ◌++◌, slice_get, Option, Some, None, refl, sym, ap, subst, ◌∙◌, append-nil, true≢false}
+use Rattle.std.specs.List.{AllByRecursion, cons_option, filter_map}
 use Rattle.std.specs.Option.{option_eq, option_or}
 use Rattle.std.specs.Str.{bytes_eq}
 use Rattle.std.proofs.lemmas.Slice.Eq.{bytes_eq-Decides}
@@ -8,16 +8,16 @@ use Rattle.serde_json.specs.Data.{Members, no_members, member}
 use Rattle.kube_meta.specs.declared.dynamic.DynamicObject.{DynamicObject}
 use Rattle.kube_meta.specs.declared.metadata.ObjectMeta.{ObjectMeta}
 use Rattle.kube_meta.specs.declared.metadata.OwnerReference.{OwnerReference}
-use Rattle.kube_meta.specs.Reading.{ObjectData, seen_object}
-use Rattle.kube_meta.specs.Reference.{ObjectType, Reference, same_reference}
+use Rattle.kube_meta.specs.Reading.{ObjectData}
+use Rattle.kube_meta.specs.Reference.{ObjectType, Reference}
 use Rattle.kube_model.specs.Cuts.{last}
 use Rattle.kube_model.proofs.Lasts.{last-push}
 use Rattle.kube_history.specs.CoreWorld.{CoreWorld}
 use Rattle.kube_history.specs.CoreEvents.{CoreEvent}
 use Rattle.kube_history.specs.SettledEvents.{handed_by, last_handed_in}
-use Rattle.kube_server.specs.History.{Key, key_of, same_key, object_at}
-use Rattle.kube_children.specs.Wanted.{children_of, is_alike, is_child_of, is_only, is_owned_by, owner_of, owners_in, same_child, same_owner, same_owners, wanted}
-use Rattle.kube_children.specs.Branches.{Holding, first_foreign, found_in, is_among, is_foreign, is_unwanted, name_in, same_place}
+use Rattle.kube_server.specs.History.{Key, key_of}
+use Rattle.kube_children.specs.Wanted.{children_of, is_alike, is_only, is_owned_by, owner_of, owners_in, same_child, same_owner, same_owners, wanted}
+use Rattle.kube_children.specs.Branches.{Holding, first_foreign, found_in, is_among, is_foreign, name_in, same_place}
 use Rattle.kube_children.specs.Kept.{IsOneOf}
 
 -- ---- the last hand-over, after one event more

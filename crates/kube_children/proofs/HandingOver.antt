@@ -23,7 +23,7 @@ use Rattle.kube_children.specs.declared.hand_over.Handled.{Handled}
 use Rattle.kube_children.specs.declared.round.GenFault.{GenFault}
 use Rattle.kube_children.specs.declared.round.GenFault.TheVariants.{Patch}
 use Rattle.kube_children.specs.Branches.{Holding, holding, apply_fault, name_in}
-use Rattle.kube_children.specs.HandOvers.{Servers, IsHandedOver, IsLeftOn, after_branch, answer_on, handled_by, operations_on, patch_fault}
+use Rattle.kube_children.specs.HandOvers.{IsHandedOver, IsLeftOn, after_branch, answer_on, handled_by, operations_on, patch_fault}
 use Rattle.kube_children.specs.Handling.{IsPolledOn, IsPolledTo, IsSentTo, after_owed, branch_result, ended_by, fault_told, handled_so}
 
 -- ---- what failed, by the answer of a patch

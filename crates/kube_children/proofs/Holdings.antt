@@ -13,7 +13,7 @@ use Rattle.kube_server.specs.History.{Key, key_of, key_cmp, same_key, State, obj
 use Rattle.kube_server.specs.Servers.{ServerState, meta_of, data_meta, held, held_under, next_revision, put_change, put_over, removal, remove_change, IsStep, IsMade}
 use Rattle.kube_server.proofs.HistoryLemmas.{state-more}
 use Rattle.kube_children.specs.Changes.{put_as}
-use Rattle.kube_children.specs.Branches.{Holding, holding, holding_after, found_in, less_at, less_found, seen_entry, seen_state}
+use Rattle.kube_children.specs.Branches.{holding, holding_after, found_in, less_at, less_found, seen_entry, seen_state}
 
 -- ---- look-ups
 

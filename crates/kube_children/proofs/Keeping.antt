@@ -1,8 +1,7 @@
 -- What rounds keep, before the first and after a change of the parents.
 use Rattle.std.proofs.Common.{◌≡◌, ℕ, zero, suc, true, false, List, [], ◌∷◌, take, Option, Some, None, refl, sym, ap, subst, ◌∙◌, arith}
 use Rattle.kube_meta.specs.declared.dynamic.DynamicObject.{DynamicObject}
-use Rattle.kube_meta.specs.Reading.{ObjectData}
-use Rattle.kube_meta.specs.Reference.{ObjectType, Reference}
+use Rattle.kube_meta.specs.Reference.{ObjectType}
 use Rattle.kube_server.specs.History.{Change, Key, object_at, state_at, state_of}
 use Rattle.kube_server.specs.Servers.{ServerState, meta_of}
 use Rattle.kube_server.specs.Connections.{Connection, fresh}

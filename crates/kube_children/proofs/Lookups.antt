@@ -1,14 +1,14 @@
 -- What stands under each key after a branch.
-use Rattle.std.proofs.Common.{◌≡◌, ℕ, zero, suc, ◌+◌, Bool, true, false, cond, not, ◌&&◌, ◌||◌, List, [], ◌∷◌, map, filter, fold, Option, Some, None, slice_get, refl, sym, ap, subst, ◌∙◌}
+use Rattle.std.proofs.Common.{◌≡◌, ℕ, zero, suc, ◌+◌, Bool, true, false, cond, ◌&&◌, ◌||◌, List, [], ◌∷◌, map, filter, fold, Option, Some, None, slice_get, refl, sym, ap, subst, ◌∙◌}
 use Rattle.std.specs.List.{AllByRecursion, IsDistinct, list_any}
 use Rattle.std.specs.List.Sorted.{IsStrictlySortedBy}
 use Rattle.kube_meta.specs.declared.dynamic.DynamicObject.{DynamicObject}
 use Rattle.kube_meta.specs.declared.metadata.ObjectMeta.{ObjectMeta}
 use Rattle.kube_meta.specs.Keys.{is_named}
-use Rattle.kube_meta.specs.Reading.{ObjectData, seen_object}
+use Rattle.kube_meta.specs.Reading.{ObjectData}
 use Rattle.kube_server.specs.History.{Key, key_of, key_cmp, same_key, State, object_at, objects_of, object_of, changed, state_of, IsHistory}
 use Rattle.kube_server.specs.Servers.{ServerState, meta_of, data_meta, put_object, put_over, removal}
-use Rattle.kube_server.proofs.HistoryLemmas.{AllKeyed, IsKeyed, found-keyed, keyed-changed, keyed-state, same-equal}
+use Rattle.kube_server.proofs.HistoryLemmas.{AllKeyed, found-keyed, keyed-changed, keyed-state, same-equal}
 use Rattle.kube_server.proofs.OrderLemmas.{IsAscending, IsBelow, ascending-changed, keys_of, states-ascend}
 use Rattle.kube_server.proofs.StateLemmas.{found-changed}
 use Rattle.kube_server.proofs.WholeLemmas.{found-put, same-itself}

@@ -1,6 +1,5 @@
 -- A round, from its asks, its settle and its takes.
-use Rattle.std.proofs.Common.{◌≡◌, ◌≤◌, ◌⊎◌, inl, inr, ℕ, Bool, true, false, ◌||◌, List, [], ◌∷◌, ◌++◌, map, length, fold, Option, Some, None, refl, sym, ap, subst, ◌∙◌, append_assoc, append-nil}
-use Rattle.std.specs.List.{list_any}
+use Rattle.std.proofs.Common.{◌≡◌, ◌≤◌, ◌⊎◌, inl, inr, ℕ, Bool, true, false, ◌||◌, List, [], ◌∷◌, ◌++◌, map, fold, Option, Some, None, refl, sym, ap, subst, ◌∙◌, append_assoc, append-nil}
 use Rattle.std.proofs.lemmas.List.Sums.{fold-append}
 use Rattle.std.specs.declared.alloc.Global.{Global}
 use Rattle.std.specs.declared.sync.Arc.{Arc}
@@ -9,11 +8,10 @@ use Rattle.kube_meta.specs.declared.dynamic.DynamicObject.{DynamicObject}
 use Rattle.kube_meta.specs.declared.moment.Moment.{Moment}
 use Rattle.kube_meta.specs.Reference.{ObjectType}
 use Rattle.kube_model.specs.History.{Dated, Exchange, dated}
-use Rattle.kube_model.specs.Owed.{is_not_ready}
 use Rattle.kube_model.specs.Takes.{Running}
 use Rattle.kube_backoff.specs.declared.backoff.Backoff as backoff
 use Rattle.kube_history.specs.Agrees.{EachFits}
-use Rattle.kube_history.specs.CoreWorld.{CoreWorld, core_world}
+use Rattle.kube_history.specs.CoreWorld.{core_world}
 use Rattle.kube_history.specs.CoreEvents.{CoreEvent, Answered, Settled, Took, answers_in, running_of, running_with, was_shut}
 use Rattle.kube_server.specs.History.{IsLater}
 use Rattle.kube_server.specs.Servers.{ServerState, meta_of}
@@ -22,7 +20,7 @@ use Rattle.kube_server.proofs.LaterLemmas.{later_equal, later_later}
 use Rattle.kube_watch.specs.Stands.{settings_in}
 use Rattle.kube_core.specs.Cores.{Parts, StandsFor as CoreStands}
 use Rattle.kube_asks.specs.declared.sets.NoRelated.{NoRelated}
-use Rattle.kube_asks.specs.Asking.{Asking, AskStands, SourcesStand}
+use Rattle.kube_asks.specs.Asking.{Asking, AskStands}
 use Rattle.kube_asks.specs.Lending.{with_root_api}
 use Rattle.kube_asks.specs.Roots.{RootStands}
 use Rattle.kube_step.specs.Calls.{ArePolled}

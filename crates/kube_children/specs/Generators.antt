@@ -7,7 +7,7 @@ use Rattle.kube_meta.specs.declared.dynamic.DynamicObject.{DynamicObject}
 use Rattle.kube_meta.specs.declared.moment.Moment.{Moment}
 use Rattle.kube_meta.specs.Reference.{ObjectType}
 use Rattle.kube_meta.specs.Resources.{resource_type}
-use Rattle.kube_model.specs.World.{World, Watched}
+use Rattle.kube_model.specs.World.{World}
 use Rattle.kube_model.specs.History.{Dated, Exchange, dated}
 use Rattle.kube_backoff.specs.declared.backoff.Backoff as backoff
 use Rattle.kube_history.specs.CoreWorld.{core_world}

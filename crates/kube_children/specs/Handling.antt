@@ -1,5 +1,5 @@
 -- How a parent that is handed over is dealt with, step by step: the words of the calls between, which no clause of a public call shows.
-use Rattle.std.specs.Prelude.{◌≡◌, ℕ, ◌+◌, ◌-◌, ◌^◌, min, Bool, true, false, ◌&&◌, List, [], ◌∷◌, ◌++◌, fold, map, Option, Some, None, Result, Ok, Err, is_none, if◌then◌else◌}
+use Rattle.std.specs.Prelude.{◌≡◌, ℕ, ◌+◌, ◌-◌, ◌^◌, min, Bool, true, false, ◌&&◌, List, [], ◌∷◌, ◌++◌, fold, Option, Some, None, Result, Ok, Err, is_none, if◌then◌else◌}
 use Rattle.std.specs.List.{cons_option}
 use Rattle.kube_meta.specs.declared.metadata.ObjectMeta.{ObjectMeta}
 use Rattle.kube_meta.specs.declared.dynamic.DynamicObject.{DynamicObject}
@@ -23,7 +23,7 @@ use Rattle.kube_children.specs.declared.hand_over.Handled.{Handled}
 use Rattle.kube_children.specs.declared.round.GenFault.{GenFault}
 use Rattle.kube_children.specs.declared.round.GenFault.TheVariants.{Patch}
 use Rattle.kube_children.specs.declared.round.Round.{Round}
-use Rattle.kube_children.specs.Branches.{Holding, holding, name_in, apply_fault, after_apply, after_cleanup}
+use Rattle.kube_children.specs.Branches.{Holding, name_in, apply_fault, after_apply, after_cleanup}
 use Rattle.kube_children.specs.HandOvers.{Servers, Dealt, IsDealt, operations_on}
 use Rattle.kube_children.specs.Rounds.{dealt_events}
 

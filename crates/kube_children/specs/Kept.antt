@@ -3,18 +3,16 @@ use Rattle.std.specs.Prelude.{◌≡◌, ◌⊎◌, ℕ, suc, ◌≤◌, Bool, t
 use Rattle.std.specs.List.{fold, list_any}
 use Rattle.std.specs.Option.{option_eq}
 use Rattle.std.specs.Str.{bytes_eq}
-use Rattle.kube_meta.specs.declared.metadata.ObjectMeta.{ObjectMeta}
 use Rattle.kube_meta.specs.declared.dynamic.DynamicObject.{DynamicObject}
 use Rattle.kube_meta.specs.Keys.{is_named, key_of as reference_to}
 use Rattle.kube_meta.specs.Reference.{ObjectType, Reference}
 use Rattle.kube_meta.specs.Reading.{ObjectData, seen_object}
-use Rattle.kube_model.specs.History.{Exchange}
 use Rattle.kube_model.specs.Recorded.{AreRecorded}
 use Rattle.kube_model.specs.Store.{is_ready}
 use Rattle.kube_history.specs.CoreWorld.{CoreWorld}
-use Rattle.kube_history.specs.CoreEvents.{CoreEvent, Answered, Requested, Reloaded, Finished, Settled, Took, Shut, cache_of, root_answers}
+use Rattle.kube_history.specs.CoreEvents.{CoreEvent, Took, cache_of, root_answers}
 use Rattle.kube_history.specs.SettledEvents.{has_entry, last_handed_in}
-use Rattle.kube_server.specs.History.{Key, Change, Adds, Modifies, Removes, key_of, object_at, objects_of, state_at, state_of}
+use Rattle.kube_server.specs.History.{Key, Change, Adds, Modifies, Removes, key_of, object_at, state_at}
 use Rattle.kube_server.specs.Servers.{ServerState, held_under, made_uid, meta_of}
 use Rattle.kube_server.specs.Connections.{Act, Connection, acted, fresh, selected_by}
 use Rattle.kube_watch.specs.Calls.{version_of}

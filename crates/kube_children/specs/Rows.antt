@@ -1,12 +1,9 @@
 -- Worked parents and children: a parent a that wants one child, and two parents that want a child in one place.
 use Rattle.std.specs.Prelude.{ℕ, List, [], ◌∷◌, Option, Some, None, codes}
-use Rattle.serde_json.specs.Data.{Data, Members, number, object, unsigned, no_members, member}
-use Rattle.kube_meta.specs.declared.metadata.ObjectMeta.{ObjectMeta}
+use Rattle.serde_json.specs.Data.{Data, number, object, unsigned, no_members, member}
 use Rattle.kube_meta.specs.declared.metadata.OwnerReference.{OwnerReference}
-use Rattle.kube_meta.specs.Reference.{ObjectType}
 use Rattle.kube_meta.specs.Reading.{ObjectData}
 use Rattle.kube_meta.specs.Resources.{no_metadata}
-use Rattle.kube_model.specs.Plays.{config_map}
 use Rattle.kube_server.specs.History.{Key}
 use Rattle.kube_children.specs.Branches.{Holding}
 

@@ -1,6 +1,5 @@
-use Rattle.std.proofs.Common.{◌≡◌, ◌++◌, ◌∷◌, [], Some, None, refl, sym, ap, subst, ◌∙◌}
+use Rattle.std.proofs.Common.{◌≡◌, ◌++◌, ◌∷◌, [], Some, None, refl, ap, subst, ◌∙◌}
 use Rattle.std.specs.Option.{option_map}
-use Rattle.kube_server.specs.Servers.{meta_of}
 use Rattle.kube_turn.specs.Views.{exchange_of}
 use Rattle.kube_asks.specs.Asking.{IsNextAsked}
 use Rattle.kube_children.specs.Generators.{type_of}

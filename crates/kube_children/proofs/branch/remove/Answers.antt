@@ -1,6 +1,6 @@
-use Rattle.std.proofs.Common.{refl, sym, ap, subst, ◌∙◌}
+use Rattle.std.proofs.Common.{refl, ap, ◌∙◌}
 use Rattle.kube_meta.specs.Resources.{dynamic_reference}
-use Rattle.kube_children.specs.Branches.{holding, less_at}
+use Rattle.kube_children.specs.Branches.{holding}
 use Rattle.kube_children.proofs.Holdings.{nothing-holding, removed-holding, removed-kind}
 use Rattle.kube_children.proofs.branch.remove.Goals as goal
 

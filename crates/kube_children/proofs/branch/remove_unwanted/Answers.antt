@@ -1,5 +1,4 @@
 use Rattle.std.proofs.Common.{◌≡◌, map, sym, ap, ◌∙◌}
-use Rattle.std.specs.Arc.{arc_value}
 use Rattle.kube_meta.specs.Reading.{seen_object}
 use Rattle.kube_server.specs.History.{objects_of, state_of}
 use Rattle.kube_server.specs.Servers.{meta_of}

@@ -1,7 +1,5 @@
-use Rattle.std.proofs.Common.{Some, sym, ap, subst, ◌∙◌}
+use Rattle.std.proofs.Common.{Some, ap, ◌∙◌}
 use Rattle.kube_meta.specs.Reading.{seen_object}
-use Rattle.kube_server.specs.History.{key_of}
-use Rattle.kube_server.specs.Servers.{IsStep, held_under, put_change}
 use Rattle.kube_children.specs.Changes.{put_as}
 use Rattle.kube_children.proofs.Holdings.{put-kept}
 use Rattle.kube_children.proofs.change.put_over.Goals as goal

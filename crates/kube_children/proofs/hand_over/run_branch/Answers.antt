@@ -1,6 +1,4 @@
-use Rattle.std.proofs.Common.{Ok, Some, sym, ap, ◌∙◌}
-use Rattle.std.specs.Arc.{arc_value}
-use Rattle.kube_meta.specs.Resources.{resource_type}
+use Rattle.std.proofs.Common.{Some, ap, ◌∙◌}
 use Rattle.kube_children.specs.Handling.{ended_by}
 use Rattle.kube_children.proofs.hand_over.run_branch.Goals as goal
 

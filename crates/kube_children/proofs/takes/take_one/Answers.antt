@@ -1,6 +1,6 @@
-use Rattle.std.proofs.Common.{◌≡◌, ◌++◌, ◌∷◌, [], Some, refl, sym, ap, subst, ◌∙◌}
+use Rattle.std.proofs.Common.{◌≡◌, ◌++◌, ◌∷◌, [], Some, refl, subst, ◌∙◌}
 use Rattle.std.specs.Arc.{arc_value}
-use Rattle.kube_history.specs.CoreEvents.{CoreEvent, Took}
+use Rattle.kube_history.specs.CoreEvents.{Took}
 use Rattle.kube_server.specs.Servers.{meta_of}
 use Rattle.kube_core.specs.Cores.{StandsFor}
 use Rattle.kube_turn.specs.Views.{taken_of}

@@ -1,6 +1,4 @@
-use Rattle.std.proofs.Common.{◌≡◌, List, [], ◌∷◌, ◌++◌, map, string_cmp, sym, ap, subst, ◌∙◌, append_assoc, append-nil}
-use Rattle.std.specs.List.Sorted.{IsStrictlySortedBy}
-use Rattle.std.specs.Map.{keys_of}
+use Rattle.std.proofs.Common.{◌≡◌, List, [], ◌∷◌, ◌++◌, map, sym, ap, ◌∙◌, append_assoc, append-nil}
 use Rattle.serde_json.proofs.Views.{Entry}
 use Rattle.kube_meta.specs.Reading.{seen_object}
 use Rattle.kube_children.specs.Wanted.{child_of}
