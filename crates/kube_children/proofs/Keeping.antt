@@ -7,7 +7,7 @@ use Rattle.kube_server.specs.Servers.{ServerState, meta_of}
 use Rattle.kube_server.specs.Connections.{Connection, fresh}
 use Rattle.kube_children.specs.declared.round.Round.{Round}
 use Rattle.kube_children.specs.Branches.{holding}
-use Rattle.kube_children.specs.Kept.{AreNewParents, IsGuardedUntilCleaned, IsKept, IsNeverTakenBack}
+use Rattle.kube_children.specs.Kept.{AreLives, AreNewParents, IsGuardedUntilCleaned, IsKept, IsNeverTakenBack}
 use Rattle.kube_history.specs.CoreEvents.{CoreEvent}
 
 -- without changes nothing stands anywhere
@@ -36,6 +36,7 @@ kept-first kind name parents children conn none no-children made =
       sights = omega arith;
       quiet = λ sound r. refl;
       parents_new = subst (AreNewParents name 0) (sym none) tt;
+      lives = λ key r o within found. absurd (none-at parents.changes none key r o found);
       staged = λ uid. tt;
       deleted = λ key r s o p rises within at_r. absurd (none-at parents.changes none key r o at_r);
       guarded = λ key r s o uid rises within at_r. absurd (none-at parents.changes none key r o at_r);
@@ -49,8 +50,8 @@ kept-first kind name parents children conn none no-children made =
 
 -- a change of the parents that puts no new one with a uid or with the finalizer
 pub kept-changed : (kind : ObjectType) (name : List ℕ) (old new children : ServerState) (conn : Connection DynamicObject) (es : List (CoreEvent DynamicObject)) (rounds : List Round) → AreNewParents name 0 new.changes
-    → IsNeverTakenBack kind name new.changes → IsGuardedUntilCleaned kind name new.changes es → IsKept kind name old children conn es rounds → IsKept kind name new children conn es rounds
-kept-changed kind name old new children conn es rounds fresh-parents deleted guarded k = record {
+    → AreLives new.changes → IsNeverTakenBack kind name new.changes → IsGuardedUntilCleaned kind name new.changes es → IsKept kind name old children conn es rounds → IsKept kind name new children conn es rounds
+kept-changed kind name old new children conn es rounds fresh-parents lives deleted guarded k = record {
   acts = k.acts;
   made = k.made;
   told = k.told;
@@ -60,6 +61,7 @@ kept-changed kind name old new children conn es rounds fresh-parents deleted gua
   sights = k.sights;
   quiet = k.quiet;
   parents_new = fresh-parents;
+  lives = lives;
   staged = k.staged;
   deleted = deleted;
   guarded = guarded;

@@ -5,6 +5,7 @@ pub mod HandingOver
 pub mod Dealing
 pub mod Asking
 pub mod Rounding
+pub mod Lives
 pub mod Keeping
 pub mod Lookups
 pub mod Exact

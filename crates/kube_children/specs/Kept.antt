@@ -1,5 +1,5 @@
 -- What rounds keep of two servers: the children are those that the parents' last hand-overs want. (Kubernetes API concepts: "finalizers", "owners and dependents", "resource versions".)
-use Rattle.std.specs.Prelude.{◌≡◌, ◌⊎◌, ℕ, suc, ◌≤◌, Bool, true, false, ◌&&◌, List, [], ◌∷◌, length, Option, Some, None, is_some, slice_get}
+use Rattle.std.specs.Prelude.{◌≡◌, ◌⊎◌, ℕ, suc, ◌≤◌, ◌<◌, Bool, true, false, ◌&&◌, List, [], ◌∷◌, length, Option, Some, None, is_some, slice_get}
 use Rattle.std.specs.List.{fold, list_any}
 use Rattle.std.specs.Option.{option_eq}
 use Rattle.std.specs.Str.{bytes_eq}
@@ -38,6 +38,19 @@ IsNewParent name r (Removes o) = Unit {0}
 abbrev pub AreNewParents : List ℕ → ℕ → List (Change DynamicObject) → Type 0
 AreNewParents name r [] = Unit {0}
 AreNewParents name r (change ∷ changes) = IsNewParent name (suc r) change × AreNewParents name (suc r) changes
+
+-- what stands under a key at a revision has the uid of an earlier one, which added it there
+pub record IsBorn (changes : List (Change DynamicObject)) (key : Key) (r : ℕ) (o : DynamicObject) : Type 0 where
+  pub born : ℕ
+  pub before : born < r
+  pub first : DynamicObject
+  pub added : slice_get changes born ≡ Some (Adds first)
+  pub place : key_of first.metadata ≡ key
+  pub uid : o.metadata.uid ≡ Some (made_uid (suc born))
+
+-- so no two lives share a uid
+abbrev pub AreLives : List (Change DynamicObject) → Type 0
+AreLives changes = (key : Key) (r : ℕ) (o : DynamicObject) → r ≤ length changes → object_at key (state_at meta_of changes r) ≡ Some o → IsBorn changes key r o
 
 abbrev pub had_foreign : List Round → Bool
 had_foreign rounds = list_any (λ r. list_any is_foreign_fault r.failed) rounds
@@ -201,8 +214,9 @@ module _ (kind : ObjectType) (name : List ℕ) where
     pub sights : AreSights conn.changes 0 es revision
     -- (4) where no round had a fault nothing is left to come
     pub quiet : had_fault rounds ≡ false → (r : Reference) → has_entry (parents_core kind) es r ≡ false
-    -- (5) each parent that is new has the uid of its revision
+    -- (5) each parent that is new has the uid of its revision, and keeps it, so no two lives share one
     pub parents_new : AreNewParents name 0 parents.changes
+    pub lives : AreLives parents.changes
     -- (6) hand-overs of each life come in its order; a deletion is never taken back, and a finalizer stays until its cleanup
     pub staged : (uid : List ℕ) → AreStaged uid 0 es
     pub deleted : IsNeverTakenBack parents.changes
