@@ -7,6 +7,7 @@ pub mod Asking
 pub mod Rounding
 pub mod Lives
 pub mod Keeping
+pub mod Changing
 pub mod Lookups
 pub mod Exact
 pub mod Applying

@@ -70,6 +70,14 @@ KeepsLives changes (Adds o) = o.metadata.uid ≡ Some (made_uid (suc (length cha
 KeepsLives changes (Modifies o) = IsSameLife changes o
 KeepsLives changes (Removes o) = Unit {0}
 
+-- what has the finalizer keeps it, or was handed over to be cleaned up
+abbrev pub KeepsGuards : ObjectType → List ℕ → List (Change DynamicObject) → List (CoreEvent DynamicObject) → Change DynamicObject → Type 0
+KeepsGuards kind name changes es (Adds o) = object_at (key_of o.metadata) (state_of meta_of changes) ≡ None
+KeepsGuards kind name changes es (Modifies o) = (old : DynamicObject) (uid : List ℕ) → object_at (key_of o.metadata) (state_of meta_of changes) ≡ Some old → old.metadata.uid ≡ Some uid → is_guarded kind name old ≡ true
+    → StandsGuarded kind name (Some uid) (Some o) ⊎ (list_any (cleans kind name uid) es ≡ true)
+KeepsGuards kind name changes es (Removes o) = (old : DynamicObject) (uid : List ℕ) → object_at (key_of o.metadata) (state_of meta_of changes) ≡ Some old → old.metadata.uid ≡ Some uid → is_guarded kind name old ≡ true
+    → list_any (cleans kind name uid) es ≡ true
+
 module _ (kind : ObjectType) (name : List ℕ) (changes : List (Change DynamicObject)) (change : Change DynamicObject) where
   abbrev after : List (Change DynamicObject)
   after = changes ++ change ∷ []
@@ -173,19 +181,11 @@ module _ (kind : ObjectType) (name : List ℕ) (changes : List (Change DynamicOb
 
   -- ---- finalizers
 
-  -- what has the finalizer keeps it, or was handed over to be cleaned up
-  abbrev pub KeepsGuards : List (CoreEvent DynamicObject) → Change DynamicObject → Type 0
-  KeepsGuards es (Adds o) = object_at (key_of o.metadata) (state_of meta_of changes) ≡ None
-  KeepsGuards es (Modifies o) = (old : DynamicObject) (uid : List ℕ) → object_at (key_of o.metadata) (state_of meta_of changes) ≡ Some old → old.metadata.uid ≡ Some uid → is_guarded kind name old ≡ true
-      → StandsGuarded kind name (Some uid) (Some o) ⊎ (list_any (cleans kind name uid) es ≡ true)
-  KeepsGuards es (Removes o) = (old : DynamicObject) (uid : List ℕ) → object_at (key_of o.metadata) (state_of meta_of changes) ≡ Some old → old.metadata.uid ≡ Some uid → is_guarded kind name old ≡ true
-      → list_any (cleans kind name uid) es ≡ true
-
   -- it stands with the finalizer, or was handed over to be cleaned up
   abbrev StaysOr : List (CoreEvent DynamicObject) → List ℕ → Option DynamicObject → Type 0
   StaysOr es uid found = StandsGuarded kind name (Some uid) found ⊎ (list_any (cleans kind name uid) es ≡ true)
 
-  pub guarded-more : (es : List (CoreEvent DynamicObject)) → KeepsGuards es change → IsGuardedUntilCleaned kind name changes es → IsGuardedUntilCleaned kind name after es
+  pub guarded-more : (es : List (CoreEvent DynamicObject)) → KeepsGuards kind name changes es change → IsGuardedUntilCleaned kind name changes es → IsGuardedUntilCleaned kind name after es
   guarded-more es keeps guarded key r s o uid rises within at-r named has = by-revision (cases_lt (length changes) s) (cases_lt (length changes) r)
     where
       itself : StaysOr es uid (Some o)
@@ -199,7 +199,7 @@ module _ (kind : ObjectType) (name : List ℕ) (changes : List (Change DynamicOb
       gone q x true is removed old = inr (removed (same-equal key (key_of q.metadata) is))
       gone q x false is removed old = old
 
-      by-change : (c : Change DynamicObject) → KeepsGuards es c → (x : DynamicObject) → object_at key (state_of meta_of changes) ≡ Some x → StandsGuarded kind name (Some uid) (Some x) → StaysOr es uid (found_after meta_of key (Some x) c)
+      by-change : (c : Change DynamicObject) → KeepsGuards kind name changes es c → (x : DynamicObject) → object_at key (state_of meta_of changes) ≡ Some x → StandsGuarded kind name (Some uid) (Some x) → StaysOr es uid (found_after meta_of key (Some x) c)
       by-change (Adds q) none x found stays =
           put-over q x (same_key key (key_of q.metadata)) refl (λ here. absurd (let no : None ≡ Some x = sym none ∙ sym (ap (λ k. object_at k (state_of meta_of changes)) here) ∙ found in cc)) (inl stays)
       by-change (Modifies q) over x found stays =
