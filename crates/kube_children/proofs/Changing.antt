@@ -1,23 +1,24 @@
 -- Changes of the parents keep their lives.
-use Rattle.std.proofs.Common.{◌≡◌, ◌⊎◌, inl, inr, ℕ, suc, ◌+◌, ◌<◌, ◌^◌, Bool, true, false, cond, List, [], ◌∷◌, ◌++◌, length, Option, Some, None, unwrap_or, is_some, option_map, refl, sym, ap, subst, ◌∙◌, arith, true≢false}
+use Rattle.std.proofs.Common.{◌≡◌, ◌⊎◌, inl, inr, ℕ, suc, ◌+◌, ◌<◌, ◌^◌, Bool, true, false, cond, List, [], ◌∷◌, ◌++◌, length, Option, Some, None, Result, Ok, Err, unwrap_or, is_some, option_map, refl, sym, ap, subst, ◌∙◌, arith, true≢false}
+use Rattle.std.specs.Prelude.{IfOk, OnOk, OnErr}
 use Rattle.kube_meta.specs.declared.dynamic.DynamicObject.{DynamicObject}
 use Rattle.kube_meta.specs.declared.metadata.ObjectMeta.{ObjectMeta}
-use Rattle.kube_meta.specs.declared.moment.Moment.{Moment}
 use Rattle.kube_meta.specs.Reading.{ObjectData, seen_object, unless_empty}
-use Rattle.kube_meta.specs.Reference.{ObjectType, Reference}
+use Rattle.kube_meta.specs.Reference.{ObjectType}
 use Rattle.kube_meta.specs.Resources.{dynamic_reference}
 use Rattle.kube_history.specs.CoreEvents.{CoreEvent}
 use Rattle.kube_final.specs.Finalizers.{finalizers_in, first_index}
-use Rattle.kube_server.specs.History.{Change, Adds, Modifies, Removes, Key, IsHistory, change_seen, key_of, object_at, state_of}
+use Rattle.kube_server.specs.History.{Change, Adds, Modifies, Removes, Key, IsHistory, IsLater, change_seen, key_of, object_at, state_of}
 use Rattle.kube_server.specs.Servers.{IsAtMostStep, IsHeldAnd, IsStep, ServerState, deleting, deletion, has_finalizers, held, held_under, is_deleting, meta_of, next_revision, put_object, put_over, reference_key, removal, uid_of, with_version}
 use Rattle.kube_server.specs.Connections.{Connection}
-use Rattle.kube_server.proofs.HistoryLemmas.{found-in-history}
+use Rattle.kube_server.specs.declared.server.ServerRefusal.{ServerRefusal}
+use Rattle.kube_server.proofs.HistoryLemmas.{found-in-history, history-front}
 use Rattle.kube_children.specs.declared.change.Change.{Change as ParentChange}
 use Rattle.kube_children.specs.declared.change.Change.TheVariants.{Put, Delete}
 use Rattle.kube_children.specs.declared.round.Round.{Round}
 use Rattle.kube_children.specs.Changes.{IsChanged, put_as}
 use Rattle.kube_children.specs.Kept.{AreNewParents, IsKept, IsNewParent, is_guarded}
-use Rattle.kube_children.proofs.Lives.{IsSameLife, KeepsGuards, KeepsLives, deleted-more, guarded-more, lives-more}
+use Rattle.kube_children.proofs.Lives.{KeepsGuards, KeepsLives, deleted-more, guarded-more, lives-more}
 use Rattle.kube_children.proofs.Keeping.{kept-changed}
 
 -- ---- the newest change, of a history whose new parents are as they should be
@@ -181,3 +182,26 @@ module _ (name : List ℕ) (old new children : ServerState) (conn : Connection D
   pub kept-by-change : (change : ParentChange) (now : ℕ) → IsHistory meta_of old.changes → length new.changes < 2 ^ 64 → AreNewParents name 0 new.changes → IsChanged change now old new
       → IsKept old.kind name old children conn es rounds → IsKept new.kind name new children conn es rounds
   kept-by-change change now history bound fresh changed k = kept-safely bound fresh (safely-changed old.kind name old new history change now changed) k
+
+  -- one that was refused changed nothing
+  pub kept-either : (change : ParentChange) (now : ℕ) (result : Result ℕ ServerRefusal) → IfOk result (λ r. r ≡ length new.changes) → IfOk result (λ r. r < 2 ^ 64) → OnOk result (IsHistory meta_of new.changes) → IsLater old.changes new.changes old.compacted new.compacted
+      → OnOk result (IsChanged change now old new) → OnErr result (new ≡ old) → AreNewParents name 0 new.changes → IsKept old.kind name old children conn es rounds → IsKept new.kind name new children conn es rounds
+  kept-either change now (Ok r) newest small history later changed same fresh k =
+      let before : IsHistory meta_of old.changes = history-front meta_of old.changes later.more (subst (IsHistory meta_of) later.goes_on history) in
+      kept-by-change change now before (omega (arith, newest, small)) fresh changed k
+  kept-either change now (Err e) newest small history later changed same fresh k = kept-safely-same same k
+    where
+      kept-safely-same : new ≡ old → IsKept old.kind name old children conn es rounds → IsKept new.kind name new children conn es rounds
+      kept-safely-same is kept = subst (λ s. IsKept s.kind name s children conn es rounds) (sym is) kept
+
+  kind-safely : IsSafelyChanged old.kind name old new → new.kind ≡ old.kind
+  kind-safely (inl same) = ap (λ (s : ServerState). s.kind) same
+  kind-safely (inr (change, grown, safe)) = ap (λ (s : ServerState). s.kind) grown
+
+  -- the parents stay of their type
+  pub kind-either : (change : ParentChange) (now : ℕ) (result : Result ℕ ServerRefusal) → OnOk result (IsHistory meta_of new.changes) → IsLater old.changes new.changes old.compacted new.compacted
+      → OnOk result (IsChanged change now old new) → OnErr result (new ≡ old) → new.kind ≡ old.kind
+  kind-either change now (Ok r) history later changed same =
+      let before : IsHistory meta_of old.changes = history-front meta_of old.changes later.more (subst (IsHistory meta_of) later.goes_on history) in
+      kind-safely (safely-changed old.kind name old new before change now changed)
+  kind-either change now (Err e) history later changed same = ap (λ (s : ServerState). s.kind) same

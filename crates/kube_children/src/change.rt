@@ -4,8 +4,8 @@ ghost use Rattle.std.specs.Prelude.{◌≡◌, ◌↔◌, true, false, Some, Non
 ghost use Rattle.std.specs.Arc.{arc_value};
 ghost use Rattle.kube_meta.specs.Keys.{is_named};
 ghost use Rattle.kube_meta.specs.Reading.{seen_object};
-ghost use Rattle.kube_server.specs.History.{key_of, IsLater};
-ghost use Rattle.kube_server.specs.Servers.{held_under, newest, put_change, IsStep};
+ghost use Rattle.kube_server.specs.History.{key_of, IsHistory, IsLater};
+ghost use Rattle.kube_server.specs.Servers.{held_under, meta_of, newest, put_change, IsStep};
 ghost use Rattle.kube_children.specs.Changes.{is_plain, put_as};
 
 use crate::branch::found;
@@ -98,6 +98,7 @@ pub(crate) fn put_over(
     ensures found { ¬ (result ≡ Err ServerRefusal.NotFound) }
     ensures err { OnErr result (server.new ≡ server.old) }
     ensures later { IsLater server.old.changes server.new.changes server.old.compacted server.new.compacted }
+    ensures history { OnOk result (IsHistory meta_of server.new.changes) }
 {
     if object.metadata.name.is_none() {
         return Err(ServerRefusal::Unnamed);
