@@ -1,5 +1,5 @@
 -- A round, from its asks, its settle and its takes.
-use Rattle.std.proofs.Common.{◌≡◌, ◌≤◌, ◌⊎◌, inl, inr, ℕ, Bool, true, false, ◌||◌, List, [], ◌∷◌, ◌++◌, map, fold, Option, Some, None, refl, sym, ap, subst, ◌∙◌, append_assoc, append-nil}
+use Rattle.std.proofs.Common.{◌≡◌, ◌≤◌, ◌⊎◌, inl, inr, ℕ, Bool, true, false, ◌||◌, List, [], ◌∷◌, ◌++◌, map, fold, Option, Some, None, refl, sym, ap, subst, ◌∙◌, append_assoc, append-nil, arith, cond, ltb-false, nat_le, nat_lt, ◌^◌}
 use Rattle.std.proofs.lemmas.List.Sums.{fold-append}
 use Rattle.std.specs.declared.alloc.Global.{Global}
 use Rattle.std.specs.declared.sync.Arc.{Arc}
@@ -29,11 +29,13 @@ use Rattle.kube_honest.proofs.Tellings.{reached-polls}
 use Rattle.kube_children.specs.declared.asking.Asked.{Asked}
 use Rattle.kube_children.specs.declared.round.Round.{Round}
 use Rattle.kube_children.specs.Asking.{AreAsked, MayAsk}
-use Rattle.kube_children.specs.Generators.{Generating, IsRound, Past, StandsFor, no_rounds, type_of, with_round, world_of}
+use Rattle.kube_children.specs.declared.round.GenError.TheVariants.{BadMoment}
+use Rattle.kube_children.specs.Changes.{refusal_of}
+use Rattle.kube_children.specs.Generators.{Generating, IsLive, IsLiveUnlessSpent, IsRound, Past, StandsFor, no_rounds, type_of, with_round, world_of}
 use Rattle.kube_children.specs.Handling.{opened_by, with_dealt}
 use Rattle.kube_children.specs.HandOvers.{AreDealt, Dealt, Servers}
 use Rattle.kube_children.specs.Rounds.{Root, conn_api, conn_of, fed, generator_world, is_held, related_polls, root_polls, root_settings, round_events, round_of, takes_of}
-use Rattle.kube_children.proofs.Dealing.{answers-join, counts-are, dealt-kind, shut-join, takes-answer-nothing, takes-idle, takes-shut-nothing}
+use Rattle.kube_children.proofs.Dealing.{answers-join, counts-are, dealt-kind, dealt-later, shut-join, takes-answer-nothing, takes-idle, takes-shut-nothing}
 
 -- ---- another API of the root leaves what it stands for
 
@@ -237,3 +239,46 @@ pub live-after : (old new : ServerState) (start kept : Connection DynamicObject)
 live-after old new start kept changes compacted same later =
     later_later kept.changes old.changes new.changes kept.compacted old.compacted new.compacted
     (later_equal kept.changes old.changes kept.compacted old.compacted (same.0 ∙ changes) (same.1 ∙ compacted)) later
+
+module _ {B : Type 0} (delays : backoff.Ghosts B) (first : B) where
+  pub live-first : (g : Generating B) → StandsFor delays first no_rounds g → IsLater (conn_of g.asks.root).changes g.servers.parents.changes (conn_of g.asks.root).compacted g.servers.parents.compacted → g.core.clock.0 ≤ g.last.0
+      → IsLiveUnlessSpent delays first g
+  live-first g stands log clock = λ unspent. record { past = no_rounds; stands = stands; log = log; clock = clock }
+
+  pub live-changed : (old : Generating B) (parents : ServerState) → parents.kind ≡ old.servers.parents.kind → IsLater old.servers.parents.changes parents.changes old.servers.parents.compacted parents.compacted → IsLiveUnlessSpent delays first old
+      → IsLiveUnlessSpent delays first (record old { servers = record old.servers { parents = parents } })
+  live-changed old parents same later live = λ unspent.
+      let l : IsLive delays first old = live unspent in
+      let conn : Connection DynamicObject = conn_of old.asks.root in
+      record {
+        past = l.past;
+        stands = stands-changed delays first l.past old parents same l.stands;
+        log = later_later conn.changes old.servers.parents.changes parents.changes conn.compacted old.servers.parents.compacted parents.compacted l.log later;
+        clock = l.clock;
+      }
+
+  -- the root is fed what the parents' log has then, and only patches come after that
+  pub live-round : (past : Past) (at : Moment) (budget : ℕ) (old : Generating B) (r : Round) (new : Generating B) → IsRound delays first past at budget old r new → new.core.clock ≡ at → new.last ≡ at → IsLiveUnlessSpent delays first new
+  live-round past at budget old r new k clock last = λ unspent.
+      let start : Connection DynamicObject = conn_of (fed old.servers.parents old.asks.root) in
+      let told : new.core.clock.0 ≡ new.last.0 = ap (λ (m : Moment). m.0) (clock ∙ sym last) in
+      record {
+        past = k.after;
+        stands = k.stands;
+        log =
+            live-after old.servers.parents new.servers.parents start (conn_of new.asks.root) refl refl
+            (log-kept _ _ (fed old.servers.parents old.asks.root) new.asks.root old.asks.related new.asks.related k.polled)
+            (dealt-later old.servers.parents.kind old.finalizer old.servers new.servers k.dealt k.handed);
+        clock = omega (arith, told);
+      }
+
+-- ---- moments
+
+-- a moment that is not refused is the last one or later
+pub not-refused : (at last : Moment) → refusal_of at last ≡ None → last.0 ≤ at.0
+not-refused at last e = by-tests (nat_le (2 ^ 63) at.0) (nat_lt at.0 last.0) refl e
+  where
+    by-tests : (late early : Bool) → nat_lt at.0 last.0 ≡ early → cond (late || early) (Some (BadMoment at last)) None ≡ None → last.0 ≤ at.0
+    by-tests true early is e = absurd (cc)
+    by-tests false true is e = absurd (cc)
+    by-tests false false is e = ltb-false at.0 last.0 is

@@ -46,16 +46,6 @@ no_rounds = record { events = []; rounds = [] }
 abbrev pub with_round : Past → List (CoreEvent DynamicObject) → Round → Past
 with_round past added r = record { events = past.events ++ added; rounds = past.rounds ++ r ∷ [] }
 
--- ---- what holds of each generator
-
--- until it is spent its connection holds a beginning of the parents' log, and its core was told no moment after the last round's
-pub record IsLive (parents : ServerState) (root : Root) (clock last : Moment) : Type 0 where
-  pub log : IsLater (conn_of root).changes parents.changes (conn_of root).compacted parents.compacted
-  pub clock : clock.0 ≤ last.0
-
-abbrev pub IsLiveUnlessSpent : Bool → ServerState → Root → Moment → Moment → Type 0
-IsLiveUnlessSpent is_spent parents root clock last = is_spent ≡ false → IsLive parents root clock last
-
 -- ---- what it stands for
 
 abbrev pub type_of : Arc ApiResource Global → ObjectType
@@ -80,6 +70,16 @@ module _ {B : Type 0} (delays : backoff.Ghosts B) (first : B) where
     pub goes_on : was_shut past.events ≡ false
     pub sound : g.asks.is_spent ≡ false
     pub unspent : g.is_spent ≡ false
+
+  -- until it is spent it stands for what it has been through, its connection holds a beginning of the parents' log, and its core was told no moment after the last round's
+  pub record IsLive (g : Generating B) : Type 0 where
+    pub past : Past
+    pub stands : StandsFor past g
+    pub log : IsLater (conn_of g.asks.root).changes g.servers.parents.changes (conn_of g.asks.root).compacted g.servers.parents.compacted
+    pub clock : g.core.clock.0 ≤ g.last.0
+
+  abbrev pub IsLiveUnlessSpent : Generating B → Type 0
+  IsLiveUnlessSpent g = g.is_spent ≡ false → IsLive g
 
   -- a round at a moment with a budget: what the root was asked over the connection that was fed first, and the takes, whose hand-overs came one after another; they are the events that the round adds, and what it tells
   pub record IsRound (past : Past) (at : Moment) (budget : ℕ) (old : Generating B) (r : Round) (new : Generating B) : Type 0 where

@@ -73,7 +73,14 @@ impl Model for Generator {
       is_spent = g.spent;
     } };
 
-    ghost invariant = { λ g. IsLiveUnlessSpent g.spent g.parents g.asks.root g.core.clock g.last };
+    ghost invariant = { λ g. IsLiveUnlessSpent ⟦<DefaultBackoff as Backoff>⟧ default_backoff (record {
+      finalizer = g.finalizer;
+      servers = record { parents = g.parents; children = g.children };
+      asks = g.asks;
+      core = g.core;
+      last = g.last;
+      is_spent = g.spent;
+    }) };
 }
 
 /// How the root lists and watches: a watch is never started again for its silence.
