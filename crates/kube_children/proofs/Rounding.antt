@@ -241,9 +241,8 @@ live-after old new start kept changes compacted same later =
     (later_equal kept.changes old.changes kept.compacted old.compacted (same.0 ∙ changes) (same.1 ∙ compacted)) later
 
 module _ {B : Type 0} (delays : backoff.Ghosts B) (first : B) where
-  pub live-first : (g : Generating B) → StandsFor delays first no_rounds g → IsLater (conn_of g.asks.root).changes g.servers.parents.changes (conn_of g.asks.root).compacted g.servers.parents.compacted → g.core.clock.0 ≤ g.last.0
-      → IsLiveUnlessSpent delays first g
-  live-first g stands log clock = λ unspent. record { past = no_rounds; stands = stands; log = log; clock = clock }
+  pub live-first : (g : Generating B) → StandsFor delays first no_rounds g → IsLater (conn_of g.asks.root).changes g.servers.parents.changes (conn_of g.asks.root).compacted g.servers.parents.compacted → IsLiveUnlessSpent delays first g
+  live-first g stands log = λ unspent. let at : g.core.clock.0 ≡ 0 = stands.core_stands.clock in record { past = no_rounds; stands = stands; log = log; clock = omega (arith, at) }
 
   pub live-changed : (old : Generating B) (parents : ServerState) → parents.kind ≡ old.servers.parents.kind → IsLater old.servers.parents.changes parents.changes old.servers.parents.compacted parents.compacted → IsLiveUnlessSpent delays first old
       → IsLiveUnlessSpent delays first (record old { servers = record old.servers { parents = parents } })
