@@ -18,7 +18,7 @@ use Rattle.kube_children.specs.declared.change.Change.TheVariants.{Put, Delete}
 use Rattle.kube_children.specs.declared.round.Round.{Round}
 use Rattle.kube_children.specs.Changes.{IsChanged, put_as}
 use Rattle.kube_children.specs.Kept.{AreNewParents, IsKept, IsNewParent, is_guarded}
-use Rattle.kube_children.proofs.Lives.{KeepsGuards, KeepsLives, deleted-more, guarded-more, lives-more}
+use Rattle.kube_children.proofs.Lives.{GuardsNone, KeepsGuards, KeepsLives, deleted-more, guarded-more, lives-more, passed-more}
 use Rattle.kube_children.proofs.Keeping.{kept-changed}
 
 -- ---- the newest change, of a history whose new parents are as they should be
@@ -66,6 +66,16 @@ safe-guards kind name changes es (Modifies o) safe = λ old uid found named guar
 safe-guards kind name changes es (Removes o) safe = λ old uid found named guarded.
     let same : safe.old ≡ old = let e : Some safe.old ≡ Some old = sym safe.stands ∙ found in cc in
     absurd (true≢false (sym guarded ∙ ap (is_guarded kind name) (sym same) ∙ safe.free))
+
+safe-none : (kind : ObjectType) (name : List ℕ) (changes : List (Change DynamicObject)) (change : Change DynamicObject) → IsNewParent name (suc (length changes)) change → IsSafe kind name changes change → GuardsNone kind name changes change
+safe-none kind name changes (Adds o) fresh safe = ap is_some fresh.1
+safe-none kind name changes (Modifies o) fresh safe = record {
+  old = safe.old;
+  stands = safe.stands;
+  uid = safe.over.uid;
+  guarded = λ has. ap (λ f. is_some (first_index name (unwrap_or f []))) (sym safe.over.finalizers) ∙ has;
+}
+safe-none kind name changes (Removes o) fresh safe = tt
 
 -- ---- what calls make
 
@@ -169,14 +179,16 @@ module _ (name : List ℕ) (old new children : ServerState) (conn : Connection D
       let to : ServerState = record old { changes = old.changes ++ change ∷ [] } in
       let parents : AreNewParents name 0 (old.changes ++ change ∷ []) = subst (λ (s : ServerState). AreNewParents name 0 s.changes) grown fresh in
       let small : length (old.changes ++ change ∷ []) < 2 ^ 64 = subst (λ (s : ServerState). length s.changes < 2 ^ 64) grown bound in
-      let lives : KeepsLives old.changes change = safe-lives old.kind name old.changes change (newest-parent name 0 old.changes change (suc (length old.changes)) (omega arith) parents) safe in
+      let newest : IsNewParent name (suc (length old.changes)) change = newest-parent name 0 old.changes change (suc (length old.changes)) (omega arith) parents in
+      let lives : KeepsLives old.changes change = safe-lives old.kind name old.changes change newest safe in
+      let none : GuardsNone old.kind name old.changes change = safe-none old.kind name old.changes change newest safe in
       let guards : KeepsGuards old.kind name old.changes es change = safe-guards old.kind name old.changes es change safe in
       subst (λ s. IsKept s.kind name s children conn es rounds) (sym grown)
       (kept-changed old.kind name old to children conn es rounds parents
       (lives-more old.kind name old.changes change k.lives lives)
       (deleted-more old.kind name old.changes change small k.lives lives k.deleted)
       (guarded-more old.kind name old.changes change es guards k.guarded)
-      k)
+      k (passed-more old.kind name old.changes change k.revision none k.passed))
 
   -- a change keeps all, where no new parent brings a uid or the finalizer
   pub kept-by-change : (change : ParentChange) (now : ℕ) → IsHistory meta_of old.changes → length new.changes < 2 ^ 64 → AreNewParents name 0 new.changes → IsChanged change now old new

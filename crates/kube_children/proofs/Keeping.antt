@@ -7,7 +7,7 @@ use Rattle.kube_server.specs.Servers.{ServerState, meta_of}
 use Rattle.kube_server.specs.Connections.{Connection, fresh}
 use Rattle.kube_children.specs.declared.round.Round.{Round}
 use Rattle.kube_children.specs.Branches.{holding}
-use Rattle.kube_children.specs.Kept.{AreLives, AreNewParents, IsGuardedUntilCleaned, IsKept, IsNeverTakenBack}
+use Rattle.kube_children.specs.Kept.{AreLives, AreNewParents, IsGuardedUntilCleaned, IsKept, IsNeverTakenBack, IsPassed}
 use Rattle.kube_history.specs.CoreEvents.{CoreEvent}
 
 -- without changes nothing stands anywhere
@@ -40,6 +40,7 @@ kept-first kind name parents children conn none no-children made =
       staged = λ uid. tt;
       deleted = λ key r s o p rises within at_r. absurd (none-at parents.changes none key r o at_r);
       guarded = λ key r s o uid rises within at_r. absurd (none-at parents.changes none key r o at_r);
+      passed = λ key r q o low within at_q. absurd (none-at parents.changes none key r q at_q);
       owned = λ key o found. absurd (let no : None ≡ Some o = sym (ap (object_at key) empty) ∙ found in cc);
       apart = record { apart = λ a b p q first second. absurd (let no : None ≡ Some p = first in cc) };
       exact = record {
@@ -50,8 +51,8 @@ kept-first kind name parents children conn none no-children made =
 
 -- a change of the parents that puts no new one with a uid or with the finalizer
 pub kept-changed : (kind : ObjectType) (name : List ℕ) (old new children : ServerState) (conn : Connection DynamicObject) (es : List (CoreEvent DynamicObject)) (rounds : List Round) → AreNewParents name 0 new.changes
-    → AreLives new.changes → IsNeverTakenBack kind name new.changes → IsGuardedUntilCleaned kind name new.changes es → IsKept kind name old children conn es rounds → IsKept kind name new children conn es rounds
-kept-changed kind name old new children conn es rounds fresh-parents lives deleted guarded k = record {
+    → AreLives new.changes → IsNeverTakenBack kind name new.changes → IsGuardedUntilCleaned kind name new.changes es → (k : IsKept kind name old children conn es rounds) → IsPassed kind name new.changes k.revision → IsKept kind name new children conn es rounds
+kept-changed kind name old new children conn es rounds fresh-parents lives deleted guarded k passed = record {
   acts = k.acts;
   made = k.made;
   told = k.told;
@@ -65,6 +66,7 @@ kept-changed kind name old new children conn es rounds fresh-parents lives delet
   staged = k.staged;
   deleted = deleted;
   guarded = guarded;
+  passed = passed;
   owned = k.owned;
   apart = k.apart;
   exact = k.exact;

@@ -1,5 +1,5 @@
 -- What the lives of parents keep, after one change more of their server.
-use Rattle.std.proofs.Common.{◌≡◌, ◌⊎◌, inl, inr, ℕ, zero, suc, ◌≤◌, ◌<◌, ◌^◌, Bool, true, false, cond, List, [], ◌∷◌, ◌++◌, length, take, slice_get, Option, Some, None, is_some, refl, sym, ap, subst, ◌∙◌, arith, length-append}
+use Rattle.std.proofs.Common.{◌≡◌, ◌⊎◌, inl, inr, ℕ, zero, suc, ◌≤◌, ◌<◌, ◌^◌, Bool, true, false, cond, List, [], ◌∷◌, ◌++◌, length, take, slice_get, Option, Some, None, is_some, refl, sym, ap, subst, ◌∙◌, arith, length-append, true≢false}
 use Rattle.std.specs.Prelude.{codes, decimal}
 use Rattle.std.specs.List.{list_any}
 use Rattle.std.proofs.Math.Seq.{take-length}
@@ -13,7 +13,7 @@ use Rattle.kube_server.specs.History.{Change, Adds, Modifies, Removes, Key, key_
 use Rattle.kube_server.specs.Servers.{made_uid, meta_of}
 use Rattle.kube_server.proofs.HistoryLemmas.{same-equal}
 use Rattle.kube_server.proofs.StateLemmas.{found-more}
-use Rattle.kube_children.specs.Kept.{AreLives, IsBorn, IsGuardedUntilCleaned, IsNeverTakenBack, StandsGuarded, cleans, is_guarded}
+use Rattle.kube_children.specs.Kept.{AreLives, IsBorn, IsGuardedUntilCleaned, IsNeverTakenBack, IsPassed, StandsGuarded, cleans, is_guarded}
 
 -- ---- lists
 
@@ -77,6 +77,18 @@ KeepsGuards kind name changes es (Modifies o) = (old : DynamicObject) (uid : Lis
     → StandsGuarded kind name (Some uid) (Some o) ⊎ (list_any (cleans kind name uid) es ≡ true)
 KeepsGuards kind name changes es (Removes o) = (old : DynamicObject) (uid : List ℕ) → object_at (key_of o.metadata) (state_of meta_of changes) ≡ Some old → old.metadata.uid ≡ Some uid → is_guarded kind name old ≡ true
     → list_any (cleans kind name uid) es ≡ true
+
+-- what has the finalizer then had it before, of the same uid
+pub record IsGuardedBefore (kind : ObjectType) (name : List ℕ) (changes : List (Change DynamicObject)) (o : DynamicObject) : Type 0 where
+  pub old : DynamicObject
+  pub stands : object_at (key_of o.metadata) (state_of meta_of changes) ≡ Some old
+  pub uid : o.metadata.uid ≡ old.metadata.uid
+  pub guarded : is_guarded kind name o ≡ true → is_guarded kind name old ≡ true
+
+abbrev pub GuardsNone : ObjectType → List ℕ → List (Change DynamicObject) → Change DynamicObject → Type 0
+GuardsNone kind name changes (Adds o) = is_guarded kind name o ≡ false
+GuardsNone kind name changes (Modifies o) = IsGuardedBefore kind name changes o
+GuardsNone kind name changes (Removes o) = Unit {0}
 
 module _ (kind : ObjectType) (name : List ℕ) (changes : List (Change DynamicObject)) (change : Change DynamicObject) where
   abbrev after : List (Change DynamicObject)
@@ -227,3 +239,32 @@ module _ (kind : ObjectType) (name : List ℕ) (changes : List (Change DynamicOb
       by-revision (inl above) (inl top) =
           let one : state_at meta_of after s ≡ state_at meta_of after r = newest-at s above within ∙ sym (newest-at r top (omega (arith, rises, within))) in
           subst (StaysOr es uid) Or es uid (sym (ap (object_at key) one ∙ at-r)) itself
+
+  -- ---- one life under each key
+
+  pub passed-more : (revision : ℕ) → GuardsNone kind name changes change → IsPassed kind name changes revision → IsPassed kind name after revision
+  passed-more revision none passed key r q o low within at-q has deleting at-o guarded = by-revision (cases_lt (length changes) r)
+    where
+      newest : length changes < length after
+      newest = omega (arith, longer)
+
+      old-q : r ≤ length changes → object_at key (state_at meta_of changes r) ≡ Some q
+      old-q below = earlier key r q below at-q
+
+      by-put : (c : Change DynamicObject) → GuardsNone kind name changes c → r ≤ length changes → PutsUnder key o c → q.metadata.uid ≡ o.metadata.uid
+      by-put (Adds n) bare below (here, put) = absurd (true≢false (sym guarded ∙ ap (is_guarded kind name) (sym put) ∙ bare))
+      by-put (Modifies n) m below (here, put) =
+          let stays : object_at key (state_of meta_of changes) ≡ Some m.old = ap (λ k. object_at k (state_of meta_of changes)) here ∙ m.stands in
+          let before : is_guarded kind name m.old ≡ true = m.guarded (ap (is_guarded kind name) put ∙ guarded) in
+          passed key r q m.old low below (old-q below) has deleting (whole key m.old stays) before ∙ sym m.uid ∙ ap (λ (x : DynamicObject). x.metadata.uid) put
+      by-put (Removes n) m below puts = absurd puts
+
+      by-newest : r ≤ length changes → (object_at key (state_of meta_of changes) ≡ Some o) ⊎ PutsUnder key o change → q.metadata.uid ≡ o.metadata.uid
+      by-newest below (inl before) = passed key r q o low below (old-q below) has deleting (whole key o before) guarded
+      by-newest below (inr puts) = by-put change none below puts
+
+      by-revision : (length changes < r) ⊎ (r ≤ length changes) → q.metadata.uid ≡ o.metadata.uid
+      by-revision (inr below) = by-newest below (found-newest key (length after) o newest (omega arith) at-o)
+      by-revision (inl above) =
+          let one : Some q ≡ Some o = sym at-q ∙ ap (object_at key) (newest-at r above within ∙ sym (newest-at (length after) newest (omega arith))) ∙ at-o in
+          ap (λ (x : DynamicObject). x.metadata.uid) (some-same q o one)

@@ -111,14 +111,14 @@ module _ (kind : ObjectType) (name : List ℕ) where
 
   -- ---- hand-overs
 
-  -- how far a life has come: the finalizer is to be added, the branch of Apply is owed, that of Cleanup is, or nothing is any more
+  -- how far a life has come: the finalizer is to be added, the branch of Apply is owed, or it is being deleted, and that of Cleanup is owed or nothing
   abbrev pub stage_of : Decision → ℕ
   stage_of AddFirst = 0
   stage_of AddMore = 0
   stage_of Apply = 1
   stage_of (Cleanup i) = 2
-  stage_of Nothing = 3
-  stage_of Unnamed = 3
+  stage_of Nothing = 2
+  stage_of Unnamed = 2
 
   -- an object that was handed over stood so at a revision
   abbrev pub IsSight : List (Change DynamicObject) → ℕ → Option DynamicObject → Type 0
@@ -184,6 +184,11 @@ module _ (kind : ObjectType) (name : List ℕ) where
   IsGuardedUntilCleaned changes es = (key : Key) (r s : ℕ) (o : DynamicObject) (uid : List ℕ) → r ≤ s → s ≤ length changes → object_at key (state_at meta_of changes r) ≡ Some o → o.metadata.uid ≡ Some uid → is_guarded o ≡ true
       → StandsGuarded (Some uid) (object_at key (state_at meta_of changes s)) ⊎ (list_any (cleans uid) es ≡ true)
 
+  -- what now has the finalizer is of the same life as what hand-overs from a revision on see with it and being deleted: so no cleanup takes it from another
+  abbrev pub IsPassed : List (Change DynamicObject) → ℕ → Type 0
+  IsPassed changes revision = (key : Key) (r : ℕ) (q o : DynamicObject) → revision ≤ r → r ≤ length changes → object_at key (state_at meta_of changes r) ≡ Some q → is_guarded q ≡ true → is_some q.metadata.deletion_timestamp ≡ true
+      → object_at key (state_at meta_of changes (length changes)) ≡ Some o → is_guarded o ≡ true → q.metadata.uid ≡ o.metadata.uid
+
   -- ---- children
 
   -- a child that is there is of a parent whose last hand-over was an Apply, owned by it alone, and stands in the place of one that it wants
@@ -221,6 +226,7 @@ module _ (kind : ObjectType) (name : List ℕ) where
     pub staged : (uid : List ℕ) → AreStaged uid 0 es
     pub deleted : IsNeverTakenBack parents.changes
     pub guarded : IsGuardedUntilCleaned parents.changes es
+    pub passed : IsPassed parents.changes revision
     -- (7) each child has one owner, whose last hand-over wants it; and these want children in places of their own
     pub owned : (key : Key) (o : ObjectData) → object_at key (holding children).objects ≡ Some o → IsChildOf es o
     pub apart : AreApart es
