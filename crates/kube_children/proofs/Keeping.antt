@@ -34,7 +34,7 @@ kept-first kind name parents children conn none no-children made =
       known = rw made (omega arith);
       stored = λ ready. absurd (let no : false ≡ true = ready in cc);
       sights = omega arith;
-      quiet = λ sound r. refl;
+      quiet = λ ready sound r. refl;
       parents_new = subst (AreNewParents name 0) (sym none) tt;
       lives = λ key r o within found. absurd (none-at parents.changes none key r o found);
       staged = λ uid. tt;

@@ -217,8 +217,8 @@ module _ (kind : ObjectType) (name : List ℕ) where
     pub stored : is_ready (root_answers es) ≡ true
         → IsStateAt (λ o. reference_to kind o.metadata) meta_of (selected_by meta_of) conn.changes (selection_by root_settings) revision (cache_of (parents_core kind) es)
     pub sights : AreSights conn.changes 0 es revision
-    -- (4) where no round had a fault nothing is left to come
-    pub quiet : had_fault rounds ≡ false → (r : Reference) → has_entry (parents_core kind) es r ≡ false
+    -- (4) where the first list is complete, and no round had a fault, nothing is left to come
+    pub quiet : is_ready (root_answers es) ≡ true → had_fault rounds ≡ false → (r : Reference) → has_entry (parents_core kind) es r ≡ false
     -- (5) each parent that is new has the uid of its revision, and keeps it, so no two lives share one
     pub parents_new : AreNewParents name 0 parents.changes
     pub lives : AreLives parents.changes
