@@ -1,0 +1,4 @@
+pub mod Leases
+pub mod Elections
+pub mod Reading
+pub mod Candidates

@@ -1,0 +1,10 @@
+//! Leader election by a lease object: candidates hold it in turn, by tested patches, and never two at once.
+#![tactic(auto)]
+
+mod candidate;
+mod election;
+pub mod laws;
+mod lease;
+
+pub use candidate::{Candidate, LeaseDecision};
+pub use lease::{LeaseFault, LeaseView, new_lease, read_lease};
