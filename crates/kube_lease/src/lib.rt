@@ -5,6 +5,7 @@ mod candidate;
 mod election;
 pub mod laws;
 mod lease;
+pub mod rows;
 
 pub use candidate::{Candidate, LeaseDecision};
 pub use lease::{LeaseFault, LeaseView, new_lease, read_lease};
