@@ -8,7 +8,7 @@ use Rattle.kube_meta.specs.declared.poll.Polled.TheVariants.{Ready, NotReady}
 use Rattle.kube_model.specs.Raw.{grown, FaultRose}
 use Rattle.kube_api.specs.Patches.{Operation, Tests, Changes, Puts}
 use Rattle.kube_api.specs.ObjectTalk.{ObjectAnswer, AnswersLater, AnswersFault, AnswersObject, AnswersGone, AnswersNone, AnswersRefusal, PatchAsked, is_object_fault, RefusedAs, IsKept, IsNotMemory}
-use Rattle.kube_final.specs.FinalizerPolls.{Objects}
+use Rattle.kube_final.specs.FinalizerPolls.{IsLeftUnasked, Objects}
 use Rattle.kube_lease.specs.declared.poll.LeaseAnswer.{LeaseAnswer}
 use Rattle.kube_lease.specs.declared.poll.LeaseAnswer.TheVariants as answers
 use Rattle.kube_lease.specs.Leases.{Choice, Unseen, Renew, Wait, LastTerm, Take, Lease, choice, end_of}
@@ -114,12 +114,15 @@ IsPolledBy api now (Some l) old s answer new s' = IsPolledOn api now l (choice s
 abbrev pub IsPolled : {A : Type 0} → Objects A DynamicObject → ℕ → A → Standing → Polled LeaseAnswer → A → Standing → Type 0
 IsPolled api now old s answer new s' = IsPolledBy api now s.seen old s answer new s'
 
--- memory could not be had: nothing was asked, or the one patch was, whose reply is lost
-abbrev pub IsLostOn : {A V : Type 0} → Objects A V → List ℕ → ℕ → Option (List Operation) → A → A → Type 0
+-- memory could not be had: nothing was asked, and the API is as it was, or as want of memory leaves it; or the patch was asked, once, and its reply is lost
+abbrev pub IsLostOn : {A : Type 0} → Objects A DynamicObject → List ℕ → ℕ → Option (List Operation) → A → A → Type 0
 IsLostOn api name now None old new = new ≡ old
 IsLostOn api name now (Some patch) old new =
-    (((api.talk new ≡ api.talk old) × (api.held new ≡ api.held old)) ⊎ (new ≡ old)) ⊎ ((answer : ObjectAnswer _) × IsPatched api name patch now old answer new)
+    ((api.talk new ≡ api.talk old) × (api.held new ≡ api.held old) × IsLeftUnasked api old new) ⊎ ((answer : ObjectAnswer DynamicObject) × IsPatched api name patch now old answer new)
 
-abbrev pub IsLostBy : {A V : Type 0} → Objects A V → ℕ → Option Lease → Standing → A → A → Type 0
+abbrev pub IsLostBy : {A : Type 0} → Objects A DynamicObject → ℕ → Option Lease → Standing → A → A → Type 0
 IsLostBy api now None s old new = new ≡ old
 IsLostBy api now (Some l) s old new = IsLostOn api s.lease now (patch_by s now l (choice s.id s.duration now (Some l))) old new
+
+abbrev pub IsLost : {A : Type 0} → Objects A DynamicObject → ℕ → Standing → A → A → Type 0
+IsLost api now s old new = IsLostBy api now s.seen s old new
