@@ -45,6 +45,9 @@ patch_by s now l Unseen = None
 patch_by s now l (Wait until) = None
 patch_by s now l LastTerm = None
 
+abbrev pub patch_of : Standing → ℕ → Lease → Option (List Operation)
+patch_of s now l = patch_by s now l (choice s.id s.duration now (Some l))
+
 -- ---- what the API's answer comes to
 
 -- this lease is held, as the answer has it
@@ -122,7 +125,7 @@ IsLostOn api name now (Some patch) old new =
 
 abbrev pub IsLostBy : {A : Type 0} → Objects A DynamicObject → ℕ → Option Lease → Standing → A → A → Type 0
 IsLostBy api now None s old new = new ≡ old
-IsLostBy api now (Some l) s old new = IsLostOn api s.lease now (patch_by s now l (choice s.id s.duration now (Some l))) old new
+IsLostBy api now (Some l) s old new = IsLostOn api s.lease now (patch_of s now l) old new
 
 abbrev pub IsLost : {A : Type 0} → Objects A DynamicObject → ℕ → Standing → A → A → Type 0
 IsLost api now s old new = IsLostBy api now s.seen s old new

@@ -53,11 +53,11 @@ fn greater(a: Option<Claim>, b: Claim) -> Claim
 /// It reads no clock: `now` is the server's moment, or one that is never ahead of it.
 #[derive(Drop)]
 pub struct Candidate {
-    id: Text,
-    lease: Text,
-    duration: u64,
-    view: Option<LeaseView>,
-    claim: Option<Claim>,
+    pub(crate) id: Text,
+    pub(crate) lease: Text,
+    pub(crate) duration: u64,
+    pub(crate) view: Option<LeaseView>,
+    pub(crate) claim: Option<Claim>,
 }
 
 impl Model for Candidate {

@@ -6,11 +6,11 @@ ghost use Rattle.kube_api.specs.ObjectTalk.{patch_answer};
 ghost use Rattle.kube_api.specs.Patches.{operation_of};
 ghost use Rattle.kube_final.specs.FinalizerPolls.{objects_in};
 ghost use Rattle.kube_lease.specs.Leases.{Lease, choice, choice_on};
-ghost use Rattle.kube_lease.specs.Polls.{IsAnsweredBy, IsLost, IsPolled, patch_by};
-ghost use Rattle.kube_lease.specs.Reading.{lease_of};
+ghost use Rattle.kube_lease.specs.Polls.{IsAnsweredBy, IsDone, IsLost, IsPolled, patch_of};
+ghost use Rattle.kube_lease.specs.Reading.{lease_at, lease_of};
 
 use crate::candidate::{Candidate, LeaseDecision};
-use crate::lease::LeaseFault;
+use crate::lease::{LeaseFault, LeaseView};
 use crate::patches::{renewal, taking};
 use kube_api::{ApiError, ObjectApi, Patch, PatchAnswer, PatchRefusal};
 use kube_meta::{DynamicObject, Moment, NoMemory, Polled, Text};
@@ -32,4 +32,110 @@ pub enum LeaseAnswer {
     Fault(ApiError),
     /// The patch was done, and the object is no lease: the place is the first that is missing or of another form.
     Malformed(Text),
+}
+
+impl Candidate {
+    // The patch of what it decides on a lease that it observed, if it has one.
+    fn patch(
+        &self,
+        alloc: Global,
+        view: &LeaseView,
+        now: Moment,
+    ) -> Result<Option<Vec<Patch>>, NoMemory>
+        requires { self.now.seen ≡ Some (lease_of view.now) }
+        ensures { IfOk result (λ p. option_map (λ v. map operation_of v.items) p ≡ patch_of self.now now.0 (lease_of view.now)) }
+    {
+        let until = now.plus(self.duration);
+        Ok(match self.decide(now) {
+            LeaseDecision::Renew => Some(renewal(alloc, view, until)?),
+            LeaseDecision::Take => Some(taking(alloc, self.id.as_str(), view, until)?),
+            LeaseDecision::Unseen | LeaseDecision::Wait { .. } | LeaseDecision::LastTerm => None,
+        })
+    }
+
+    // Observes the object of a patch that was done.
+    fn observe_done(
+        &mut self,
+        alloc: Global,
+        object: &DynamicObject,
+    ) -> Result<LeaseAnswer, NoMemory>
+        ensures done { IfOk result (λ a. IsDone (lease_at (view object.now.content)) self.old (Polled.Ready a) self.new) }
+        ensures left { OnErr result (self.new ≡ self.old) }
+    {
+        match self.observe(alloc, object) {
+            Ok(()) => Ok(self.held()),
+            Err(LeaseFault::Malformed(place)) => Ok(LeaseAnswer::Malformed(place)),
+            Err(LeaseFault::NoMemory) => Err(NoMemory),
+        }
+    }
+
+    // That it holds the lease that it observed last.
+    fn held(&self) -> LeaseAnswer
+        ensures { (l : Lease) → self.now.seen ≡ Some l → IsHeld l (Polled.Ready result) }
+    {
+        match &self.view {
+            Some(view) => LeaseAnswer::Held {
+                term: view.term,
+                until: view.until,
+            },
+            None => LeaseAnswer::Unseen,
+        }
+    }
+
+    // What the answer to a patch comes to.
+    fn learn(
+        &mut self,
+        alloc: Global,
+        answer: Polled<PatchAnswer<DynamicObject>>,
+    ) -> Result<Polled<LeaseAnswer>, NoMemory>
+        ensures answered { IfOk result (λ a. IsAnsweredBy (patch_answer answer) self.old a self.new) }
+        ensures left { OnErr result (self.new ≡ self.old) }
+    {
+        Ok(Polled::Ready(match answer {
+            Polled::NotReady => return Ok(Polled::NotReady),
+            Polled::Ready(PatchAnswer::Done(object)) => self.observe_done(alloc, &object)?,
+            Polled::Ready(PatchAnswer::Refused(refusal)) => LeaseAnswer::Lost(refusal),
+            Polled::Ready(PatchAnswer::Fault(error)) => LeaseAnswer::Fault(error),
+        }))
+    }
+
+    /// Decides once, and sends the patch that the decision has, if any.
+    ///
+    /// `NotReady` where the API wasn't ready now: then poll again, which decides anew. A fault of the API is an answer, and
+    /// tells nothing of whether the patch was done.
+    ///
+    /// Errors: `NoMemory`, and the candidate is as before: nothing was asked, or the reply of its one patch is lost.
+    pub fn poll<A: ObjectApi<Value = DynamicObject>>(
+        &mut self,
+        alloc: Global,
+        api: &mut A,
+        now: Moment,
+    ) -> Result<Polled<LeaseAnswer>, NoMemory>
+        ensures polled { IfOk result (λ a. IsPolled (objects_in A.ObjectApi) now.0 api.old self.old a api.new self.new) }
+        ensures rises { A.faults api.old ≤ A.faults api.new }
+        ensures left { OnErr result (self.new ≡ self.old) }
+        ensures lost { OnErr result (IsLost (objects_in A.ObjectApi) now.0 self.old api.old api.new) }
+    {
+        let Some(view) = &self.view else {
+            return Ok(Polled::Ready(LeaseAnswer::Unseen));
+        };
+        match self.patch(alloc, view, now)? {
+            Some(patch) => {
+                let answer = api.patch(alloc, self.lease.as_str(), patch.as_slice(), now)?;
+                self.learn(alloc, answer)
+            }
+            None => Ok(Polled::Ready(self.unsent(now))),
+        }
+    }
+
+    // What it comes to where nothing is sent.
+    fn unsent(&self, now: Moment) -> LeaseAnswer
+        ensures { IsUnsent (choice self.now.id self.now.duration now.0 self.now.seen) (Polled.Ready result) }
+    {
+        match self.decide(now) {
+            LeaseDecision::Wait { until } => LeaseAnswer::Wait { until },
+            LeaseDecision::LastTerm => LeaseAnswer::LastTerm,
+            LeaseDecision::Unseen | LeaseDecision::Renew | LeaseDecision::Take => LeaseAnswer::Unseen,
+        }
+    }
 }
