@@ -1,5 +1,5 @@
 -- The patches of a candidate, and what its poll answers and asks of the API.
-use Rattle.std.specs.Prelude.{◌≡◌, ◌⊎◌, ℕ, ◌+◌, List, [], ◌∷◌, Option, Some, None, Result, Ok, Err, codes}
+use Rattle.std.specs.Prelude.{◌≡◌, ◌⊎◌, ⊤, ℕ, ◌+◌, List, [], ◌∷◌, Option, Some, None, Result, Ok, Err, codes}
 use Rattle.serde_json.specs.Data.{Data, number, string, unsigned}
 use Rattle.serde_json.specs.View.{view}
 use Rattle.kube_meta.specs.declared.dynamic.DynamicObject.{DynamicObject}
@@ -101,11 +101,19 @@ IsWait n (Ready (answers.Fault error)) = ⊥
 IsWait n (Ready (answers.Malformed place)) = ⊥
 IsWait n NotReady = ⊥
 
+-- the answer of a decision without a patch
+abbrev pub IsUnsent : Choice → Polled LeaseAnswer → Type 0
+IsUnsent Unseen answer = answer ≡ Ready answers.Unseen
+IsUnsent (Wait until) answer = IsWait until answer
+IsUnsent LastTerm answer = answer ≡ Ready answers.LastTerm
+IsUnsent Renew answer = ⊤
+IsUnsent Take answer = ⊤
+
 -- where no patch is sent nothing is asked of the API
 abbrev pub IsPolledOn : {A : Type 0} → Objects A DynamicObject → ℕ → Lease → Choice → A → Standing → Polled LeaseAnswer → A → Standing → Type 0
-IsPolledOn api now l Unseen old s answer new s' = (answer ≡ Ready answers.Unseen) × (new ≡ old) × (s' ≡ s)
-IsPolledOn api now l (Wait until) old s answer new s' = IsWait until answer × (new ≡ old) × (s' ≡ s)
-IsPolledOn api now l LastTerm old s answer new s' = (answer ≡ Ready answers.LastTerm) × (new ≡ old) × (s' ≡ s)
+IsPolledOn api now l Unseen old s answer new s' = IsUnsent Unseen answer × (new ≡ old) × (s' ≡ s)
+IsPolledOn api now l (Wait until) old s answer new s' = IsUnsent (Wait until) answer × (new ≡ old) × (s' ≡ s)
+IsPolledOn api now l LastTerm old s answer new s' = IsUnsent LastTerm answer × (new ≡ old) × (s' ≡ s)
 IsPolledOn api now l Renew old s answer new s' = IsSent api (renewal l (end_of now s.duration)) now old s answer new s'
 IsPolledOn api now l Take old s answer new s' = IsSent api (taking s.id l (end_of now s.duration)) now old s answer new s'
 

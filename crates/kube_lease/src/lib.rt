@@ -5,7 +5,10 @@ mod candidate;
 mod election;
 pub mod laws;
 mod lease;
+mod patches;
+mod poll;
 pub mod rows;
 
 pub use candidate::{Candidate, LeaseDecision};
+pub use poll::LeaseAnswer;
 pub use lease::{LeaseFault, LeaseView, new_lease, read_lease};

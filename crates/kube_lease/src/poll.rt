@@ -6,7 +6,7 @@ ghost use Rattle.kube_api.specs.ObjectTalk.{patch_answer};
 ghost use Rattle.kube_api.specs.Patches.{operation_of};
 ghost use Rattle.kube_final.specs.FinalizerPolls.{objects_in};
 ghost use Rattle.kube_lease.specs.Leases.{Lease, choice, choice_on};
-ghost use Rattle.kube_lease.specs.Polls.{IsAnsweredBy, IsDone, IsLost, IsPolled, patch_of};
+ghost use Rattle.kube_lease.specs.Polls.{IsAnsweredBy, IsDone, IsHeld, IsLost, IsPolled, IsUnsent, patch_of};
 ghost use Rattle.kube_lease.specs.Reading.{lease_at, lease_of};
 
 use crate::candidate::{Candidate, LeaseDecision};
