@@ -1,5 +1,5 @@
 -- What holds after each step of an election, and what follows for claims.
-use Rattle.std.proofs.Common.{◌≡◌, ◌⊎◌, inl, inr, ℕ, zero, suc, ◌+◌, ◌<◌, ◌≤◌, ◌==◌, nat_lt, Bool, true, false, not, cond, ◌&&◌, ◌||◌, List, [], ◌∷◌, ◌++◌, length, Option, Some, None, is_some, slice_get, refl, sym, ap, subst, ◌∙◌, arith, append-nil}
+use Rattle.std.proofs.Common.{◌≡◌, ◌⊎◌, inl, inr, ℕ, zero, suc, ◌+◌, ◌<◌, ◌≤◌, ◌==◌, nat_lt, Bool, true, false, not, cond, ◌&&◌, ◌||◌, ◌-◌, ◌^◌, List, [], ◌∷◌, ◌++◌, Option, Some, None, slice_get, refl, sym, ap, subst, ◌∙◌, arith}
 use Rattle.std.specs.List.{fold}
 use Rattle.std.specs.Str.{bytes_eq}
 use Rattle.std.proofs.lemmas.Bool.{eqb-true, ltb-true, ltb-false}
@@ -7,8 +7,8 @@ use Rattle.std.proofs.lemmas.Slice.Eq.{bytes_eq-Decides}
 use Rattle.kube_lease.specs.declared.election.Entrant.{Entrant}
 use Rattle.kube_lease.specs.declared.election.LeaseStep.{LeaseStep}
 use Rattle.kube_lease.specs.declared.election.LeaseStep.TheVariants.{Tick, Observe, Send, Arrive, Reply}
-use Rattle.kube_lease.specs.Leases.{Choice, Unseen, Renew, Wait, LastTerm, Take, Lease, choice, choice_of_holder, choice_of_other, choice_on, end_of, is_holder, renewed, taken, unheld}
-use Rattle.kube_lease.specs.Elections.{AreEntrants, IsClaim, Past, Sent, after, arrived, beginning, changed, is_election, is_election_from, leases, may_follow, observed_by, passes, past_of, sent_by, sent_for, sent_on, under}
+use Rattle.kube_lease.specs.Leases.{Renew, Wait, LastTerm, Take, Lease, choice_of_holder, choice_of_other, end_of, is_holder, renewed, taken, unheld}
+use Rattle.kube_lease.specs.Elections.{AreEntrants, IsClaim, Past, Sent, after, arrived, beginning, changed, is_election, leases, observed_by, passes, past_of, sent_by, sent_for, sent_on, under}
 
 -- ---- truth values, lists
 
@@ -156,9 +156,9 @@ changed_sound p n m s f = record {
     | inr new ↦ let e : a.term ≡ m.term = ap (λ (l : Lease). l.term) new in absurd (omega arith)
   ];
   observed = λ k c l x. let w = s.observed k c l x in (w.0, slice_get-more (leases p) (m ∷ []) w.0 l w.1);
-  made = λ k j l x. elim (slice_get-first (n, m) p.made k (j, l) x) [
-    | inl new ↦ let e : l ≡ m = ap (λ (q : ℕ × Lease). q.1) new in let P : Lease → Type 0 = λ y. IsState (changed p n m) y in subst P (sym e) (last-there (leases p) m)
-    | inr old ↦ let w = s.made old.0 j l old.1 in (w.0, slice_get-more (leases p) (m ∷ []) w.0 l w.1)
+  made = λ k j l x. elim (slice_get-last p.made (n, m) k (j, l) x) [
+    | inl old ↦ let w = s.made k j l old in (w.0, slice_get-more (leases p) (m ∷ []) w.0 l w.1)
+    | inr new ↦ let e : l ≡ m = ap (λ (q : ℕ × Lease). q.1) new in let P : Lease → Type 0 = λ y. IsState (changed p n m) y in subst P (sym e) (last-there (leases p) m)
   ];
   sent = s.sent;
 }
@@ -290,10 +290,13 @@ sound_first = record {
   first : (k : ℕ) (a : Lease) → slice_get (unheld ∷ []) k ≡ Some a → a ≡ unheld
   first zero a x = cc
   first (suc k) a x = absurd (cc)
+
   first_one : (j k : ℕ) (a b : Lease) → slice_get (unheld ∷ []) j ≡ Some a → slice_get (unheld ∷ []) k ≡ Some b → a.holder ≡ b.holder
   first_one j k a b x y = ap (λ (l : Lease). l.holder) (first j a x ∙ sym (first k b y))
+
   first_latest : (k : ℕ) (a : Lease) → slice_get (unheld ∷ []) k ≡ Some a → IsUpTo a unheld
   first_latest k a x = let P : Lease → Type 0 = λ l. IsUpTo l unheld in subst P (sym (first k a x)) (up-to_itself unheld)
+
   first_over : (k : ℕ) (a : Lease) → slice_get (unheld ∷ []) k ≡ Some a → a.term < 0 → a.until ≤ 0
   first_over k a x lt = absurd (omega arith)
 

@@ -1,1 +1,2 @@
 pub mod ElectionLaws
+pub mod Polling

@@ -1,5 +1,5 @@
 -- What contracts see of a candidate, and what it learns. (client-go: `LeaderElector`.)
-use Rattle.std.specs.Prelude.{◌≡◌, ℕ, ◌==◌, nat_lt, Bool, true, false, ◌&&◌, ◌||◌, List, Option, Some, None, cond}
+use Rattle.std.specs.Prelude.{◌≡◌, ℕ, ◌==◌, nat_lt, Bool, false, ◌&&◌, ◌||◌, List, Option, Some, None, Result, Ok, Err, cond}
 use Rattle.kube_lease.specs.declared.candidate.Claim.{Claim}
 use Rattle.kube_lease.specs.declared.candidate.LeaseDecision.{LeaseDecision}
 use Rattle.kube_lease.specs.declared.candidate.LeaseDecision.TheVariants as decisions
@@ -34,6 +34,11 @@ claim_after id l claim = cond (is_holder id l) (Some (greater claim (claim_on l)
 
 abbrev pub having_observed : Lease → Standing → Standing
 having_observed l s = record s { seen = Some l; claim = claim_after s.id l s.claim }
+
+-- it observes what an object is, which is a lease
+abbrev pub IsObserved : Result Lease (List ℕ) → Standing → Standing → Type 0
+IsObserved (Ok l) s s' = s' ≡ having_observed l s
+IsObserved (Err place) s s' = ⊥
 
 -- whether its claim lasts past a moment
 abbrev pub may_act_at : Option Claim → ℕ → Bool

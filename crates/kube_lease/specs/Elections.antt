@@ -1,5 +1,5 @@
 -- An election: what happens to one lease object, step by step, where candidates hold it in turn by tested patches.
-use Rattle.std.specs.Prelude.{◌≡◌, ℕ, ◌+◌, ◌<◌, ◌^◌, ◌==◌, nat_lt, Bool, true, false, not, ◌&&◌, ◌||◌, List, [], ◌∷◌, ◌++◌, length, slice_get, Option, Some, None, is_some, cond}
+use Rattle.std.specs.Prelude.{◌≡◌, ℕ, ◌+◌, ◌^◌, ◌==◌, nat_lt, Bool, true, false, not, ◌&&◌, ◌||◌, List, [], ◌∷◌, ◌++◌, length, slice_get, Option, Some, None, is_some, cond}
 use Rattle.std.specs.List.{fold}
 use Rattle.std.specs.Str.{bytes_eq}
 use Rattle.kube_lease.specs.declared.election.Entrant.{Entrant}
@@ -23,7 +23,7 @@ pub record Sent : Type 0 where
   pub seen : Lease
   pub makes : Lease
 
--- the server's moment; how the lease stood before each change, and stands; which candidate observed which lease, the latest first; the patches that were sent, in order; and which patch made which lease, the latest first
+-- the server's moment; how the lease stood before each change, and stands; which candidate observed which lease, the latest first; the patches that were sent, in order; and which patch made which lease, in order
 pub record Past : Type 0 where
   pub now : ℕ
   pub before : List Lease
@@ -72,7 +72,7 @@ abbrev pub passes : Sent → Lease → Bool
 passes s l = (s.seen.term == l.term && s.seen.until == l.until) && (not s.renews || bytes_eq s.seen.holder l.holder)
 
 abbrev pub changed : Past → ℕ → Lease → Past
-changed p n l = record p { before = p.before ++ p.current ∷ []; current = l; made = (n, l) ∷ p.made }
+changed p n l = record p { before = p.before ++ p.current ∷ []; current = l; made = p.made ++ (n, l) ∷ [] }
 
 -- a patch that arrives whose tests don't pass changes nothing
 abbrev pub arrived : Past → ℕ → Option Sent → Past

@@ -1,5 +1,5 @@
 -- A lease, and what a candidate decides on it. (client-go: leader election.)
-use Rattle.std.specs.Prelude.{ℕ, ◌+◌, ◌-◌, ◌^◌, ◌==◌, nat_lt, min, Bool, true, false, List, Option, Some, None, cond}
+use Rattle.std.specs.Prelude.{ℕ, ◌+◌, ◌-◌, ◌^◌, ◌==◌, nat_lt, min, Bool, List, Option, Some, None, cond}
 use Rattle.std.specs.Str.{bytes_eq}
 
 -- who holds it (nobody where the text is empty), in which term, and until which of the server's moments

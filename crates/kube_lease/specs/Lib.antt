@@ -2,4 +2,6 @@ pub mod Leases
 pub mod Elections
 pub mod Reading
 pub mod Candidates
+pub mod Polls
+pub mod Staging
 pub mod Rows

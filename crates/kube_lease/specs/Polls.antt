@@ -109,27 +109,31 @@ IsUnsent LastTerm answer = answer ≡ Ready answers.LastTerm
 IsUnsent Renew answer = ⊤
 IsUnsent Take answer = ⊤
 
--- where no patch is sent nothing is asked of the API
-abbrev pub IsPolledOn : {A : Type 0} → Objects A DynamicObject → ℕ → Lease → Choice → A → Standing → Polled LeaseAnswer → A → Standing → Type 0
-IsPolledOn api now l Unseen old s answer new s' = IsUnsent Unseen answer × (new ≡ old) × (s' ≡ s)
-IsPolledOn api now l (Wait until) old s answer new s' = IsUnsent (Wait until) answer × (new ≡ old) × (s' ≡ s)
-IsPolledOn api now l LastTerm old s answer new s' = IsUnsent LastTerm answer × (new ≡ old) × (s' ≡ s)
-IsPolledOn api now l Renew old s answer new s' = IsSent api (renewal l (end_of now s.duration)) now old s answer new s'
-IsPolledOn api now l Take old s answer new s' = IsSent api (taking s.id l (end_of now s.duration)) now old s answer new s'
+-- by the patch of what is decided, if it has one: where none is sent nothing is asked of the API
+abbrev pub IsPolledOn : {A : Type 0} → Objects A DynamicObject → ℕ → Choice → Option (List Operation) → A → Standing → Polled LeaseAnswer → A → Standing → Type 0
+IsPolledOn api now decided None old s answer new s' = IsUnsent decided answer × (new ≡ old) × (s' ≡ s)
+IsPolledOn api now decided (Some patch) old s answer new s' = IsSent api patch now old s answer new s'
 
 abbrev pub IsPolledBy : {A : Type 0} → Objects A DynamicObject → ℕ → Option Lease → A → Standing → Polled LeaseAnswer → A → Standing → Type 0
 IsPolledBy api now None old s answer new s' = (answer ≡ Ready answers.Unseen) × (new ≡ old) × (s' ≡ s)
-IsPolledBy api now (Some l) old s answer new s' = IsPolledOn api now l (choice s.id s.duration now (Some l)) old s answer new s'
+IsPolledBy api now (Some l) old s answer new s' = IsPolledOn api now (choice s.id s.duration now (Some l)) (patch_of s now l) old s answer new s'
 
 -- the poll of a candidate at a moment, by the lease that it observed last
 abbrev pub IsPolled : {A : Type 0} → Objects A DynamicObject → ℕ → A → Standing → Polled LeaseAnswer → A → Standing → Type 0
 IsPolled api now old s answer new s' = IsPolledBy api now s.seen old s answer new s'
 
--- memory could not be had: nothing was asked, and the API is as it was, or as want of memory leaves it; or the patch was asked, once, and its reply is lost
+-- nothing was asked: the API is as it was, or as want of memory leaves it
+abbrev pub IsUnasked : {A : Type 0} → Objects A DynamicObject → A → A → Type 0
+IsUnasked api old new = (api.talk new ≡ api.talk old) × (api.held new ≡ api.held old) × IsLeftUnasked api old new
+
+-- nothing was asked, or the patch was, once
+abbrev pub IsAskedAtMostOnce : {A : Type 0} → Objects A DynamicObject → List ℕ → List Operation → ℕ → A → A → Type 0
+IsAskedAtMostOnce api name patch now old new = IsUnasked api old new ⊎ ((answer : ObjectAnswer DynamicObject) × IsPatched api name patch now old answer new)
+
+-- memory could not be had: nothing was asked, or the patch was asked, once, and its reply is lost
 abbrev pub IsLostOn : {A : Type 0} → Objects A DynamicObject → List ℕ → ℕ → Option (List Operation) → A → A → Type 0
 IsLostOn api name now None old new = new ≡ old
-IsLostOn api name now (Some patch) old new =
-    ((api.talk new ≡ api.talk old) × (api.held new ≡ api.held old) × IsLeftUnasked api old new) ⊎ ((answer : ObjectAnswer DynamicObject) × IsPatched api name patch now old answer new)
+IsLostOn api name now (Some patch) old new = IsAskedAtMostOnce api name patch now old new
 
 abbrev pub IsLostBy : {A : Type 0} → Objects A DynamicObject → ℕ → Option Lease → Standing → A → A → Type 0
 IsLostBy api now None s old new = new ≡ old

@@ -1,7 +1,7 @@
 -- A lease as an object's content, and the first fault of an object that is none.
-use Rattle.std.specs.Prelude.{◌≡◌, ℕ, ⊤, List, [], Option, Some, None, Result, Ok, Err, codes}
+use Rattle.std.specs.Prelude.{◌≡◌, ℕ, ⊤, List, Option, Some, None, Result, Ok, Err, codes}
 use Rattle.std.specs.Option.{option_and_then}
-use Rattle.serde_json.specs.Data.{Data, Members, no_members, member, object, number, string, unsigned}
+use Rattle.serde_json.specs.Data.{Data, no_members, member, object, number, string, unsigned}
 use Rattle.serde_json.specs.Find.{get, as_number, as_str, as_u64}
 use Rattle.kube_meta.specs.declared.metadata.ObjectMeta.{ObjectMeta}
 use Rattle.kube_meta.specs.Reading.{ObjectData}

@@ -1,10 +1,10 @@
 //! Candidates: who may lead (in place of client-go's `LeaderElector`).
 
-ghost use Rattle.std.specs.Prelude.{◌≡◌, ◌×◌, [], IfOk, IfErr, OnOk, OnErr, Ok, ⊥};
+ghost use Rattle.std.specs.Prelude.{◌≡◌, [], IfOk, IfErr, OnOk, OnErr};
 ghost use Rattle.serde_json.specs.View.{view};
-ghost use Rattle.kube_lease.specs.Leases.{Lease, choice, choice_on, choice_of_holder, choice_of_other};
+ghost use Rattle.kube_lease.specs.Leases.{choice, choice_on, choice_of_holder, choice_of_other};
 ghost use Rattle.kube_lease.specs.Reading.{IsFaultOf, lease_at, lease_of};
-ghost use Rattle.kube_lease.specs.Candidates.{choice_in, greater as greater_of, having_observed, is_above as is_above_in, may_act_at, standing};
+ghost use Rattle.kube_lease.specs.Candidates.{choice_in, greater as greater_of, IsObserved, is_above as is_above_in, may_act_at, standing};
 
 use crate::lease::{LeaseFault, LeaseView, read_lease};
 use kube_meta::{DynamicObject, Moment, NoMemory, Text};
@@ -56,7 +56,7 @@ pub struct Candidate {
     pub(crate) id: Text,
     pub(crate) lease: Text,
     pub(crate) duration: u64,
-    pub(crate) view: Option<LeaseView>,
+    pub(crate) seen: Option<LeaseView>,
     pub(crate) claim: Option<Claim>,
 }
 
@@ -67,35 +67,35 @@ impl Model for Candidate {
 
     ghost Value = { Standing };
 
-    ghost view = { λ c. record { id = c.id; lease = c.lease; duration = c.duration; seen = option_map lease_of c.view; claim = c.claim } };
+    ghost view = { λ c. record { id = c.id; lease = c.lease; duration = c.duration; seen = option_map lease_of c.seen; claim = c.claim } };
 }
 
 /// What is decided on a lease.
-fn decide_on(id: &str, duration: u64, now: Moment, view: &LeaseView) -> LeaseDecision
-    ensures { choice_in result ≡ choice_on id.now duration now.0 (lease_of view.now) }
+fn decide_on(id: &str, duration: u64, now: Moment, seen: &LeaseView) -> LeaseDecision
+    ensures { choice_in result ≡ choice_on id.now duration now.0 (lease_of seen.now) }
 {
-    if view.holder.as_str() == id {
-        return decide_as_holder(duration, now, view);
+    if seen.holder.as_str() == id {
+        return decide_as_holder(duration, now, seen);
     }
-    decide_as_other(now, view)
+    decide_as_other(now, seen)
 }
 
-fn decide_as_holder(duration: u64, now: Moment, view: &LeaseView) -> LeaseDecision
-    ensures { choice_in result ≡ choice_of_holder duration now.0 (lease_of view.now) }
+fn decide_as_holder(duration: u64, now: Moment, seen: &LeaseView) -> LeaseDecision
+    ensures { choice_in result ≡ choice_of_holder duration now.0 (lease_of seen.now) }
 {
-    if view.until.0 < now.plus(duration).0 {
+    if seen.until.0 < now.plus(duration).0 {
         return LeaseDecision::Renew;
     }
-    LeaseDecision::Wait { until: view.until }
+    LeaseDecision::Wait { until: seen.until }
 }
 
-fn decide_as_other(now: Moment, view: &LeaseView) -> LeaseDecision
-    ensures { choice_in result ≡ choice_of_other now.0 (lease_of view.now) }
+fn decide_as_other(now: Moment, seen: &LeaseView) -> LeaseDecision
+    ensures { choice_in result ≡ choice_of_other now.0 (lease_of seen.now) }
 {
-    if now.0 < view.until.0 {
-        return LeaseDecision::Wait { until: view.until };
+    if now.0 < seen.until.0 {
+        return LeaseDecision::Wait { until: seen.until };
     }
-    if view.term == u64::MAX {
+    if seen.term == u64::MAX {
         return LeaseDecision::LastTerm;
     }
     LeaseDecision::Take
@@ -114,7 +114,7 @@ impl Candidate {
             id: Text::new(alloc, id)?,
             lease: Text::new(alloc, lease)?,
             duration,
-            view: None,
+            seen: None,
             claim: None,
         })
     }
@@ -124,19 +124,19 @@ impl Candidate {
     ///
     /// Errors: `Malformed` where the object is no lease, and `NoMemory`; the candidate is then as before.
     pub fn observe(&mut self, alloc: Global, object: &DynamicObject) -> Result<(), LeaseFault>
-        ensures observed { OnOk result ((l : Lease) × (lease_at (view object.now.content) ≡ Ok l) × (self.new ≡ having_observed l self.old)) }
+        ensures observed { OnOk result (IsObserved (lease_at (view object.now.content)) self.old self.new) }
         ensures fault { IfErr result (λ e. IsFaultOf (lease_at (view object.now.content)) e) }
         ensures left { OnErr result (self.new ≡ self.old) }
     {
-        let view = read_lease(alloc, object)?;
-        if view.holder.as_str() == self.id.as_str() {
+        let seen = read_lease(alloc, object)?;
+        if seen.holder.as_str() == self.id.as_str() {
             let claim = Claim {
-                term: view.term,
-                until: view.until.0,
+                term: seen.term,
+                until: seen.until.0,
             };
             self.claim = Some(greater(self.claim, claim));
         }
-        self.view = Some(view);
+        self.seen = Some(seen);
         Ok(())
     }
 
@@ -144,8 +144,8 @@ impl Candidate {
     pub fn decide(&self, now: Moment) -> LeaseDecision
         ensures { choice_in result ≡ choice self.now.id self.now.duration now.0 self.now.seen }
     {
-        match &self.view {
-            Some(view) => decide_on(self.id.as_str(), self.duration, now, view),
+        match &self.seen {
+            Some(seen) => decide_on(self.id.as_str(), self.duration, now, seen),
             None => LeaseDecision::Unseen,
         }
     }

@@ -1,6 +1,6 @@
 //! Leases: who leads, in which term, and until when (in place of client-go's lease lock).
 
-ghost use Rattle.std.specs.Prelude.{◌≡◌, IfOk, IfErr, option_map, Ok};
+ghost use Rattle.std.specs.Prelude.{◌≡◌, IfOk, IfErr, option_map, Ok, Err};
 ghost use Rattle.serde_json.specs.View.{view};
 ghost use Rattle.kube_meta.specs.Reading.{seen_object};
 ghost use Rattle.kube_lease.specs.Leases.{unheld};
@@ -8,7 +8,7 @@ ghost use Rattle.kube_lease.specs.Reading.{IsFaultOf, lease_at, lease_data, leas
 ghost use Rattle.kube_lease.specs.declared.lease.LeaseFault.TheVariants.{NoMemory as out_of_memory};
 
 use kube_meta::{DynamicObject, Moment, NoMemory, ObjectMeta, Text};
-use serde_json::{Map, Number, Value};
+use serde_json::{Map, Value};
 use std::alloc::{AllocError, Global};
 
 /// A lease, as an object's `spec` has it.
@@ -63,7 +63,7 @@ fn number_of(content: &Value, name: &str) -> Option<u64>
 
 /// The fault at a place.
 fn malformed(alloc: Global, place: &str) -> LeaseFault
-    ensures { IsFaultOf (Result.Err place.now) result }
+    ensures { IsFaultOf (Err place.now) result }
 {
     match Text::new(alloc, place) {
         Ok(place) => LeaseFault::Malformed(place),
@@ -98,12 +98,13 @@ pub fn read_lease(alloc: Global, object: &DynamicObject) -> Result<LeaseView, Le
 fn unheld(alloc: Global) -> Result<Value, NoMemory>
     ensures { IfOk result (λ v. view v ≡ lease_data unheld) }
 {
+    let nobody = Value::String(String::new(alloc));
     let mut spec = Map::new(alloc);
-    spec.insert(String::from_str(alloc, "holder")?, Value::String(String::new(alloc)))?;
-    spec.insert(String::from_str(alloc, "term")?, Value::Number(Number::from(0u64)))?;
-    spec.insert(String::from_str(alloc, "until")?, Value::Number(Number::from(0u64)))?;
+    serde_json::put(&mut spec, alloc, "holder", nobody)?;
+    serde_json::put(&mut spec, alloc, "term", Value::from(0u64))?;
+    serde_json::put(&mut spec, alloc, "until", Value::from(0u64))?;
     let mut content = Map::new(alloc);
-    content.insert(String::from_str(alloc, "spec")?, Value::Object(spec))?;
+    serde_json::put(&mut content, alloc, "spec", Value::Object(spec))?;
     Ok(Value::Object(content))
 }
 

@@ -10,5 +10,5 @@ mod poll;
 pub mod rows;
 
 pub use candidate::{Candidate, LeaseDecision};
-pub use poll::LeaseAnswer;
 pub use lease::{LeaseFault, LeaseView, new_lease, read_lease};
+pub use poll::LeaseAnswer;

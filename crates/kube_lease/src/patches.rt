@@ -1,22 +1,22 @@
 //! The patches of a candidate.
 
-ghost use Rattle.std.specs.Prelude.{◌≡◌, ◌<◌, ◌^◌, length, map, IfOk};
+ghost use Rattle.std.specs.Prelude.{◌≡◌, ◌<◌, ◌-◌, ◌^◌, length, map, IfOk};
 ghost use Rattle.serde_json.specs.Data.{string};
 ghost use Rattle.serde_json.specs.View.{view};
-ghost use Rattle.kube_api.specs.Patches.{operation_of};
+ghost use Rattle.kube_api.specs.Patches.{operation_of, Tests, Changes, Puts};
 ghost use Rattle.kube_lease.specs.Reading.{lease_of};
 ghost use Rattle.kube_lease.specs.Polls.{renewal as renewal_of, taking as taking_of, whole};
 
 use crate::lease::LeaseView;
 use kube_api::Patch;
 use kube_meta::{Moment, NoMemory, Text};
-use serde_json::{Number, Value};
+use serde_json::Value;
 use std::alloc::Global;
 
 fn number(number: u64) -> Value
     ensures { view result ≡ whole number }
 {
-    Value::Number(Number::from(number))
+    Value::from(number)
 }
 
 fn text(alloc: Global, text: &str) -> Result<Value, NoMemory>
@@ -42,15 +42,15 @@ fn add(alloc: Global, path: &str, value: Value) -> Result<Patch, NoMemory>
 /// Tests that the lease is as it was seen, and makes it last until a moment.
 pub(crate) fn renewal(
     alloc: Global,
-    view: &LeaseView,
+    seen: &LeaseView,
     until: Moment,
 ) -> Result<Vec<Patch>, NoMemory>
-    ensures operations { IfOk result (λ p. map operation_of p.items ≡ renewal_of (lease_of view.now) until.0) }
+    ensures operations { IfOk result (λ p. map operation_of p.items ≡ renewal_of (lease_of seen.now) until.0) }
     ensures few { IfOk result (λ p. length p.items < 2 ^ 32) }
 {
-    let term = test(alloc, "/spec/term", number(view.term))?;
-    let holder = test(alloc, "/spec/holder", text(alloc, view.holder.as_str())?)?;
-    let end = test(alloc, "/spec/until", number(view.until.0))?;
+    let term = test(alloc, "/spec/term", number(seen.term))?;
+    let holder = test(alloc, "/spec/holder", text(alloc, seen.holder.as_str())?)?;
+    let end = test(alloc, "/spec/until", number(seen.until.0))?;
     let longer = add(alloc, "/spec/until", number(until.0))?;
     Ok(vec![in alloc; term, holder, end, longer]?)
 }
@@ -59,16 +59,16 @@ pub(crate) fn renewal(
 pub(crate) fn taking(
     alloc: Global,
     id: &str,
-    view: &LeaseView,
+    seen: &LeaseView,
     until: Moment,
 ) -> Result<Vec<Patch>, NoMemory>
-    requires { view.now.term < 2 ^ 64 - 1 }
-    ensures operations { IfOk result (λ p. map operation_of p.items ≡ taking_of id.now (lease_of view.now) until.0) }
+    requires { seen.now.term < 2 ^ 64 - 1 }
+    ensures operations { IfOk result (λ p. map operation_of p.items ≡ taking_of id.now (lease_of seen.now) until.0) }
     ensures few { IfOk result (λ p. length p.items < 2 ^ 32) }
 {
-    let term = test(alloc, "/spec/term", number(view.term))?;
-    let end = test(alloc, "/spec/until", number(view.until.0))?;
-    let next = add(alloc, "/spec/term", number(view.term + 1))?;
+    let term = test(alloc, "/spec/term", number(seen.term))?;
+    let end = test(alloc, "/spec/until", number(seen.until.0))?;
+    let next = add(alloc, "/spec/term", number(seen.term + 1))?;
     let holder = add(alloc, "/spec/holder", text(alloc, id)?)?;
     let longer = add(alloc, "/spec/until", number(until.0))?;
     Ok(vec![in alloc; term, end, next, holder, longer]?)

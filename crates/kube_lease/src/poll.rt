@@ -1,12 +1,12 @@
 //! Polls of a candidate.
 
-ghost use Rattle.std.specs.Prelude.{◌≡◌, ◌≤◌, IfOk, OnErr, map, option_map};
+ghost use Rattle.std.specs.Prelude.{◌≡◌, ◌≤◌, ◌<◌, ◌^◌, length, IfOk, IfSome, OnErr, map, option_map};
 ghost use Rattle.serde_json.specs.View.{view};
 ghost use Rattle.kube_api.specs.ObjectTalk.{patch_answer};
 ghost use Rattle.kube_api.specs.Patches.{operation_of};
 ghost use Rattle.kube_final.specs.FinalizerPolls.{objects_in};
-ghost use Rattle.kube_lease.specs.Leases.{Lease, choice, choice_on};
-ghost use Rattle.kube_lease.specs.Polls.{IsAnsweredBy, IsDone, IsHeld, IsLost, IsPolled, IsUnsent, patch_of};
+ghost use Rattle.kube_lease.specs.Leases.{Lease, choice};
+ghost use Rattle.kube_lease.specs.Polls.{IsAnsweredBy, IsAskedAtMostOnce, IsDone, IsHeld, IsLost, IsPatched, IsPolled, IsSent, IsUnasked, IsUnsent, patch_of};
 ghost use Rattle.kube_lease.specs.Reading.{lease_at, lease_of};
 
 use crate::candidate::{Candidate, LeaseDecision};
@@ -34,23 +34,58 @@ pub enum LeaseAnswer {
     Malformed(Text),
 }
 
+/// Sends a patch.
+///
+/// Errors: `NoMemory`, and nothing was asked.
+fn send<A: ObjectApi<Value = DynamicObject>>(
+    alloc: Global,
+    api: &mut A,
+    name: &Text,
+    patch: &[Patch],
+    now: Moment,
+) -> Result<Polled<PatchAnswer<DynamicObject>>, NoMemory>
+    requires { length patch.now < 2 ^ 32 }
+    ensures sent { IfOk result (λ a. IsPatched (objects_in A.ObjectApi) name.now (map operation_of patch.now) now.0 api.old (patch_answer a) api.new) }
+    ensures unasked { OnErr result (IsUnasked (objects_in A.ObjectApi) api.old api.new) }
+    ensures rises { A.faults api.old ≤ A.faults api.new }
+{
+    let answer = api.patch(alloc, name.as_str(), patch, now)?;
+    Ok(answer)
+}
+
 impl Candidate {
-    // The patch of what it decides on a lease that it observed, if it has one.
+    // The patch of what it decides on the lease that it observed last, if it has one.
     fn patch(
         &self,
         alloc: Global,
-        view: &LeaseView,
+        seen: &LeaseView,
         now: Moment,
     ) -> Result<Option<Vec<Patch>>, NoMemory>
-        requires { self.now.seen ≡ Some (lease_of view.now) }
-        ensures { IfOk result (λ p. option_map (λ v. map operation_of v.items) p ≡ patch_of self.now now.0 (lease_of view.now)) }
+        requires { self.now.seen ≡ Some (lease_of seen.now) }
+        ensures operations { IfOk result (λ p. option_map (λ v. map operation_of v.items) p ≡ patch_of self.now now.0 (lease_of seen.now)) }
+        ensures few { IfOk result (λ p. IfSome p (λ v. length v.items < 2 ^ 32)) }
     {
         let until = now.plus(self.duration);
-        Ok(match self.decide(now) {
-            LeaseDecision::Renew => Some(renewal(alloc, view, until)?),
-            LeaseDecision::Take => Some(taking(alloc, self.id.as_str(), view, until)?),
-            LeaseDecision::Unseen | LeaseDecision::Wait { .. } | LeaseDecision::LastTerm => None,
-        })
+        match self.decide(now) {
+            LeaseDecision::Renew => Ok(Some(renewal(alloc, seen, until)?)),
+            LeaseDecision::Take => Ok(Some(taking(alloc, self.id.as_str(), seen, until)?)),
+            LeaseDecision::Unseen | LeaseDecision::Wait { .. } | LeaseDecision::LastTerm => {
+                Ok(None)
+            }
+        }
+    }
+
+    // That it holds the lease that it observed last.
+    fn held(&self) -> LeaseAnswer
+        ensures { (l : Lease) → self.now.seen ≡ Some l → IsHeld l (Polled.Ready result) }
+    {
+        match &self.seen {
+            Some(seen) => LeaseAnswer::Held {
+                term: seen.term,
+                until: seen.until,
+            },
+            None => LeaseAnswer::Unseen,
+        }
     }
 
     // Observes the object of a patch that was done.
@@ -69,19 +104,6 @@ impl Candidate {
         }
     }
 
-    // That it holds the lease that it observed last.
-    fn held(&self) -> LeaseAnswer
-        ensures { (l : Lease) → self.now.seen ≡ Some l → IsHeld l (Polled.Ready result) }
-    {
-        match &self.view {
-            Some(view) => LeaseAnswer::Held {
-                term: view.term,
-                until: view.until,
-            },
-            None => LeaseAnswer::Unseen,
-        }
-    }
-
     // What the answer to a patch comes to.
     fn learn(
         &mut self,
@@ -91,12 +113,52 @@ impl Candidate {
         ensures answered { IfOk result (λ a. IsAnsweredBy (patch_answer answer) self.old a self.new) }
         ensures left { OnErr result (self.new ≡ self.old) }
     {
-        Ok(Polled::Ready(match answer {
-            Polled::NotReady => return Ok(Polled::NotReady),
-            Polled::Ready(PatchAnswer::Done(object)) => self.observe_done(alloc, &object)?,
-            Polled::Ready(PatchAnswer::Refused(refusal)) => LeaseAnswer::Lost(refusal),
-            Polled::Ready(PatchAnswer::Fault(error)) => LeaseAnswer::Fault(error),
-        }))
+        match answer {
+            Polled::NotReady => Ok(Polled::NotReady),
+            Polled::Ready(PatchAnswer::Done(object)) => {
+                let object: &DynamicObject = &object;
+                let answer = self.observe_done(alloc, object)?;
+                Ok(Polled::Ready(answer))
+            }
+            Polled::Ready(PatchAnswer::Refused(refusal)) => {
+                Ok(Polled::Ready(LeaseAnswer::Lost(refusal)))
+            }
+            Polled::Ready(PatchAnswer::Fault(error)) => {
+                Ok(Polled::Ready(LeaseAnswer::Fault(error)))
+            }
+        }
+    }
+
+    // Sends a patch, and learns what it was answered.
+    fn ask<A: ObjectApi<Value = DynamicObject>>(
+        &mut self,
+        alloc: Global,
+        api: &mut A,
+        patch: &[Patch],
+        now: Moment,
+    ) -> Result<Polled<LeaseAnswer>, NoMemory>
+        requires { length patch.now < 2 ^ 32 }
+        ensures sent { IfOk result (λ a. IsSent (objects_in A.ObjectApi) (map operation_of patch.now) now.0 api.old self.old a api.new self.new) }
+        ensures rises { A.faults api.old ≤ A.faults api.new }
+        ensures left { OnErr result (self.new ≡ self.old) }
+        ensures lost { OnErr result (IsAskedAtMostOnce (objects_in A.ObjectApi) self.old.lease (map operation_of patch.now) now.0 api.old api.new) }
+    {
+        let answer = send(alloc, api, &self.lease, patch, now)?;
+        let learnt = self.learn(alloc, answer)?;
+        Ok(learnt)
+    }
+
+    // What it comes to where nothing is sent.
+    fn unsent(&self, now: Moment) -> LeaseAnswer
+        ensures { IsUnsent (choice self.now.id self.now.duration now.0 self.now.seen) (Polled.Ready result) }
+    {
+        match self.decide(now) {
+            LeaseDecision::Wait { until } => LeaseAnswer::Wait { until },
+            LeaseDecision::LastTerm => LeaseAnswer::LastTerm,
+            LeaseDecision::Unseen | LeaseDecision::Renew | LeaseDecision::Take => {
+                LeaseAnswer::Unseen
+            }
+        }
     }
 
     /// Decides once, and sends the patch that the decision has, if any.
@@ -116,26 +178,16 @@ impl Candidate {
         ensures left { OnErr result (self.new ≡ self.old) }
         ensures lost { OnErr result (IsLost (objects_in A.ObjectApi) now.0 self.old api.old api.new) }
     {
-        let Some(view) = &self.view else {
+        let Some(seen) = &self.seen else {
             return Ok(Polled::Ready(LeaseAnswer::Unseen));
         };
-        match self.patch(alloc, view, now)? {
+        let patch = self.patch(alloc, seen, now)?;
+        match patch {
             Some(patch) => {
-                let answer = api.patch(alloc, self.lease.as_str(), patch.as_slice(), now)?;
-                self.learn(alloc, answer)
+                let answer = self.ask(alloc, api, patch.as_slice(), now)?;
+                Ok(answer)
             }
             None => Ok(Polled::Ready(self.unsent(now))),
-        }
-    }
-
-    // What it comes to where nothing is sent.
-    fn unsent(&self, now: Moment) -> LeaseAnswer
-        ensures { IsUnsent (choice self.now.id self.now.duration now.0 self.now.seen) (Polled.Ready result) }
-    {
-        match self.decide(now) {
-            LeaseDecision::Wait { until } => LeaseAnswer::Wait { until },
-            LeaseDecision::LastTerm => LeaseAnswer::LastTerm,
-            LeaseDecision::Unseen | LeaseDecision::Renew | LeaseDecision::Take => LeaseAnswer::Unseen,
         }
     }
 }

@@ -1,6 +1,6 @@
 //! Worked elections, each with what the definitions make of it. The functions do nothing.
 
-ghost use Rattle.std.specs.Prelude.{◌≡◌, ◌∷◌, ◌++◌, [], Some, None, true, false};
+ghost use Rattle.std.specs.Prelude.{◌≡◌, ◌∷◌, ◌++◌, [], Some, true, false};
 ghost use Rattle.kube_lease.specs.Leases.{Wait, Take, choice, unheld};
 ghost use Rattle.kube_lease.specs.Candidates.{may_act_at};
 ghost use Rattle.kube_lease.specs.Elections.{is_election, leases, past_of, under};
