@@ -6,6 +6,7 @@ mod election;
 pub mod laws;
 mod lease;
 mod patches;
+mod play;
 mod poll;
 pub mod rows;
 

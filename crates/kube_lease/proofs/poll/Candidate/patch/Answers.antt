@@ -1,4 +1,4 @@
-use Rattle.std.proofs.Common.{Some, ap, sym, ◌∙◌}
+use Rattle.std.proofs.Common.{ap, sym, ◌∙◌, arith}
 use Rattle.kube_lease.specs.Candidates.{choice_in}
 use Rattle.kube_lease.specs.Leases.{choice}
 use Rattle.kube_lease.specs.Reading.{lease_of}
