@@ -18,7 +18,7 @@ use Rattle.kube_server.specs.Servers.{ServerState, meta_of, next_revision, refer
 use Rattle.kube_lease.specs.Elections.{Sent, passes}
 use Rattle.kube_lease.specs.Leases.{Lease}
 use Rattle.kube_lease.specs.Played.{IsHeldAs, IsSeenAs, lease_key, lease_name, plain_lease}
-use Rattle.kube_lease.specs.Staging.{IsAnswered, IsRegularSent, IsSmall, Serves, object_in, operations_of}
+use Rattle.kube_lease.specs.Staging.{IsAnswered, IsArrived, IsRegularSent, IsSmall, Serves, object_in, operations_of}
 use Rattle.kube_lease.proofs.LeaseDocuments.{change_done, change_refused}
 
 -- ---- what is held
@@ -113,11 +113,6 @@ serves-modified old new r l m uid version h step =
     }
 
 -- ---- a patch that arrives
-
--- it made a lease, and the server has it; or none, and the server has the one of before
-abbrev pub IsArrived : ServerState → Reference → Lease → Sent → Option (Arc DynamicObject Global) → Type 0
-IsArrived new r l s None = (passes s l ≡ false) × Serves new r l
-IsArrived new r l s (Some a) = (passes s l ≡ true) × Serves new r s.makes × IsSeenAs (seen_object (arc_value a)) s.makes
 
 -- an answer whose object is seen so
 seen-answer : (a : ObjectAnswer DynamicObject) (o : ObjectData) → answer_seen seen_object a ≡ AnswersObject o → (x : DynamicObject) × (object_in a ≡ Some x) × (seen_object x ≡ o)

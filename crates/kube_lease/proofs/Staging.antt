@@ -22,10 +22,10 @@ use Rattle.kube_lease.specs.Candidates.{Standing}
 use Rattle.kube_lease.specs.Elections.{Past, Sent, after, arrived, changed, is_by, is_election_from, leases, may_follow, observed_by, passes, past_of, sent_by, under}
 use Rattle.kube_lease.specs.Leases.{Lease}
 use Rattle.kube_lease.specs.Played.{IsSeenAs}
-use Rattle.kube_lease.specs.Staging.{AreMade, AreShort, AreSights, HasOneMore, IsSmall, IsStage, observed_at, operations_by, operations_of, patches_for, patches_in, stage_reference}
-use Rattle.kube_lease.proofs.ElectionLaws.{and_parts, under_there}
+use Rattle.kube_lease.specs.Staging.{AreMade, AreShort, AreSights, HasOneMore, IsAnswered, IsDelivered, IsSmall, IsStage, Serves, observed_at, operations_by, operations_of, patches_for, patches_in, stage_reference}
+use Rattle.kube_lease.proofs.ElectionLaws.{and_parts, last-there, under_there}
 use Rattle.kube_lease.proofs.RegularPasts.{changed_regular, more_observed, regular_after}
-use Rattle.kube_lease.proofs.Serving.{IsArrived}
+use Rattle.kube_lease.proofs.Serving.{arrived-so}
 use Rattle.kube_lease.proofs.Standings.{one_observes, one_sends}
 
 some-no : {A : Type 0} (a : A) → Some a ≡ None → ⊥
@@ -187,6 +187,19 @@ none_sent (w ∷ vs) (x ∷ ss) (suc n) h e t = none_sent vs ss n (ap (drop 1) h
 pub no_arrival : (es : List Entrant) (s : Stage) (p : Past) (n : ℕ) → IsStage es s p → slice_get s.outbox.sent.items n ≡ None → may_follow es p (Arrive n) ≡ true → ⊥
 no_arrival es s p n h e m = none_sent s.outbox.sent.items p.sent n h.sent e (ltb-true n (length p.sent) m)
 
+-- what comes of a patch at its place
+pub delivered : (es : List Entrant) (s : Stage) (p : Past) (n : ℕ) (v : Vec Patch Global) (server : ServerState) (made : Option (Arc DynamicObject Global)) → IsStage es s p → slice_get s.outbox.sent.items n ≡ Some v
+    → IsAnswered s.server server s.now.0 (map operation_of v.items) made → IsDelivered p n server (stage_reference s) made
+delivered es s p n v server made h e a =
+    let w = sent_there s.outbox.sent.items p.sent n v h.sent e in
+    let current = last-there p.before p.current in
+    let answered : IsAnswered s.server server s.now.0 (operations_of w.0) made = subst (λ os. IsAnswered s.server server s.now.0 os made) w.2 a in
+    record {
+      sent = w.0;
+      is_sent = w.1;
+      arrived = arrived-so s.server server (stage_reference s) s.now.0 p.current w.0 made h.serves (h.regular.states current.0 p.current current.1) (h.regular.sent n w.0 w.1) answered;
+    }
+
 sights_more : (os : List (Arc DynamicObject Global)) (ls : List Lease) (o : Arc DynamicObject Global) (l : Lease) → AreSights os ls → IsSeenAs (seen_object (arc_value o)) l → AreSights (os ++ o ∷ []) (ls ++ l ∷ [])
 sights_more [] [] o l h k = (k, tt)
 sights_more [] (m ∷ ls) o l h k = absurd h
@@ -204,27 +217,42 @@ arrived_as es t p n x b e f h =
     subst (λ (o : Option Sent). IsStage es t (arrived p n o)) (sym e) (subst (λ (c : Bool). IsStage es t (cond c (changed p n x.makes) p)) (sym f) h)
 
 -- its tests don't pass
-pub refused_stage : (es : List Entrant) (s : Stage) (p : Past) (n : ℕ) (x : Sent) (server : ServerState) → IsStage es s p → slice_get p.sent n ≡ Some x
-    → IsArrived server (stage_reference s) p.current x None → IsStage es (record s { server = server }) (after es p (Arrive n))
-refused_stage es s p n x server h e a =
-    arrived_as es (record s { server = server }) p n x false e a.0
-    (record { now = h.now; serves = a.1; sights = h.sights; candidates = h.candidates; sent = h.sent; made = h.made; regular = h.regular })
+pub refused_stage : (es : List Entrant) (s : Stage) (p : Past) (n : ℕ) (server : ServerState) → IsStage es s p → IsDelivered p n server (stage_reference s) None → IsStage es (record s { server = server }) (after es p (Arrive n))
+refused_stage es s p n server h d =
+    arrived_as es (record s { server = server }) p n d.sent false d.is_sent d.arrived.0
+    (record { now = h.now; serves = d.arrived.1; sights = h.sights; candidates = h.candidates; sent = h.sent; made = h.made; regular = h.regular })
+
+pub refused_by : (es : List Entrant) (s u : Stage) (p : Past) (n : ℕ) → IsStage es s p → IsDelivered p n u.server (stage_reference s) None → u ≡ record s { server = u.server } → IsStage es u (after es p (Arrive n))
+refused_by es s u p n h d rest = subst (λ (x : Stage). IsStage es x (after es p (Arrive n))) (sym rest) (refused_stage es s p n u.server h d)
 
 -- it makes another lease
-pub done_stage : (es : List Entrant) (s : Stage) (p : Past) (n : ℕ) (x : Sent) (server : ServerState) (object : Arc DynamicObject Global) (made : Vec Made Global) (seen : Vec (Arc DynamicObject Global) Global)
-    → IsStage es s p → slice_get p.sent n ≡ Some x → IsArrived server (stage_reference s) p.current x (Some object) → made.items ≡ s.made.items ++ (record { send = n; object = object }) ∷ []
-    → HasOneMore s.seen.items seen.items x.makes → IsStage es (record s { server = server; made = made; seen = seen }) (after es p (Arrive n))
-done_stage es s p n x server object made seen h e a f more =
-    arrived_as es (record s { server = server; made = made; seen = seen }) p n x true e a.0
-    (record {
+done_stage : (es : List Entrant) (s t : Stage) (p : Past) (n : ℕ) (object : Arc DynamicObject Global) (server : ServerState) → IsStage es s p → IsDelivered p n server (stage_reference s) (Some object)
+    → t ≡ record s { server = server; made = t.made; seen = t.seen } → t.made.items ≡ s.made.items ++ (record { send = n; object = object }) ∷ []
+    → ((l : Lease) → Serves server (stage_reference s) l → HasOneMore s.seen.items t.seen.items l) → IsStage es t (after es p (Arrive n))
+done_stage es s t p n object server h d rest made seen =
+    let makes = d.sent.makes in
+    let more = seen makes d.arrived.1 in
+    let u : Stage = record s { server = server; made = t.made; seen = t.seen } in
+    let stage : IsStage es u (changed p n makes) = record {
       now = h.now;
-      serves = a.1;
-      sights = subst (λ os. AreSights os (leases p ++ x.makes ∷ [])) (sym more.more) (sights_more s.seen.items (leases p) more.object x.makes h.sights more.seen);
+      serves = d.arrived.1;
+      sights = subst (λ os. AreSights os (leases p ++ makes ∷ [])) (sym more.more) (sights_more s.seen.items (leases p) more.object makes h.sights more.seen);
       candidates = h.candidates;
       sent = h.sent;
-      made = subst (λ ms. AreMade ms (p.made ++ (n, x.makes) ∷ [])) (sym f) (made_more s.made.items p.made (record { send = n; object = object }) n x.makes h.made refl a.2);
-      regular = changed_regular p n x.makes (h.regular.sent n x e).1 h.regular;
-    })
+      made = subst (λ ms. AreMade ms (p.made ++ (n, makes) ∷ [])) (sym made) (made_more s.made.items p.made (record { send = n; object = object }) n makes h.made refl d.arrived.2);
+      regular = changed_regular p n makes (h.regular.sent n d.sent d.is_sent).1 h.regular;
+    } in
+    arrived_as es t p n d.sent true d.is_sent d.arrived.0 (subst (λ (x : Stage). IsStage es x (changed p n makes)) (sym rest) stage)
+
+pub done_by : (es : List Entrant) (s u t : Stage) (p : Past) (n : ℕ) (object : Arc DynamicObject Global) → IsStage es s p → IsDelivered p n u.server (stage_reference s) (Some object)
+    → u ≡ record s { server = u.server } → t ≡ record u { made = t.made; seen = t.seen } → t.made.items ≡ u.made.items ++ (record { send = n; object = object }) ∷ []
+    → ((l : Lease) → Serves u.server (stage_reference u) l → HasOneMore u.seen.items t.seen.items l) → IsStage es t (after es p (Arrive n))
+done_by es s u t p n object h d first second made seen =
+    let key : stage_reference u ≡ stage_reference s = ap (λ (x : Stage). stage_reference x) first in
+    done_stage es s t p n object u.server h d
+    (second ∙ ap (λ (x : Stage). record x { made = t.made; seen = t.seen }) first)
+    (made ∙ ap (λ (x : Stage). x.made.items ++ (record { send = n; object = object }) ∷ []) first)
+    (λ l held. subst (λ (x : Stage). HasOneMore x.seen.items t.seen.items l) first (seen l (subst (λ r. Serves u.server r l) (sym key) held)))
 
 -- ---- patches are short
 

@@ -71,6 +71,11 @@ entered_from c (e ∷ es) = ap (λ ss. entered e ∷ ss) (entered_from (suc c) e
 pub all_entered : (es : List Entrant) → map entered es ≡ standings_from 0 es []
 all_entered es = entered_from 0 es
 
+pub entrant_there : (n : ℕ) (es : List Entrant) (e : Entrant) → n < length es → e ≡ get_or es n e → slice_get es n ≡ Some e
+entrant_there n [] e h k = absurd (omega arith)
+entrant_there zero (f ∷ es) e h k = ap (λ x. Some x) (sym k)
+entrant_there (suc n) (f ∷ es) e h k = entrant_there n es e (omega arith) k
+
 -- ---- one sends
 
 -- the API to which candidates send

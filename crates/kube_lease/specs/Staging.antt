@@ -16,7 +16,7 @@ use Rattle.kube_lease.specs.declared.play.Made.{Made}
 use Rattle.kube_lease.specs.declared.play.Outbox.{Outbox}
 use Rattle.kube_lease.specs.declared.play.Stage.{Stage}
 use Rattle.kube_lease.specs.Candidates.{Standing, having_observed, standing}
-use Rattle.kube_lease.specs.Elections.{Past, Sent, leases}
+use Rattle.kube_lease.specs.Elections.{Past, Sent, leases, passes}
 use Rattle.kube_lease.specs.Leases.{Lease}
 use Rattle.kube_lease.specs.Played.{IsHeldBy, IsSeenAs, candidates_after, lease_key, lease_name}
 use Rattle.kube_lease.specs.Polls.{patch_of, renewal, taking}
@@ -84,6 +84,17 @@ pub record Serves (server : ServerState) (r : Reference) (l : Lease) : Type 0 wh
   pub kind : server.kind ≡ r.kind
   pub key : reference_key r ≡ lease_key
   pub holds : IsHeldBy server l
+
+-- it made a lease, and the server has it; or none, and the server has the one of before
+abbrev pub IsArrived : ServerState → Reference → Lease → Sent → Option (Arc DynamicObject Global) → Type 0
+IsArrived new r l s None = (passes s l ≡ false) × Serves new r l
+IsArrived new r l s (Some object) = (passes s l ≡ true) × Serves new r s.makes × IsSeenAs (seen_object (arc_value object)) s.makes
+
+-- the patch that was sent as the n-th arrived so
+pub record IsDelivered (p : Past) (n : ℕ) (server : ServerState) (r : Reference) (made : Option (Arc DynamicObject Global)) : Type 0 where
+  pub sent : Sent
+  pub is_sent : slice_get p.sent n ≡ Some sent
+  pub arrived : IsArrived server r p.current sent made
 
 -- ---- what was seen, and made
 

@@ -13,7 +13,7 @@ ghost use Rattle.kube_lease.specs.declared.election.LeaseStep.TheVariants.{Tick,
 ghost use Rattle.kube_lease.specs.Elections.{AreEntrants, Past, after, beginning, is_election, may_follow, past_of};
 ghost use Rattle.kube_lease.specs.Leases.{Lease, unheld};
 ghost use Rattle.kube_lease.specs.Played.{IsHeldBy, IsSeenAs, candidates_after, lease_key};
-ghost use Rattle.kube_lease.specs.Staging.{AreShort, HasOneMore, IsAnswered, IsPosted, IsSmall, IsStage, Serves, entered, object_in, observed_at, patches_for, patches_in, stage_reference};
+ghost use Rattle.kube_lease.specs.Staging.{AreShort, HasOneMore, IsAnswered, IsDelivered, IsPosted, IsSmall, IsStage, Serves, entered, object_in, observed_at, patches_for, patches_in, stage_reference};
 
 use crate::candidate::Candidate;
 use crate::election::{Entrant, LeaseStep};
@@ -275,7 +275,8 @@ impl Stage {
             → IsStage es self.new (record p { observed = (candidate, l) ∷ p.observed })) }
     {
         let object: &DynamicObject = &object;
-        observe_at(alloc, &mut self.candidates, candidate, object)
+        observe_at(alloc, &mut self.candidates, candidate, object)?;
+        Ok(())
     }
 
     // A candidate observes a state so far.
@@ -287,7 +288,8 @@ impl Stage {
             Some(object) => object.clone()?,
             None => return Ok(()),
         };
-        self.observe(alloc, candidate, object)
+        self.observe(alloc, candidate, object)?;
+        Ok(())
     }
 
     // A candidate sends what it decides, which arrives later, often or never.
@@ -301,7 +303,18 @@ impl Stage {
             candidate,
             &mut self.outbox,
             now,
-        )
+        )?;
+        Ok(())
+    }
+
+    // Sees how the lease stands.
+    fn see(&mut self, alloc: Global) -> Result<(), NoMemory>
+        ensures rest { OnOk result (self.new ≡ record self.old { seen = self.new.seen }) }
+        ensures seen { OnOk result ((l : Lease) → Serves self.old.server (stage_reference self.old) l → HasOneMore self.old.seen.items self.new.seen.items l) }
+    {
+        let object = held(alloc, &self.server, &self.key)?;
+        self.seen.push(object)?;
+        Ok(())
     }
 
     // Keeps the object that a patch made, and sees how the lease stands.
@@ -311,9 +324,24 @@ impl Stage {
         ensures seen { OnOk result ((l : Lease) → Serves self.old.server (stage_reference self.old) l → HasOneMore self.old.seen.items self.new.seen.items l) }
     {
         self.made.push(Made { send, object })?;
-        let object = held(alloc, &self.server, &self.key)?;
-        self.seen.push(object)?;
+        self.see(alloc)?;
         Ok(())
+    }
+
+    // A patch that was sent comes to the server. The object that it makes, if its tests pass.
+    fn deliver(&mut self, alloc: Global, send: u32) -> Result<Option<Arc<DynamicObject>>, NoMemory>
+        requires { AreShort (patches_in self.old.outbox) }
+        ensures rest { OnOk result (self.new ≡ record self.old { server = self.new.server }) }
+        ensures made { IfOk result (λ o. (es : List Entered) (p : Past) → IsStage es self.old p → may_follow es p (Arrive send) ≡ true
+            → IsDelivered p send self.new.server (stage_reference self.old) o) }
+    {
+        match patch_at(self.outbox.sent.as_slice(), send) {
+            Some(patch) => {
+                let made = arrive(alloc, &mut self.server, patch.as_slice(), self.now)?;
+                Ok(made)
+            }
+            None => Ok(None),
+        }
     }
 
     // A patch that was sent arrives.
@@ -321,13 +349,12 @@ impl Stage {
         requires { AreShort (patches_in self.old.outbox) }
         ensures { OnOk result ((es : List Entered) (p : Past) → IsStage es self.old p → may_follow es p (Arrive send) ≡ true → IsStage es self.new (after es p (Arrive send))) }
     {
-        let now = self.now;
-        let made = match patch_at(self.outbox.sent.as_slice(), send) {
-            Some(patch) => arrive(alloc, &mut self.server, patch.as_slice(), now)?,
-            None => return Ok(()),
-        };
+        let made = self.deliver(alloc, send)?;
         match made {
-            Some(object) => self.note(alloc, send, object),
+            Some(object) => {
+                self.note(alloc, send, object)?;
+                Ok(())
+            }
             None => Ok(()),
         }
     }
@@ -341,7 +368,8 @@ impl Stage {
             Some(made) => made.object.clone()?,
             None => return Ok(()),
         };
-        self.observe(alloc, candidate, object)
+        self.observe(alloc, candidate, object)?;
+        Ok(())
     }
 
     // Takes a step.
