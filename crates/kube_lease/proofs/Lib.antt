@@ -6,3 +6,4 @@ pub mod Serving
 pub mod Standings
 pub mod Claims
 pub mod Staging
+pub mod RowLemmas

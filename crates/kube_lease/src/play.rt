@@ -20,7 +20,7 @@ use crate::election::{Entrant, LeaseStep};
 use crate::lease::new_lease;
 use kube_api::copies::copy_patch;
 use kube_api::{DeleteAnswer, ObjectApi, Patch, PatchAnswer};
-use kube_meta::{ApiResource, DynamicObject, List, Moment, NoMemory, ObjectRef, Polled, Text};
+use kube_meta::{ApiResource, DynamicObject, List, Moment, NoMemory, ObjectRef, Polled};
 use kube_server::Server;
 use std::alloc::Global;
 use std::sync::Arc;
@@ -90,21 +90,8 @@ pub(crate) struct Stage {
 }
 
 fn resource(alloc: Global) -> Result<Arc<ApiResource>, NoMemory> {
-    let group = Text::new(alloc, "")?;
-    let version = Text::new(alloc, "v1")?;
-    let api_version = Text::new(alloc, "v1")?;
-    let kind = Text::new(alloc, "ConfigMap")?;
-    let plural = Text::new(alloc, "configmaps")?;
-    Ok(Arc::new(
-        alloc,
-        ApiResource {
-            group,
-            version,
-            api_version,
-            kind,
-            plural,
-        },
-    )?)
+    let resource = ApiResource::new(alloc, "", "v1", "ConfigMap", "configmaps")?;
+    Ok(Arc::new(alloc, resource)?)
 }
 
 /// A server that has a lease which nobody has held.
