@@ -50,7 +50,7 @@ fn greater(a: Option<Claim>, b: Claim) -> Claim
 
 /// A candidate for the lease of a name.
 ///
-/// It reads no clock: `now` is the server's moment, or one that is never ahead of it.
+/// It reads no clock: each moment that is handed in is the server's, and what is promised holds by that clock alone.
 #[derive(Drop)]
 pub struct Candidate {
     pub(crate) id: Text,
