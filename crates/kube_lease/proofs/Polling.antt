@@ -1,5 +1,5 @@
 -- What a candidate decides, sends and learns, by its definitions.
-use Rattle.std.proofs.Common.{◌≡◌, inl, ℕ, ◌-◌, ◌^◌, ◌<◌, ◌==◌, nat_lt, Bool, true, false, cond, List, Option, Some, None, Result, Ok, Err, refl, sym, ap, subst, arith}
+use Rattle.std.proofs.Common.{◌≡◌, inl, ℕ, ◌-◌, ◌^◌, ◌<◌, ◌==◌, nat_lt, Bool, true, false, cond, List, Option, Some, None, Result, Ok, Err, refl, ap, subst, arith}
 use Rattle.std.proofs.lemmas.Bool.{eqb-false}
 use Rattle.kube_meta.specs.declared.dynamic.DynamicObject.{DynamicObject}
 use Rattle.kube_meta.specs.declared.poll.Polled.{Polled}
@@ -8,7 +8,7 @@ use Rattle.kube_final.specs.FinalizerPolls.{Objects}
 use Rattle.kube_lease.specs.declared.poll.LeaseAnswer.{LeaseAnswer}
 use Rattle.kube_lease.specs.Candidates.{IsObserved, Standing}
 use Rattle.kube_lease.specs.Leases.{Choice, Unseen, Renew, Wait, LastTerm, Take, Lease, choice, end_of, is_holder}
-use Rattle.kube_lease.specs.Polls.{IsAskedAtMostOnce, IsDone, IsHeld, IsLost, IsLostBy, IsLostOn, IsPolled, IsPolledBy, IsPolledOn, IsSent, IsUnsent, patch_of}
+use Rattle.kube_lease.specs.Polls.{IsAskedAtMostOnce, IsDone, IsHeld, IsLost, IsLostOn, IsPolled, IsPolledOn, IsSent, IsUnsent, patch_of}
 
 -- ---- what is taken has a term after it
 
@@ -49,30 +49,21 @@ done_of (Err place) s s' answer o h = absurd o
 
 -- ---- a poll
 
-module _ {A : Type 0} (api : Objects A DynamicObject) (now : ℕ) (l : Lease) (old : A) (s : Standing) where
-  pub polled_sent : (patch : List Operation) (answer : Polled LeaseAnswer) (new : A) (s' : Standing) → s.seen ≡ Some l → Some patch ≡ patch_of s now l → IsSent api patch now old s answer new s'
-      → IsPolled api now old s answer new s'
-  polled_sent patch answer new s' e p h =
-      let on : IsPolledOn api now (choice s.id s.duration now (Some l)) (patch_of s now l) old s answer new s' =
-      subst (λ (o : Option (List Operation)). IsPolledOn api now (choice s.id s.duration now (Some l)) o old s answer new s') p h in
-      subst (λ (o : Option Lease). IsPolledBy api now o old s answer new s') (sym e) on
+module _ {A : Type 0} (api : Objects A DynamicObject) (now : ℕ) (old : A) (s : Standing) where
+  pub polled_sent : (patch : List Operation) (answer : Polled LeaseAnswer) (new : A) (s' : Standing) → Some patch ≡ patch_of s now → IsSent api patch now old s answer new s' → IsPolled api now old s answer new s'
+  polled_sent patch answer new s' p h = subst (λ (o : Option (List Operation)). IsPolledOn api now (choice s.id s.duration now s.seen) o old s answer new s') p h
 
-  pub polled_unsent : (answer : Polled LeaseAnswer) → s.seen ≡ Some l → None ≡ patch_of s now l → IsUnsent (choice s.id s.duration now s.seen) answer → IsPolled api now old s answer old s
-  polled_unsent answer e p h =
-      let unsent : IsUnsent (choice s.id s.duration now (Some l)) answer = subst (λ (o : Option Lease). IsUnsent (choice s.id s.duration now o) answer) e h in
-      let on : IsPolledOn api now (choice s.id s.duration now (Some l)) (patch_of s now l) old s answer old s =
-      subst (λ (o : Option (List Operation)). IsPolledOn api now (choice s.id s.duration now (Some l)) o old s answer old s) p (unsent, refl, refl) in
-      subst (λ (o : Option Lease). IsPolledBy api now o old s answer old s) (sym e) on
+  pub polled_unsent : (answer : Polled LeaseAnswer) → None ≡ patch_of s now → IsUnsent (choice s.id s.duration now s.seen) answer → IsPolled api now old s answer old s
+  polled_unsent answer p h = subst (λ (o : Option (List Operation)). IsPolledOn api now (choice s.id s.duration now s.seen) o old s answer old s) p (h, refl, refl)
 
   lost_on_still : (name : List ℕ) (o : Option (List Operation)) → IsLostOn api name now o old old
   lost_on_still name None = refl
   lost_on_still name (Some patch) = inl (refl, refl, inl refl)
 
   -- no memory for the patch
-  pub lost_still : s.seen ≡ Some l → IsLost api now s old old
-  lost_still e = subst (λ (o : Option Lease). IsLostBy api now o s old old) (sym e) (lost_on_still s.lease (patch_of s now l))
+  pub lost_still : IsLost api now s old old
+  lost_still = lost_on_still s.lease (patch_of s now)
 
   -- no memory when it was asked
-  pub lost_asked : (patch : List Operation) (new : A) → s.seen ≡ Some l → Some patch ≡ patch_of s now l → IsAskedAtMostOnce api s.lease patch now old new → IsLost api now s old new
-  lost_asked patch new e p h =
-      subst (λ (o : Option Lease). IsLostBy api now o s old new) (sym e) (subst (λ (o : Option (List Operation)). IsLostOn api s.lease now o old new) p h)
+  pub lost_asked : (patch : List Operation) (new : A) → Some patch ≡ patch_of s now → IsAskedAtMostOnce api s.lease patch now old new → IsLost api now s old new
+  lost_asked patch new p h = subst (λ (o : Option (List Operation)). IsLostOn api s.lease now o old new) p h

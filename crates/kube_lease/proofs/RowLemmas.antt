@@ -1,5 +1,5 @@
 -- The candidates of worked elections.
-use Rattle.std.proofs.Common.{◌≡◌, ℕ, zero, suc, List, [], ◌∷◌, Some, get_or, slice_get, refl, ap, sym, ◌∙◌, arith}
+use Rattle.std.proofs.Common.{◌≡◌, ℕ, zero, suc, [], Some, get_or, slice_get, refl, ap, sym, ◌∙◌, arith}
 use Rattle.kube_lease.specs.declared.election.Entrant.{Entrant}
 use Rattle.kube_lease.specs.Elections.{AreEntrants}
 use Rattle.kube_lease.specs.Rows.{both, entrant, x, y}

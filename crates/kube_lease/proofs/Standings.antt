@@ -14,8 +14,8 @@ use Rattle.kube_lease.specs.Candidates.{IsObserved, Standing, having_observed}
 use Rattle.kube_lease.specs.Elections.{Past, sent_by, sent_for, sent_on, under}
 use Rattle.kube_lease.specs.Leases.{Choice, Unseen, Renew, Wait, LastTerm, Take, Lease, choice}
 use Rattle.kube_lease.specs.Played.{candidates_after, standing_after, standings_from}
-use Rattle.kube_lease.specs.Polls.{IsAnsweredBy, IsPolled, IsPolledBy, IsPolledOn, patch_by, patch_of}
-use Rattle.kube_lease.specs.Staging.{IsPosted, entered, observed_at, only_if, operations_of, patches_for, patches_in, patches_on}
+use Rattle.kube_lease.specs.Polls.{IsAnsweredBy, IsPolled, IsPolledOn, patch_by, patch_for, patch_of}
+use Rattle.kube_lease.specs.Staging.{IsPosted, entered, observed_at, only_if, operations_of, patches_for, patches_in}
 
 -- ---- one observes
 
@@ -90,15 +90,10 @@ posts_on : (now : ℕ) (decided : Choice) (o : Option (List Operation)) (old new
 posts_on now decided None old new s s' answer h = (ap patches_in h.1 ∙ sym (append-nil (patches_in old)), h.2)
 posts_on now decided (Some patch) old new s s' answer h = (h.patched.moved.1, later_same h.told s s' answer h.patched.moved.0 h.answers)
 
-posts_by : (now : ℕ) (seen : Option Lease) (old new : Outbox) (s s' : Standing) (answer : Polled LeaseAnswer) → IsPolledBy outbox now seen old s answer new s'
-    → (patches_in new ≡ patches_in old ++ patches_on now s seen) × (s' ≡ s)
-posts_by now None old new s s' answer h = (ap patches_in h.1 ∙ sym (append-nil (patches_in old)), h.2)
-posts_by now (Some l) old new s s' answer h = posts_on now (choice s.id s.duration now (Some l)) (patch_of s now l) old new s s' answer h
-
 -- a poll keeps the patch of what is decided, and leaves the candidate as it was
 pub posts : (now : ℕ) (old new : Outbox) (s s' : Standing) (answer : Polled LeaseAnswer) → IsPolled outbox now old s answer new s'
-    → (patches_in new ≡ patches_in old ++ patches_on now s s.seen) × (s' ≡ s)
-posts now old new s s' answer h = posts_by now s.seen old new s s' answer h
+    → (patches_in new ≡ patches_in old ++ only_if (patch_of s now)) × (s' ≡ s)
+posts now old new s s' answer h = posts_on now (choice s.id s.duration now s.seen) (patch_of s now) old new s s' answer h
 
 pub set_same : (n : ℕ) (ss : List Standing) (old new : Standing) → old ≡ get_or ss n old → new ≡ old → slice_set ss n new ≡ ss
 set_same n [] old new e k = refl
@@ -123,9 +118,11 @@ sent_as c now e l s (Wait until) i d = refl
 sent_as c now e l s LastTerm i d = refl
 sent_as c now e l s Take i d = rw (i, d) refl
 
-sent_on_as : (c now : ℕ) (e : Entrant) (o : Option Lease) (os : List (ℕ × Lease)) → map operations_of (sent_on c e now o) ≡ patches_on now (standing_after c e os) o
-sent_on_as c now e None os = refl
-sent_on_as c now e (Some l) os = sent_as c now e l (standing_after c e os) (choice e.id e.duration now (Some l)) refl refl
+sent_on_as : (c now : ℕ) (e : Entrant) (o : Option Lease) (s : Standing) → s.id ≡ e.id → s.duration ≡ e.duration → map operations_of (sent_on c e now o) ≡ only_if (patch_for s now o)
+sent_on_as c now e None s i d = refl
+sent_on_as c now e (Some l) s i d =
+    sent_as c now e l s (choice e.id e.duration now (Some l)) i d
+    ∙ ap (λ id. only_if (patch_by s now l (choice id e.duration now (Some l)))) (sym i) ∙ ap (λ duration. only_if (patch_by s now l (choice s.id duration now (Some l)))) (sym d)
 
 pub standing_at : (c n m : ℕ) (es : List Entrant) (os : List (ℕ × Lease)) → m ≡ c + n → slice_get (standings_from c es os) n ≡ option_map (λ e. standing_after m e os) (slice_get es n)
 standing_at c n m [] os h = refl
@@ -134,7 +131,7 @@ standing_at c (suc n) m (e ∷ es) os h = standing_at (suc c) n m es os (omega a
 
 sent_by_as : (p : Past) (c : ℕ) (o : Option Entrant) → map operations_of (sent_by p c o) ≡ patches_for p.now (option_map (λ e. standing_after c e p.observed) o)
 sent_by_as p c None = refl
-sent_by_as p c (Some e) = sent_on_as c p.now e (under c p.observed) p.observed
+sent_by_as p c (Some e) = sent_on_as c p.now e (under c p.observed) (standing_after c e p.observed) refl refl
 
 pub one_sends : (p : Past) (c : ℕ) (es : List Entrant) → map operations_of (sent_by p c (slice_get es c)) ≡ patches_for p.now (slice_get (candidates_after es p) c)
 one_sends p c es = sent_by_as p c (slice_get es c) ∙ ap (patches_for p.now) (sym (standing_at 0 c c es p.observed (omega arith)))

@@ -37,7 +37,7 @@ taking id l until =
     Tests term_path (whole l.term) ∷ Tests until_path (whole l.until)
     ∷ Changes term_path (Puts (whole (l.term + 1))) ∷ Changes holder_path (Puts (string id)) ∷ Changes until_path (Puts (whole until)) ∷ []
 
--- the patch of what a candidate decides on a lease at a moment, if it has one
+-- the patch of a choice on a lease, if it has one
 abbrev pub patch_by : Standing → ℕ → Lease → Choice → Option (List Operation)
 patch_by s now l Renew = Some (renewal l (end_of now s.duration))
 patch_by s now l Take = Some (taking s.id l (end_of now s.duration))
@@ -45,8 +45,14 @@ patch_by s now l Unseen = None
 patch_by s now l (Wait until) = None
 patch_by s now l LastTerm = None
 
-abbrev pub patch_of : Standing → ℕ → Lease → Option (List Operation)
-patch_of s now l = patch_by s now l (choice s.id s.duration now (Some l))
+-- by the lease that it observed, if it observed one
+abbrev pub patch_for : Standing → ℕ → Option Lease → Option (List Operation)
+patch_for s now None = None
+patch_for s now (Some l) = patch_by s now l (choice s.id s.duration now (Some l))
+
+-- the patch of what a candidate decides at a moment, if it has one
+abbrev pub patch_of : Standing → ℕ → Option (List Operation)
+patch_of s now = patch_for s now s.seen
 
 -- ---- what the API's answer comes to
 
@@ -114,13 +120,9 @@ abbrev pub IsPolledOn : {A : Type 0} → Objects A DynamicObject → ℕ → Cho
 IsPolledOn api now decided None old s answer new s' = IsUnsent decided answer × (new ≡ old) × (s' ≡ s)
 IsPolledOn api now decided (Some patch) old s answer new s' = IsSent api patch now old s answer new s'
 
-abbrev pub IsPolledBy : {A : Type 0} → Objects A DynamicObject → ℕ → Option Lease → A → Standing → Polled LeaseAnswer → A → Standing → Type 0
-IsPolledBy api now None old s answer new s' = (answer ≡ Ready answers.Unseen) × (new ≡ old) × (s' ≡ s)
-IsPolledBy api now (Some l) old s answer new s' = IsPolledOn api now (choice s.id s.duration now (Some l)) (patch_of s now l) old s answer new s'
-
--- the poll of a candidate at a moment, by the lease that it observed last
+-- the poll of a candidate at a moment
 abbrev pub IsPolled : {A : Type 0} → Objects A DynamicObject → ℕ → A → Standing → Polled LeaseAnswer → A → Standing → Type 0
-IsPolled api now old s answer new s' = IsPolledBy api now s.seen old s answer new s'
+IsPolled api now old s answer new s' = IsPolledOn api now (choice s.id s.duration now s.seen) (patch_of s now) old s answer new s'
 
 -- nothing was asked: the API is as it was, or as want of memory leaves it
 abbrev pub IsUnasked : {A : Type 0} → Objects A DynamicObject → A → A → Type 0
@@ -135,9 +137,5 @@ abbrev pub IsLostOn : {A : Type 0} → Objects A DynamicObject → List ℕ → 
 IsLostOn api name now None old new = new ≡ old
 IsLostOn api name now (Some patch) old new = IsAskedAtMostOnce api name patch now old new
 
-abbrev pub IsLostBy : {A : Type 0} → Objects A DynamicObject → ℕ → Option Lease → Standing → A → A → Type 0
-IsLostBy api now None s old new = new ≡ old
-IsLostBy api now (Some l) s old new = IsLostOn api s.lease now (patch_of s now l) old new
-
 abbrev pub IsLost : {A : Type 0} → Objects A DynamicObject → ℕ → Standing → A → A → Type 0
-IsLost api now s old new = IsLostBy api now s.seen s old new
+IsLost api now s old new = IsLostOn api s.lease now (patch_of s now) old new

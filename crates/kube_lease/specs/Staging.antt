@@ -44,13 +44,9 @@ abbrev pub only_if : Option (List Operation) → List (List Operation)
 only_if None = []
 only_if (Some os) = os ∷ []
 
-abbrev pub patches_on : ℕ → Standing → Option Lease → List (List Operation)
-patches_on now s None = []
-patches_on now s (Some l) = only_if (patch_of s now l)
-
 abbrev pub patches_for : ℕ → Option Standing → List (List Operation)
 patches_for now None = []
-patches_for now (Some s) = patches_on now s s.seen
+patches_for now (Some s) = only_if (patch_of s now)
 
 -- a patch that was sent, as operations
 abbrev pub operations_by : Bool → Sent → List Operation

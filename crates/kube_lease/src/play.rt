@@ -322,13 +322,11 @@ impl Stage {
         ensures made { IfOk result (λ o. (es : List Entered) (p : Past) → IsStage es self.old p → may_follow es p (Arrive send) ≡ true
             → IsDelivered p send self.new.server (stage_reference self.old) o) }
     {
-        match patch_at(self.outbox.sent.as_slice(), send) {
-            Some(patch) => {
-                let made = arrive(alloc, &mut self.server, patch.as_slice(), self.now)?;
-                Ok(made)
-            }
-            None => Ok(None),
-        }
+        let made = match patch_at(self.outbox.sent.as_slice(), send) {
+            Some(patch) => arrive(alloc, &mut self.server, patch.as_slice(), self.now)?,
+            None => return Ok(None),
+        };
+        Ok(made)
     }
 
     // A patch that was sent arrives.

@@ -7,10 +7,10 @@ ghost use Rattle.kube_api.specs.Patches.{operation_of};
 ghost use Rattle.kube_final.specs.FinalizerPolls.{objects_in};
 ghost use Rattle.kube_lease.specs.Leases.{Lease, choice};
 ghost use Rattle.kube_lease.specs.Polls.{IsAnsweredBy, IsAskedAtMostOnce, IsDone, IsHeld, IsLost, IsPatched, IsPolled, IsSent, IsUnasked, IsUnsent, patch_of};
-ghost use Rattle.kube_lease.specs.Reading.{lease_at, lease_of};
+ghost use Rattle.kube_lease.specs.Reading.{lease_at};
 
 use crate::candidate::{Candidate, LeaseDecision};
-use crate::lease::{LeaseFault, LeaseView};
+use crate::lease::LeaseFault;
 use crate::patches::{renewal, taking};
 use kube_api::{ApiError, ObjectApi, Patch, PatchAnswer, PatchRefusal};
 use kube_meta::{DynamicObject, Moment, NoMemory, Polled, Text};
@@ -55,16 +55,13 @@ fn send<A: ObjectApi<Value = DynamicObject>>(
 
 impl Candidate {
     // The patch of what it decides on the lease that it observed last, if it has one.
-    fn patch(
-        &self,
-        alloc: Global,
-        seen: &LeaseView,
-        now: Moment,
-    ) -> Result<Option<Vec<Patch>>, NoMemory>
-        requires { self.now.seen ≡ Some (lease_of seen.now) }
-        ensures operations { IfOk result (λ p. option_map (λ v. map operation_of v.items) p ≡ patch_of self.now now.0 (lease_of seen.now)) }
+    fn patch(&self, alloc: Global, now: Moment) -> Result<Option<Vec<Patch>>, NoMemory>
+        ensures operations { IfOk result (λ p. option_map (λ v. map operation_of v.items) p ≡ patch_of self.now now.0) }
         ensures few { IfOk result (λ p. IfSome p (λ v. length v.items < 2 ^ 32)) }
     {
+        let Some(seen) = &self.seen else {
+            return Ok(None);
+        };
         let until = now.plus(self.duration);
         match self.decide(now) {
             LeaseDecision::Renew => Ok(Some(renewal(alloc, seen, until)?)),
@@ -178,10 +175,7 @@ impl Candidate {
         ensures left { OnErr result (self.new ≡ self.old) }
         ensures lost { OnErr result (IsLost (objects_in A.ObjectApi) now.0 self.old api.old api.new) }
     {
-        let Some(seen) = &self.seen else {
-            return Ok(Polled::Ready(LeaseAnswer::Unseen));
-        };
-        let patch = self.patch(alloc, seen, now)?;
+        let patch = self.patch(alloc, now)?;
         match patch {
             Some(patch) => {
                 let answer = self.ask(alloc, api, patch.as_slice(), now)?;

@@ -154,12 +154,11 @@ fn done(
 
 fn one_done(rt: &impl Abort, alloc: Global, scene: &mut Scene, words: &str) -> String {
     let (who, words) = words.split_once(' ').unwrap_or(("", ""));
-    let candidate = if who == "x" {
-        &mut scene.x
-    } else {
-        &mut scene.y
-    };
-    done(rt, alloc, &mut scene.server, &scene.key, candidate, words)
+    let (server, key) = (&mut scene.server, &scene.key);
+    match who {
+        "x" => done(rt, alloc, server, key, &mut scene.x, words),
+        _ => done(rt, alloc, server, key, &mut scene.y, words),
+    }
 }
 
 /// Who does what at which moment, and what comes of it: a poll, one whose reply is lost, whether it may act. Nothing is sent where no
@@ -215,7 +214,7 @@ fn candidates_over_a_server(rt: HostRuntime) {
 fn lease_that_is_missing(rt: HostRuntime) {
     let alloc = rt.alloc();
     let mut scene = scene(&rt, alloc);
-    observe(&rt, alloc, &scene.server, &scene.key, &mut scene.x);
+    let _seen = observe(&rt, alloc, &scene.server, &scene.key, &mut scene.x);
     let mut empty = Server::new(alloc, resource(&rt, alloc));
     let answer = poll(&rt, alloc, &mut empty, &mut scene.x, Moment(0));
     is_text(&rt, answer.as_str(), "lost NotFound");

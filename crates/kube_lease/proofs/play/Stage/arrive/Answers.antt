@@ -1,4 +1,4 @@
-use Rattle.std.proofs.Common.{None, Some, subst}
+use Rattle.std.proofs.Common.{subst}
 use Rattle.kube_lease.specs.Staging.{IsDelivered, stage_reference}
 use Rattle.kube_lease.proofs.Staging.{done_by, refused_by}
 use Rattle.kube_lease.proofs.play.Stage.arrive.Goals as goal

@@ -4,8 +4,8 @@ use Rattle.kube_lease.specs.Staging.{IsAnswered}
 use Rattle.kube_lease.proofs.Staging.{delivered, no_arrival, short_there}
 use Rattle.kube_lease.proofs.play.Stage.deliver.Goals as goal
 
-pub returns-in-Some-clause-made : goal.returns-in-Some-clause-made
-returns-in-Some-clause-made c es p h m =
+pub returns-clause-made : goal.returns-clause-made
+returns-clause-made c es p h m =
     let s = c.args.self.now in
     let there : slice_get s.outbox.sent.items c.args.send ≡ Some c.in-Some.patch.now = ap (λ vs. slice_get vs c.args.send) (sym c.as_slice.ensures.value) ∙ sym c.in-Some.ensures in
     let answered : IsAnswered s.server c.arrive.new.server s.now.0 (map operation_of c.in-Some.patch.now.items) c.in_ok-made-in-Some.made =

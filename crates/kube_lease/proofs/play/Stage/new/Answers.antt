@@ -17,7 +17,7 @@ returns c =
       serves = serves;
       sights = subst (λ os. AreSights os (unheld ∷ [])) (sym c.in_ok-seen.ensures.items) (c.in_ok-object.ensures unheld serves, tt);
       candidates = c.in_ok-candidates.ensures ∙ all_entered c.args.candidates.now;
-      sent = ap (map (λ v. map operation_of v.items)) c.new-2.ensures.items;
-      made = subst (λ ms. AreMade ms []) (sym c.new-3.ensures.items) tt;
+      sent = ap (map (λ v. map operation_of v.items)) c.new.ensures.items;
+      made = subst (λ ms. AreMade ms []) (sym c.new-2.ensures.items) tt;
       regular = regular_first;
     }
