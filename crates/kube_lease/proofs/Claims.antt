@@ -20,20 +20,20 @@ some-same a b e = ap (λ o. unwrap_or o a) e
 
 -- a lease of this holder was observed under a number, which is this claim
 record IsAmong (id : List ℕ) (c : ℕ) (os : List (ℕ × Lease)) (k : Claim) : Type 0 where
-  at : ℕ
+  place : ℕ
   lease : Lease
-  observed : slice_get os at ≡ Some (c, lease)
+  observed : slice_get os place ≡ Some (c, lease)
   held : lease.holder ≡ id
   is : claim_on lease ≡ k
 
 among_later : (id : List ℕ) (c : ℕ) (o : ℕ × Lease) (os : List (ℕ × Lease)) (k : Claim) → IsAmong id c os k → IsAmong id c (o ∷ os) k
-among_later id c o os k h = record { at = suc h.at; lease = h.lease; observed = h.observed; held = h.held; is = h.is }
+among_later id c o os k h = record { place = suc h.place; lease = h.lease; observed = h.observed; held = h.held; is = h.is }
 
 among_first : (id : List ℕ) (c : ℕ) (o : ℕ × Lease) (os : List (ℕ × Lease)) (k : Claim) → (o.0 == c) ≡ true → is_holder id o.1 ≡ true → claim_on o.1 ≡ k → IsAmong id c (o ∷ os) k
 among_first id c o os k n h e =
     let number : o.0 ≡ c = eqb-true o.0 c n in
     record {
-      at = 0;
+      place = 0;
       lease = o.1;
       observed = ap (λ i. Some (i, o.1)) number;
       held = (bytes_eq-Decides o.1.holder id).0 h;
@@ -72,7 +72,7 @@ claim_is es p c e k there h =
     let w = among e.id c p.observed k h in
     record {
       entrant = e;
-      place = w.at;
+      place = w.place;
       lease = w.lease;
       is_entrant = there;
       observed = w.observed;

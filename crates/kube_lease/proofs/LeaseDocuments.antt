@@ -15,10 +15,10 @@ use Rattle.kube_server.specs.Servers.{patch_change, patch_document, read_patched
 use Rattle.kube_final.proofs.EqualTexts.{alike, text-test}
 use Rattle.kube_lease.specs.Elections.{Sent, passes as passes_on}
 use Rattle.kube_lease.specs.Leases.{Lease}
-use Rattle.kube_lease.specs.Played.{lease_name, plain_lease}
+use Rattle.kube_lease.specs.Played.{lease_name, operations_by, operations_of, plain_lease}
 use Rattle.kube_lease.specs.Polls.{holder_path, renewal, taking, term_path, until_path, whole}
 use Rattle.kube_lease.specs.Reading.{lease_at, lease_data}
-use Rattle.kube_lease.specs.Staging.{IsFormedBy, IsRegularSent, IsSmall, operations_by, operations_of}
+use Rattle.kube_lease.specs.Staging.{IsFormedBy, IsRegularSent, IsSmall}
 use Rattle.kube_lease.proofs.ElectionLaws.{and_parts}
 
 abbrev pub spec_of : Lease → Data

@@ -1,12 +1,12 @@
 -- The candidates of worked elections.
-use Rattle.std.proofs.Common.{◌≡◌, ℕ, zero, suc, [], Some, get_or, slice_get, refl, ap, sym, ◌∙◌, arith}
+use Rattle.std.proofs.Common.{◌≡◌, ℕ, zero, suc, [], Some, get_or, length, slice_get, refl, ap, sym, ◌∙◌, arith}
 use Rattle.kube_lease.specs.declared.election.Entrant.{Entrant}
 use Rattle.kube_lease.specs.Elections.{AreEntrants}
 use Rattle.kube_lease.specs.Rows.{both, entrant, x, y}
 
 named : (c : ℕ) (e : Entrant) → slice_get both c ≡ Some e → e.id ≡ [] → ⊥
-named zero e h k = let same : entrant x ≡ e = cc in let none : x ≡ [] = ap (λ (f : Entrant). f.id) same ∙ k in absurd (cc)
-named (suc zero) e h k = let same : entrant y ≡ e = cc in let none : y ≡ [] = ap (λ (f : Entrant). f.id) same ∙ k in absurd (cc)
+named zero e h k = let same : entrant x ≡ e = cc in let none : 1 ≡ 0 = ap length (ap (λ (f : Entrant). f.id) same ∙ k) in omega arith
+named (suc zero) e h k = let same : entrant y ≡ e = cc in let none : 1 ≡ 0 = ap length (ap (λ (f : Entrant). f.id) same ∙ k) in omega arith
 named (suc (suc c)) e h k = absurd (cc)
 
 apart : (e f : Entrant) → entrant x ≡ e → entrant y ≡ f → e.id ≡ f.id → ⊥

@@ -12,13 +12,15 @@ use Rattle.kube_meta.specs.Reference.{Reference, ObjectType, same_type}
 use Rattle.kube_api.specs.declared.patch.PatchRefusal.{PatchRefusal}
 use Rattle.kube_api.specs.declared.patch.PatchRefusal.TheVariants.{TestFailed}
 use Rattle.kube_api.specs.ObjectTalk.{ObjectAnswer, AnswersLater, AnswersFault, AnswersObject, AnswersGone, AnswersNone, AnswersRefusal}
-use Rattle.kube_server.specs.History.{Change, Adds, Modifies, Removes, State, key_of, object_at, object_of, with_object, changed, change_seen, state_of as objects_after}
+use Rattle.kube_server.specs.History.{Key, Change, Adds, Modifies, Removes, State, key_of, object_at, object_of, with_object, changed, change_seen, state_of as objects_after}
 use Rattle.kube_server.specs.ObjectCalls.{IsLeftByPatch, IsPatchedOrKept, answer_of_patch, answer_seen, patched_answer, reference_in}
-use Rattle.kube_server.specs.Servers.{ServerState, meta_of, next_revision, reference_key, held_under, held, IsStep, patch_change}
+use Rattle.kube_server.specs.Servers.{ServerState, meta_of, next_revision, reference_key, held_under, held, IsStep, patch_change, put_change}
+use Rattle.kube_final.specs.Played.{no_objects}
 use Rattle.kube_lease.specs.Elections.{Sent, passes}
 use Rattle.kube_lease.specs.Leases.{Lease}
-use Rattle.kube_lease.specs.Played.{IsHeldAs, IsSeenAs, lease_key, lease_name, plain_lease}
-use Rattle.kube_lease.specs.Staging.{IsAnswered, IsArrived, IsRegularSent, IsSmall, Serves, object_in, operations_of}
+use Rattle.kube_lease.specs.Played.{IsHeldAs, IsOpened, IsSeenAs, lease_key, lease_name, operations_of, plain_lease}
+use Rattle.kube_lease.specs.Reading.{new_lease}
+use Rattle.kube_lease.specs.Staging.{IsAnswered, IsArrived, IsRegularSent, IsSmall, Serves, object_in}
 use Rattle.kube_lease.proofs.LeaseDocuments.{change_done, change_refused}
 
 -- ---- what is held
@@ -71,7 +73,7 @@ held-at (p ∷ q ∷ ps) l h = absurd h
 -- the reference of its name in the server
 own-reference : (s : ServerState) (r : Reference) → s.kind ≡ r.kind → reference_key r ≡ lease_key → reference_in s None lease_name ≡ r
 own-reference s r kind key =
-    λ i. record { kind = kind i; name = (sym (ap (λ k. k.name) key)) i; namespace = (sym (ap (λ k. k.namespace) key)) i }
+    λ i. record { kind = kind i; name = (sym (ap (λ (k : Key). k.name) key)) i; namespace = (sym (ap (λ (k : Key). k.namespace) key)) i }
 
 -- ---- one change more
 
@@ -111,6 +113,15 @@ serves-modified old new r l m uid version h step =
       key = h.key;
       holds = subst (λ os. IsHeldAs os m) (sym objects) (refl, seen);
     }
+
+-- the lease is put
+pub put_opened : (kind : ObjectType) (old new : ServerState) (x : DynamicObject) → old ≡ no_objects kind → seen_object x ≡ new_lease lease_name
+    → IsStep old new (put_change old (key_of x.metadata) (seen_object x)) → IsOpened kind new
+put_opened kind old new x e seen step =
+    let key : key_of x.metadata ≡ lease_key = ap (λ (o : ObjectData). key_of o.metadata) seen in
+    subst (λ s. IsStep s new (put_change s lease_key (new_lease lease_name))) e
+    (subst (λ k. IsStep old new (put_change old k (new_lease lease_name))) key
+    (subst (λ o. IsStep old new (put_change old (key_of x.metadata) o)) seen step))
 
 -- ---- a patch that arrives
 

@@ -1,7 +1,8 @@
 -- What a stage holds of an election, step by step.
-use Rattle.std.proofs.Common.{◌≡◌, ◌⊎◌, inl, inr, ℕ, zero, suc, ◌+◌, ◌-◌, ◌^◌, ◌<◌, ◌≤◌, ◌==◌, nat_lt, min, Bool, true, false, cond, List, [], ◌∷◌, ◌++◌, length, get_or, drop, map, find, fold, slice_get, Option, Some, None, is_some, unwrap_or, refl, sym, ap, subst, ◌∙◌, true≢false, arith}
+use Rattle.std.proofs.Common.{◌≡◌, ◌⊎◌, inl, inr, ℕ, zero, suc, ◌+◌, ◌-◌, ◌^◌, ◌<◌, ◌≤◌, ◌==◌, nat_lt, min, Bool, true, false, cond, List, [], ◌∷◌, ◌++◌, length, get_or, take, drop, map, find, fold, slice_get, Option, Some, None, is_some, unwrap_or, refl, sym, ap, subst, ◌∙◌, true≢false, arith}
 use Rattle.std.proofs.lemmas.Bool.{ltb-true}
-use Rattle.std.proofs.lemmas.List.{drop_all, length-map, map-append}
+use Rattle.std.proofs.lemmas.List.{drop_all, length-map, map-append, take_all}
+use Rattle.std.proofs.lemmas.List.Sums.{fold-append}
 use Rattle.std.specs.Arc.{arc_value}
 use Rattle.std.specs.declared.alloc.Global.{Global}
 use Rattle.std.specs.declared.sync.Arc.{Arc}
@@ -9,6 +10,7 @@ use Rattle.std.specs.declared.vec.Vec.{Vec}
 use Rattle.kube_meta.specs.declared.dynamic.DynamicObject.{DynamicObject}
 use Rattle.kube_meta.specs.declared.moment.Moment.{Moment}
 use Rattle.kube_meta.specs.Reading.{seen_object}
+use Rattle.kube_meta.specs.Reference.{Reference}
 use Rattle.kube_api.specs.declared.patch.Patch.{Patch}
 use Rattle.kube_api.specs.Patches.{Operation, operation_of}
 use Rattle.kube_server.specs.Servers.{ServerState}
@@ -19,10 +21,10 @@ use Rattle.kube_lease.specs.declared.play.Made.{Made}
 use Rattle.kube_lease.specs.declared.play.Outbox.{Outbox}
 use Rattle.kube_lease.specs.declared.play.Stage.{Stage}
 use Rattle.kube_lease.specs.Candidates.{Standing}
-use Rattle.kube_lease.specs.Elections.{Past, Sent, after, arrived, changed, is_by, is_election_from, leases, may_follow, observed_by, passes, past_of, sent_by, under}
+use Rattle.kube_lease.specs.Elections.{Past, Sent, after, arrived, beginning, changed, is_by, is_election_from, leases, may_follow, observed_by, passes, past_of, sent_by, under}
 use Rattle.kube_lease.specs.Leases.{Lease}
-use Rattle.kube_lease.specs.Played.{IsSeenAs}
-use Rattle.kube_lease.specs.Staging.{AreMade, AreShort, AreSights, HasOneMore, IsAnswered, IsDelivered, IsSmall, IsStage, Serves, observed_at, operations_by, operations_of, patches_for, patches_in, stage_reference}
+use Rattle.kube_lease.specs.Played.{IsArrivalAsked, IsPlayedOn, IsSeenAs, IsStepAsked, AreAsked, operations_by, operations_of}
+use Rattle.kube_lease.specs.Staging.{AreMade, AreShort, AreSights, HasOneMore, IsAnswered, IsDelivered, IsSmall, IsStage, Serves, observed_at, patches_for, patches_in, stage_reference}
 use Rattle.kube_lease.proofs.ElectionLaws.{and_parts, last-there, under_there}
 use Rattle.kube_lease.proofs.RegularPasts.{changed_regular, more_observed, regular_after}
 use Rattle.kube_lease.proofs.Serving.{arrived-so}
@@ -136,8 +138,8 @@ pub reply_stage : (es : List Entrant) (s t : Stage) (p : Past) (c n : ℕ) (m : 
 reply_stage es s t p c n m b h e same f =
     let w = made_there s.made.items p.made n m h.made e in
     let seen : IsSeenAs (seen_object (arc_value b)) w.0 = subst (λ (x : DynamicObject). IsSeenAs (seen_object x) w.0) (sym same) w.2 in
-    let at = under_there n p.made w.0 w.1 in
-    observe_by es t p c (under n p.made) w.0 w.1 (f w.0 h seen (h.regular.made at.0 at.1 w.0 at.2))
+    let found = under_there n p.made w.0 w.1 in
+    observe_by es t p c (under n p.made) w.0 w.1 (f w.0 h seen (h.regular.made found.0 found.1 w.0 found.2))
 
 pub no_reply : (es : List Entrant) (s : Stage) (p : Past) (c n : ℕ) → IsStage es s p → find (λ (k : Made). k.send == n) s.made.items ≡ None → may_follow es p (Reply c n) ≡ true → ⊥
 no_reply es s p c n h e m =
@@ -189,7 +191,7 @@ no_arrival es s p n h e m = none_sent s.outbox.sent.items p.sent n h.sent e (ltb
 
 -- what comes of a patch at its place
 pub delivered : (es : List Entrant) (s : Stage) (p : Past) (n : ℕ) (v : Vec Patch Global) (server : ServerState) (made : Option (Arc DynamicObject Global)) → IsStage es s p → slice_get s.outbox.sent.items n ≡ Some v
-    → IsAnswered s.server server s.now.0 (map operation_of v.items) made → IsDelivered p n server (stage_reference s) made
+    → IsAnswered s.server server s.now.0 (map operation_of v.items) made → IsDelivered p n s.server server (stage_reference s) made
 delivered es s p n v server made h e a =
     let w = sent_there s.outbox.sent.items p.sent n v h.sent e in
     let current = last-there p.before p.current in
@@ -197,6 +199,7 @@ delivered es s p n v server made h e a =
     record {
       sent = w.0;
       is_sent = w.1;
+      asked = subst (λ now. IsArrivalAsked now (Some w.0) s.server server) h.now (answered.answer, answered.move);
       arrived = arrived-so s.server server (stage_reference s) s.now.0 p.current w.0 made h.serves (h.regular.states current.0 p.current current.1) (h.regular.sent n w.0 w.1) answered;
     }
 
@@ -217,16 +220,16 @@ arrived_as es t p n x b e f h =
     subst (λ (o : Option Sent). IsStage es t (arrived p n o)) (sym e) (subst (λ (c : Bool). IsStage es t (cond c (changed p n x.makes) p)) (sym f) h)
 
 -- its tests don't pass
-pub refused_stage : (es : List Entrant) (s : Stage) (p : Past) (n : ℕ) (server : ServerState) → IsStage es s p → IsDelivered p n server (stage_reference s) None → IsStage es (record s { server = server }) (after es p (Arrive n))
+pub refused_stage : (es : List Entrant) (s : Stage) (p : Past) (n : ℕ) (server : ServerState) → IsStage es s p → IsDelivered p n s.server server (stage_reference s) None → IsStage es (record s { server = server }) (after es p (Arrive n))
 refused_stage es s p n server h d =
     arrived_as es (record s { server = server }) p n d.sent false d.is_sent d.arrived.0
     (record { now = h.now; serves = d.arrived.1; sights = h.sights; candidates = h.candidates; sent = h.sent; made = h.made; regular = h.regular })
 
-pub refused_by : (es : List Entrant) (s u : Stage) (p : Past) (n : ℕ) → IsStage es s p → IsDelivered p n u.server (stage_reference s) None → u ≡ record s { server = u.server } → IsStage es u (after es p (Arrive n))
+pub refused_by : (es : List Entrant) (s u : Stage) (p : Past) (n : ℕ) → IsStage es s p → IsDelivered p n s.server u.server (stage_reference s) None → u ≡ record s { server = u.server } → IsStage es u (after es p (Arrive n))
 refused_by es s u p n h d rest = subst (λ (x : Stage). IsStage es x (after es p (Arrive n))) (sym rest) (refused_stage es s p n u.server h d)
 
 -- it makes another lease
-done_stage : (es : List Entrant) (s t : Stage) (p : Past) (n : ℕ) (object : Arc DynamicObject Global) (server : ServerState) → IsStage es s p → IsDelivered p n server (stage_reference s) (Some object)
+done_stage : (es : List Entrant) (s t : Stage) (p : Past) (n : ℕ) (object : Arc DynamicObject Global) (server : ServerState) → IsStage es s p → IsDelivered p n s.server server (stage_reference s) (Some object)
     → t ≡ record s { server = server; made = t.made; seen = t.seen } → t.made.items ≡ s.made.items ++ (record { send = n; object = object }) ∷ []
     → ((l : Lease) → Serves server (stage_reference s) l → HasOneMore s.seen.items t.seen.items l) → IsStage es t (after es p (Arrive n))
 done_stage es s t p n object server h d rest made seen =
@@ -244,7 +247,7 @@ done_stage es s t p n object server h d rest made seen =
     } in
     arrived_as es t p n d.sent true d.is_sent d.arrived.0 (subst (λ (x : Stage). IsStage es x (changed p n makes)) (sym rest) stage)
 
-pub done_by : (es : List Entrant) (s u t : Stage) (p : Past) (n : ℕ) (object : Arc DynamicObject Global) → IsStage es s p → IsDelivered p n u.server (stage_reference s) (Some object)
+pub done_by : (es : List Entrant) (s u t : Stage) (p : Past) (n : ℕ) (object : Arc DynamicObject Global) → IsStage es s p → IsDelivered p n s.server u.server (stage_reference s) (Some object)
     → u ≡ record s { server = u.server } → t ≡ record u { made = t.made; seen = t.seen } → t.made.items ≡ u.made.items ++ (record { send = n; object = object }) ∷ []
     → ((l : Lease) → Serves u.server (stage_reference u) l → HasOneMore u.seen.items t.seen.items l) → IsStage es t (after es p (Arrive n))
 done_by es s u t p n object h d first second made seen =
@@ -275,6 +278,16 @@ short_there (w ∷ vs) zero v h e =
     subst (λ (u : Vec Patch Global). length u.items < 2 ^ 32) (some-same w v e) short
 short_there (w ∷ vs) (suc n) v h e = short_there vs n v h.1 e
 
+-- ---- what is asked
+
+pub delivery_asked : (p : Past) (n : ℕ) (old new : ServerState) (r : Reference) (made : Option (Arc DynamicObject Global)) → IsDelivered p n old new r made → IsStepAsked p (Arrive n) old new
+delivery_asked p n old new r made d = subst (λ (o : Option Sent). IsArrivalAsked p.now o old new) (sym d.is_sent) d.asked
+
+asked_more : (es : List Entrant) (p : Past) (front : List LeaseStep) (step : LeaseStep) (old mid new : ServerState)
+    → AreAsked es p front old mid → IsStepAsked (fold (after es) p front) step mid new → AreAsked es p (front ++ step ∷ []) old new
+asked_more es p [] step old mid new h k = (new, subst (λ s. IsStepAsked p step s new) h k, refl)
+asked_more es p (s ∷ front) step old mid new h k = (h.0, h.1, asked_more es (after es p s) front step h.0 mid new h.2 k)
+
 -- ---- the whole election
 
 -- after so many steps the stage stands for a past that the rest may follow, and that comes with it to the whole
@@ -283,21 +296,52 @@ pub record IsPlayed (es : List Entrant) (election : List LeaseStep) (i : ℕ) (s
   pub stage : IsStage es s past
   pub rest : is_election_from es past (drop i election) ≡ true
   pub comes : fold (after es) past (drop i election) ≡ past_of es election
+  pub upto : past ≡ past_of es (take i election)
+  pub asked : IsPlayedOn es (take i election) s.server
 
-pub played_next : (es : List Entrant) (election : List LeaseStep) (i j : ℕ) (s t : Stage) (step : LeaseStep) → j ≡ suc i → IsPlayed es election i s → drop i election ≡ step ∷ drop (suc i) election
-    → ((es : List Entrant) (p : Past) → IsStage es s p → may_follow es p step ≡ true → IsStage es t (after es p step)) → IsPlayed es election j t
-played_next es election i j s t step next h e f =
+taken_more : {A : Type 0} (i : ℕ) (xs : List A) (x : A) → drop i xs ≡ x ∷ drop (suc i) xs → take (suc i) xs ≡ take i xs ++ x ∷ []
+taken_more zero [] x e = absurd cc
+taken_more zero (y ∷ ys) x e = ap (take 1) e
+taken_more (suc i) [] x e = absurd cc
+taken_more (suc i) (y ∷ ys) x e = ap (λ zs. y ∷ zs) (taken_more i ys x e)
+
+-- what a step makes of a stage
+abbrev pub Steps : Stage → LeaseStep → Stage → Type 0
+Steps s step t = (es : List Entrant) (p : Past) → IsStage es s p → may_follow es p step ≡ true → IsStage es t (after es p step)
+
+-- and what it asks
+abbrev pub Asks : Stage → LeaseStep → Stage → Type 0
+Asks s step t = (es : List Entrant) (p : Past) → IsStage es s p → may_follow es p step ≡ true → IsStepAsked p step s.server t.server
+
+played_step : (es : List Entrant) (election : List LeaseStep) (i : ℕ) (s t : Stage) (step : LeaseStep) → IsPlayed es election i s → drop i election ≡ step ∷ drop (suc i) election → Steps s step t → Asks s step t
+    → IsPlayed es election (suc i) t
+played_step es election i s t step h e f g =
     let rest : is_election_from es h.past (step ∷ drop (suc i) election) ≡ true = subst (λ l. is_election_from es h.past l ≡ true) e h.rest in
     let parts = and_parts (may_follow es h.past step) (is_election_from es (after es h.past step) (drop (suc i) election)) rest in
-    let played : IsPlayed es election (suc i) t = record {
+    let more : take (suc i) election ≡ take i election ++ step ∷ [] = taken_more i election step e in
+    let asks : IsStepAsked (past_of es (take i election)) step s.server t.server = subst (λ p. IsStepAsked p step s.server t.server) h.upto (g es h.past h.stage parts.0) in
+    record {
       past = after es h.past step;
       stage = f es h.past h.stage parts.0;
       rest = parts.1;
       comes = sym (ap (fold (after es) h.past) e) ∙ h.comes;
-    } in
-    subst (λ k. IsPlayed es election k t) (sym next) played
+      upto = ap (λ p. after es p step) h.upto ∙ sym (fold-append (after es) beginning (take i election) (step ∷ [])) ∙ ap (past_of es) (sym more);
+      asked = record {
+        kind = h.asked.kind;
+        opened = h.asked.opened;
+        put = h.asked.put;
+        asked = subst (λ l. AreAsked es beginning l h.asked.opened t.server) (sym more) (asked_more es beginning (take i election) step h.asked.opened s.server t.server h.asked.asked asks);
+      };
+    }
+
+pub played_next : (es : List Entrant) (election : List LeaseStep) (i j : ℕ) (s t : Stage) (step : LeaseStep) → j ≡ suc i → IsPlayed es election i s → drop i election ≡ step ∷ drop (suc i) election → Steps s step t → Asks s step t
+    → IsPlayed es election j t
+played_next es election i j s t step next h e f g = subst (λ k. IsPlayed es election k t) (sym next) (played_step es election i s t step h e f g)
 
 pub played_end : (es : List Entrant) (election : List LeaseStep) (i : ℕ) (s : Stage) → IsPlayed es election i s → length election ≤ i → IsStage es s (past_of es election)
 played_end es election i s h e =
     let whole : h.past ≡ past_of es election = sym (ap (fold (after es) h.past) (drop_all i election e)) ∙ h.comes in
     subst (λ p. IsStage es s p) whole h.stage
+
+pub played_on : (es : List Entrant) (election : List LeaseStep) (i : ℕ) (s : Stage) → IsPlayed es election i s → length election ≤ i → IsPlayedOn es election s.server
+played_on es election i s h e = subst (λ l. IsPlayedOn es l s.server) (take_all i election e) h.asked

@@ -13,9 +13,9 @@ use Rattle.kube_lease.specs.declared.poll.LeaseAnswer.{LeaseAnswer}
 use Rattle.kube_lease.specs.Candidates.{IsObserved, Standing, having_observed}
 use Rattle.kube_lease.specs.Elections.{Past, sent_by, sent_for, sent_on, under}
 use Rattle.kube_lease.specs.Leases.{Choice, Unseen, Renew, Wait, LastTerm, Take, Lease, choice}
-use Rattle.kube_lease.specs.Played.{candidates_after, standing_after, standings_from}
+use Rattle.kube_lease.specs.Played.{candidates_after, operations_of, standing_after, standings_from}
 use Rattle.kube_lease.specs.Polls.{IsAnsweredBy, IsPolled, IsPolledOn, patch_by, patch_for, patch_of}
-use Rattle.kube_lease.specs.Staging.{IsPosted, entered, observed_at, only_if, operations_of, patches_for, patches_in}
+use Rattle.kube_lease.specs.Staging.{IsPosted, entered, observed_at, only_if, patches_for, patches_in}
 
 -- ---- one observes
 

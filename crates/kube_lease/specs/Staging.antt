@@ -18,8 +18,8 @@ use Rattle.kube_lease.specs.declared.play.Stage.{Stage}
 use Rattle.kube_lease.specs.Candidates.{Standing, having_observed, standing}
 use Rattle.kube_lease.specs.Elections.{Past, Sent, leases, passes}
 use Rattle.kube_lease.specs.Leases.{Lease}
-use Rattle.kube_lease.specs.Played.{IsHeldBy, IsSeenAs, candidates_after, lease_key, lease_name}
-use Rattle.kube_lease.specs.Polls.{patch_of, renewal, taking}
+use Rattle.kube_lease.specs.Played.{IsArrivalAsked, IsHeldBy, IsSeenAs, candidates_after, lease_key, lease_name, operations_of}
+use Rattle.kube_lease.specs.Polls.{patch_of}
 
 -- ---- patches that are sent
 
@@ -47,14 +47,6 @@ only_if (Some os) = os ∷ []
 abbrev pub patches_for : ℕ → Option Standing → List (List Operation)
 patches_for now None = []
 patches_for now (Some s) = only_if (patch_of s now)
-
--- a patch that was sent, as operations
-abbrev pub operations_by : Bool → Sent → List Operation
-operations_by true s = renewal s.seen s.makes.until
-operations_by false s = taking s.makes.holder s.seen s.makes.until
-
-abbrev pub operations_of : Sent → List Operation
-operations_of s = operations_by s.renews s
 
 -- ---- a patch that arrives at a server
 
@@ -86,11 +78,12 @@ abbrev pub IsArrived : ServerState → Reference → Lease → Sent → Option (
 IsArrived new r l s None = (passes s l ≡ false) × Serves new r l
 IsArrived new r l s (Some object) = (passes s l ≡ true) × Serves new r s.makes × IsSeenAs (seen_object (arc_value object)) s.makes
 
--- the patch that was sent as the n-th arrived so
-pub record IsDelivered (p : Past) (n : ℕ) (server : ServerState) (r : Reference) (made : Option (Arc DynamicObject Global)) : Type 0 where
+-- the patch that was sent as the n-th was asked of the server, and arrived so
+pub record IsDelivered (p : Past) (n : ℕ) (old new : ServerState) (r : Reference) (made : Option (Arc DynamicObject Global)) : Type 0 where
   pub sent : Sent
   pub is_sent : slice_get p.sent n ≡ Some sent
-  pub arrived : IsArrived server r p.current sent made
+  pub asked : IsArrivalAsked p.now (Some sent) old new
+  pub arrived : IsArrived new r p.current sent made
 
 -- ---- what was seen, and made
 

@@ -4,7 +4,7 @@ ghost use Rattle.std.specs.Prelude.{◌≡◌, ◌<◌, ◌++◌, ℕ, List, Som
 ghost use Rattle.kube_meta.specs.Reading.{seen_object};
 ghost use Rattle.kube_lease.specs.Candidates.{Standing, may_act_at};
 ghost use Rattle.kube_lease.specs.Elections.{AreEntrants, IsClaim, is_election, past_of};
-ghost use Rattle.kube_lease.specs.Played.{IsHeldBy, IsSeenAs, candidates_after};
+ghost use Rattle.kube_lease.specs.Played.{IsHeldBy, IsPlayedOn, IsSeenAs, candidates_after};
 ghost use Rattle.kube_lease.specs.declared.election.LeaseStep.{LeaseStep as Step};
 
 pub use crate::election::{Entrant, LeaseStep};
@@ -31,7 +31,8 @@ pub fn one_holder(candidates: &[Entrant], election: &[LeaseStep])
 
 /// Plays an election on a server in memory, of candidates for a lease named `lease` that nobody has held, at moment 0: each
 /// candidate is a `Candidate` that is polled where it sends, and a patch arrives by the server's `ServerObjects`. It gives the
-/// lease's object and the candidates in the state that the definitions say, and the server, which has that object alone.
+/// lease's object and the candidates in the state that the definitions say, and the server, which has that object alone. All
+/// that was asked of the server is that the lease was put, and then the patch of each arrival.
 ///
 /// Errors: `NoMemory`.
 pub fn play(
@@ -42,7 +43,8 @@ pub fn play(
     requires entrants { AreEntrants candidates.now }
     requires valid { is_election candidates.now election.now ≡ true }
     ensures lease { IfOk result (λ p. IsSeenAs (seen_object p.lease) (past_of candidates.now election.now).current) }
-    ensures server { IfOk result (λ p. IsHeldBy p.server (past_of candidates.now election.now).current) }
+    ensures held { IfOk result (λ p. IsHeldBy p.server (past_of candidates.now election.now).current) }
+    ensures asked { IfOk result (λ p. IsPlayedOn candidates.now election.now p.server) }
     ensures candidates { IfOk result (λ p. p.candidates ≡ candidates_after candidates.now (past_of candidates.now election.now)) }
 {
     played(alloc, candidates, election)

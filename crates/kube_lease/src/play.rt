@@ -12,7 +12,7 @@ ghost use Rattle.kube_lease.specs.declared.election.Entrant.{Entrant as Entered}
 ghost use Rattle.kube_lease.specs.declared.election.LeaseStep.TheVariants.{Tick, Observe, Send, Arrive, Reply};
 ghost use Rattle.kube_lease.specs.Elections.{AreEntrants, Past, after, beginning, is_election, may_follow, past_of};
 ghost use Rattle.kube_lease.specs.Leases.{Lease, unheld};
-ghost use Rattle.kube_lease.specs.Played.{IsHeldBy, IsSeenAs, candidates_after, lease_key};
+ghost use Rattle.kube_lease.specs.Played.{IsHeldBy, IsOpened, IsPlayedOn, IsSeenAs, IsStepAsked, candidates_after, lease_key};
 ghost use Rattle.kube_lease.specs.Staging.{AreShort, HasOneMore, IsAnswered, IsDelivered, IsPosted, IsSmall, IsStage, Serves, entered, object_in, observed_at, patches_for, patches_in, stage_reference};
 
 use crate::candidate::Candidate;
@@ -96,7 +96,8 @@ fn resource(alloc: Global) -> Result<Arc<ApiResource>, NoMemory> {
 
 /// A server that has a lease which nobody has held.
 fn opened(alloc: Global, resource: Arc<ApiResource>) -> Result<Server, NoMemory>
-    ensures { IfOk result (λ s. (r : Reference) → r.kind ≡ resource_type resource.value → reference_key r ≡ lease_key → Serves s r unheld) }
+    ensures serves { IfOk result (λ s. (r : Reference) → r.kind ≡ resource_type resource.value → reference_key r ≡ lease_key → Serves s r unheld) }
+    ensures opened { IfOk result (λ s. IsOpened (resource_type resource.value) s) }
 {
     let object = new_lease(alloc, "lease")?;
     let mut server = Server::new(alloc, resource);
@@ -223,7 +224,8 @@ fn made_by(made: &[Made], send: u32) -> Option<&Made>
 impl Stage {
     fn new(alloc: Global, candidates: &[Entrant]) -> Result<Stage, NoMemory>
         requires { AreEntrants candidates.now }
-        ensures { IfOk result (λ s. IsStage candidates.now s beginning) }
+        ensures stage { IfOk result (λ s. IsStage candidates.now s beginning) }
+        ensures played { IfOk result (λ s. IsPlayedOn candidates.now [] s.server) }
     {
         let resource = resource(alloc)?;
         let key = ObjectRef::new_with(alloc, "lease", resource.clone()?)?;
@@ -246,7 +248,8 @@ impl Stage {
 
     // The moment rises.
     fn tick(&mut self, by: u64)
-        ensures { (es : List Entered) (p : Past) → IsStage es self.old p → may_follow es p (Tick by) ≡ true → IsStage es self.new (after es p (Tick by)) }
+        ensures stage { (es : List Entered) (p : Past) → IsStage es self.old p → may_follow es p (Tick by) ≡ true → IsStage es self.new (after es p (Tick by)) }
+        ensures server { self.new.server ≡ self.old.server }
     {
         self.now = self.now.plus(by);
     }
@@ -258,8 +261,9 @@ impl Stage {
         candidate: u32,
         object: Arc<DynamicObject>,
     ) -> Result<(), NoMemory>
-        ensures { OnOk result ((es : List Entered) (p : Past) (l : Lease) → IsStage es self.old p → IsSeenAs (seen_object (arc_value object)) l → IsSmall l
+        ensures stage { OnOk result ((es : List Entered) (p : Past) (l : Lease) → IsStage es self.old p → IsSeenAs (seen_object (arc_value object)) l → IsSmall l
             → IsStage es self.new (record p { observed = (candidate, l) ∷ p.observed })) }
+        ensures server { OnOk result (self.new.server ≡ self.old.server) }
     {
         let object: &DynamicObject = &object;
         observe_at(alloc, &mut self.candidates, candidate, object)?;
@@ -268,8 +272,9 @@ impl Stage {
 
     // A candidate observes a state so far.
     fn observe_state(&mut self, alloc: Global, candidate: u32, state: u32) -> Result<(), NoMemory>
-        ensures { OnOk result ((es : List Entered) (p : Past) → IsStage es self.old p → may_follow es p (Observe candidate state) ≡ true
+        ensures stage { OnOk result ((es : List Entered) (p : Past) → IsStage es self.old p → may_follow es p (Observe candidate state) ≡ true
             → IsStage es self.new (after es p (Observe candidate state))) }
+        ensures server { OnOk result (self.new.server ≡ self.old.server) }
     {
         let object = match state_at(self.seen.as_slice(), state) {
             Some(object) => object.clone()?,
@@ -281,7 +286,8 @@ impl Stage {
 
     // A candidate sends what it decides, which arrives later, often or never.
     fn send(&mut self, alloc: Global, candidate: u32) -> Result<(), NoMemory>
-        ensures { OnOk result ((es : List Entered) (p : Past) → IsStage es self.old p → IsStage es self.new (after es p (Send candidate))) }
+        ensures stage { OnOk result ((es : List Entered) (p : Past) → IsStage es self.old p → IsStage es self.new (after es p (Send candidate))) }
+        ensures server { OnOk result (self.new.server ≡ self.old.server) }
     {
         let now = self.now;
         post_at(
@@ -320,7 +326,7 @@ impl Stage {
         requires { AreShort (patches_in self.old.outbox) }
         ensures rest { OnOk result (self.new ≡ record self.old { server = self.new.server }) }
         ensures made { IfOk result (λ o. (es : List Entered) (p : Past) → IsStage es self.old p → may_follow es p (Arrive send) ≡ true
-            → IsDelivered p send self.new.server (stage_reference self.old) o) }
+            → IsDelivered p send self.old.server self.new.server (stage_reference self.old) o) }
     {
         let made = match patch_at(self.outbox.sent.as_slice(), send) {
             Some(patch) => arrive(alloc, &mut self.server, patch.as_slice(), self.now)?,
@@ -332,7 +338,8 @@ impl Stage {
     // A patch that was sent arrives.
     fn arrive(&mut self, alloc: Global, send: u32) -> Result<(), NoMemory>
         requires { AreShort (patches_in self.old.outbox) }
-        ensures { OnOk result ((es : List Entered) (p : Past) → IsStage es self.old p → may_follow es p (Arrive send) ≡ true → IsStage es self.new (after es p (Arrive send))) }
+        ensures stage { OnOk result ((es : List Entered) (p : Past) → IsStage es self.old p → may_follow es p (Arrive send) ≡ true → IsStage es self.new (after es p (Arrive send))) }
+        ensures asked { OnOk result ((es : List Entered) (p : Past) → IsStage es self.old p → may_follow es p (Arrive send) ≡ true → IsStepAsked p (Arrive send) self.old.server self.new.server) }
     {
         let made = self.deliver(alloc, send)?;
         match made {
@@ -346,8 +353,9 @@ impl Stage {
 
     // Who sent a patch observes what it made.
     fn reply(&mut self, alloc: Global, candidate: u32, send: u32) -> Result<(), NoMemory>
-        ensures { OnOk result ((es : List Entered) (p : Past) → IsStage es self.old p → may_follow es p (Reply candidate send) ≡ true
+        ensures stage { OnOk result ((es : List Entered) (p : Past) → IsStage es self.old p → may_follow es p (Reply candidate send) ≡ true
             → IsStage es self.new (after es p (Reply candidate send))) }
+        ensures server { OnOk result (self.new.server ≡ self.old.server) }
     {
         let object = match made_by(self.made.as_slice(), send) {
             Some(made) => made.object.clone()?,
@@ -360,7 +368,8 @@ impl Stage {
     // Takes a step.
     fn take(&mut self, alloc: Global, step: &LeaseStep) -> Result<(), NoMemory>
         requires { AreShort (patches_in self.old.outbox) }
-        ensures { OnOk result ((es : List Entered) (p : Past) → IsStage es self.old p → may_follow es p step.now ≡ true → IsStage es self.new (after es p step.now)) }
+        ensures stage { OnOk result ((es : List Entered) (p : Past) → IsStage es self.old p → may_follow es p step.now ≡ true → IsStage es self.new (after es p step.now)) }
+        ensures asked { OnOk result ((es : List Entered) (p : Past) → IsStage es self.old p → may_follow es p step.now ≡ true → IsStepAsked p step.now self.old.server self.new.server) }
     {
         match step {
             LeaseStep::Tick { by } => {
@@ -398,7 +407,8 @@ pub(crate) fn played(
     requires entrants { AreEntrants candidates.now }
     requires valid { is_election candidates.now election.now ≡ true }
     ensures lease { IfOk result (λ p. IsSeenAs (seen_object p.lease) (past_of candidates.now election.now).current) }
-    ensures server { IfOk result (λ p. IsHeldBy p.server (past_of candidates.now election.now).current) }
+    ensures held { IfOk result (λ p. IsHeldBy p.server (past_of candidates.now election.now).current) }
+    ensures asked { IfOk result (λ p. IsPlayedOn candidates.now election.now p.server) }
     ensures candidates { IfOk result (λ p. p.candidates ≡ candidates_after candidates.now (past_of candidates.now election.now)) }
 {
     let mut stage = Stage::new(alloc, candidates)?;

@@ -1,10 +1,10 @@
 use Rattle.std.proofs.Common.{◌≡◌, suc, ◌<◌, ◌∷◌, length, drop, ap, sym, refl, ◌∙◌, arith, drop-cons}
 use Rattle.kube_lease.specs.Elections.{beginning, past_of}
-use Rattle.kube_lease.proofs.Staging.{played_end, played_next, sent_short}
+use Rattle.kube_lease.proofs.Staging.{played_end, played_next, played_on, sent_short}
 use Rattle.kube_lease.proofs.play.played.Goals as goal
 
 pub loop-step-init : goal.loop-step-init
-loop-step-init c = record { past = beginning; stage = c.in_ok-stage.ensures; rest = c.requires.valid; comes = refl }
+loop-step-init c = record { past = beginning; stage = c.in_ok-stage.ensures.stage; rest = c.requires.valid; comes = refl; upto = refl; asked = c.in_ok-stage.ensures.played }
 
 pub loop-step-preserved : goal.loop-step-preserved
 loop-step-preserved c =
@@ -13,7 +13,7 @@ loop-step-preserved c =
     let step = c.step-item.result in
     let l : i < length election = omega arith in
     let here : drop i election ≡ step ∷ drop (suc i) election = drop-cons election i step l ∙ ap (λ s. s ∷ drop (suc i) election) (sym c.step-item.is) in
-    played_next c.args.candidates.now election i _ c.loop-step.stage c.take.new.self step (omega arith) c.loop-step.invariant here c.in_ok-take.ensures
+    played_next c.args.candidates.now election i _ c.loop-step.stage c.take.new.self step (omega arith) c.loop-step.invariant here c.in_ok-take.ensures.stage c.in_ok-take.ensures.asked
 
 pub take-requires : goal.take-requires
 take-requires c =
@@ -26,10 +26,13 @@ returns-clause-lease c =
     let stage = played_end c.args.candidates.now c.args.election.now c.loop-step.step-index c.loop-step.stage c.loop-step.invariant (omega arith) in
     c.in_ok-lease.ensures past.current stage.serves
 
-pub returns-clause-server : goal.returns-clause-server
-returns-clause-server c =
+pub returns-clause-held : goal.returns-clause-held
+returns-clause-held c =
     let stage = played_end c.args.candidates.now c.args.election.now c.loop-step.step-index c.loop-step.stage c.loop-step.invariant (omega arith) in
     stage.serves.holds
+
+pub returns-clause-asked : goal.returns-clause-asked
+returns-clause-asked c = played_on c.args.candidates.now c.args.election.now c.loop-step.step-index c.loop-step.stage c.loop-step.invariant (omega arith)
 
 pub returns-clause-candidates : goal.returns-clause-candidates
 returns-clause-candidates c =

@@ -7,11 +7,11 @@ use Rattle.kube_lease.proofs.RegularPasts.{regular_first}
 use Rattle.kube_lease.proofs.Standings.{all_entered}
 use Rattle.kube_lease.proofs.play.Stage.new.Goals as goal
 
-pub returns : goal.returns
-returns c =
+pub returns-clause-stage : goal.returns-clause-stage
+returns-clause-stage c =
     let kind = ap (λ k. resource_type k.dyntype.value) c.in_ok-key.ensures ∙ ap resource_type c.in_ok-clone.ensures.cases in
     let key = ap (λ k. record { namespace = k.namespace; name = k.name }) c.in_ok-key.ensures in
-    let serves = c.in_ok-server.ensures _ kind key in
+    let serves = c.in_ok-server.ensures.serves _ kind key in
     record {
       now = refl;
       serves = serves;
@@ -21,3 +21,6 @@ returns c =
       made = subst (λ ms. AreMade ms []) (sym c.new-2.ensures.items) tt;
       regular = regular_first;
     }
+
+pub returns-clause-played : goal.returns-clause-played
+returns-clause-played c = record { kind = _; opened = c.in_ok-server.server; put = c.in_ok-server.ensures.opened; asked = refl }
