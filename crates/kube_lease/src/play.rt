@@ -170,11 +170,11 @@ fn observe_at(
 ) -> Result<(), NoMemory>
     ensures { OnOk result ((l : Lease) → IsSeenAs (seen_object object.now) l → candidates.new.items ≡ observed_at number l candidates.old.items) }
 {
-    let number = number as usize;
-    if number >= candidates.len() {
+    let place = number as usize;
+    if candidates.len() <= place {
         return Ok(());
     }
-    let candidate = &mut candidates[number];
+    let candidate = &mut candidates[place];
     // (it is a lease, so it is refused only where memory is out)
     match candidate.observe(alloc, object) {
         Ok(()) => Ok(()),
@@ -193,11 +193,11 @@ fn post_at(
     ensures same { OnOk result (candidates.new.items ≡ candidates.old.items) }
     ensures posted { OnOk result (patches_in outbox.new ≡ patches_in outbox.old ++ patches_for now.0 (slice_get candidates.old.items number)) }
 {
-    let number = number as usize;
-    if number >= candidates.len() {
+    let place = number as usize;
+    if candidates.len() <= place {
         return Ok(());
     }
-    let candidate = &mut candidates[number];
+    let candidate = &mut candidates[place];
     candidate.poll(alloc, outbox, now)?;
     Ok(())
 }

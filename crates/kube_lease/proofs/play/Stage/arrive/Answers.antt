@@ -1,4 +1,4 @@
-use Rattle.std.proofs.Common.{ap, sym, subst, ◌∙◌}
+use Rattle.std.proofs.Common.{ap, sym, subst}
 use Rattle.kube_lease.specs.Played.{IsStepAsked}
 use Rattle.kube_lease.specs.Staging.{IsDelivered, stage_reference}
 use Rattle.kube_lease.specs.declared.election.LeaseStep.TheVariants.{Arrive}
