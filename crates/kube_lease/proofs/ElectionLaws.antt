@@ -1,5 +1,5 @@
 -- What holds after each step of an election, and what follows for claims.
-use Rattle.std.proofs.Common.{◌≡◌, ◌⊎◌, inl, inr, ℕ, zero, suc, ◌+◌, ◌<◌, ◌≤◌, ◌==◌, nat_lt, Bool, true, false, not, cond, ◌&&◌, ◌||◌, ◌-◌, ◌^◌, List, [], ◌∷◌, ◌++◌, Option, Some, None, slice_get, refl, sym, ap, subst, ◌∙◌, arith}
+use Rattle.std.proofs.Common.{◌≡◌, ◌⊎◌, inl, inr, ℕ, zero, suc, ◌+◌, ◌<◌, ◌≤◌, ◌==◌, nat_lt, Bool, true, false, not, cond, ◌&&◌, ◌||◌, ◌-◌, ◌^◌, List, [], ◌∷◌, ◌++◌, Option, Some, None, slice_get, unwrap_or, refl, sym, ap, subst, ◌∙◌, arith}
 use Rattle.std.specs.List.{fold}
 use Rattle.std.specs.Str.{bytes_eq}
 use Rattle.std.proofs.lemmas.Bool.{eqb-true, ltb-true, ltb-false}
@@ -36,6 +36,9 @@ last-there (x ∷ xs) y = let w = last-there xs y in (suc w.0, w.1)
 pub slice_get-first : {X : Type 0} (y : X) (ys : List X) (k : ℕ) (x : X) → slice_get (y ∷ ys) k ≡ Some x → (x ≡ y) ⊎ ((j : ℕ) × (slice_get ys j ≡ Some x))
 slice_get-first y ys zero x e = inl (cc)
 slice_get-first y ys (suc k) x e = inr (k, e)
+
+some-same : {X : Type 0} (a b : X) → Some a ≡ Some b → a ≡ b
+some-same a b e = ap (λ o. unwrap_or o a) e
 
 -- ---- leases
 
@@ -153,7 +156,7 @@ changed_sound p n m s f = record {
   ];
   over = λ k a x lt. elim (slice_get-last (leases p) m k a x) [
     | inl old ↦ over_at p m a s f k old lt
-    | inr new ↦ let e : a.term ≡ m.term = ap (λ (l : Lease). l.term) new in absurd (omega arith)
+    | inr new ↦ let e : a.term ≡ m.term = ap (λ (l : Lease). l.term) new in let below : a.term < m.term = lt in absurd (omega arith)
   ];
   observed = λ k c l x. let w = s.observed k c l x in (w.0, slice_get-more (leases p) (m ∷ []) w.0 l w.1);
   made = λ k j l x. elim (slice_get-last p.made (n, m) k (j, l) x) [
@@ -180,7 +183,7 @@ tick_sound : (p : Past) (by : ℕ) → IsSound p → IsSound (record p { now = p
 tick_sound p by s = record {
   one = s.one;
   latest = s.latest;
-  over = λ k a x lt. let h : a.until ≤ p.now = s.over k a x lt in omega arith;
+  over = λ k a x lt. let h : a.until ≤ p.now = s.over k a x lt in let later : a.until ≤ p.now + by = omega arith in later;
   observed = s.observed;
   made = s.made;
   sent = λ k x e. later_well x.renews p.now by x (s.sent k x e);
@@ -205,7 +208,7 @@ pub under_there : (n : ℕ) (xs : List (ℕ × Lease)) (l : Lease) → under n x
 under_there n [] l e = absurd (cc)
 under_there n (x ∷ xs) l e = go (x.0 == n) e where
   go : (b : Bool) → cond b (Some x.1) (under n xs) ≡ Some l → (k : ℕ) × (j : ℕ) × (slice_get (x ∷ xs) k ≡ Some (j, l))
-  go true h = (0, x.0, cc)
+  go true h = (0, x.0, ap (λ y. Some (x.0, y)) (some-same x.1 l h))
   go false h = let w = under_there n xs l h in (suc w.0, w.1, w.2)
 
 -- ---- what is sent

@@ -1,5 +1,5 @@
 -- A `u64` holds the numbers of each lease of an election, and each patch makes what its operations say.
-use Rattle.std.proofs.Common.{◌≡◌, inl, inr, ℕ, zero, suc, ◌+◌, ◌-◌, ◌^◌, ◌<◌, ◌==◌, nat_lt, Bool, true, false, cond, List, [], ◌∷◌, Option, Some, None, slice_get, refl, sym, ap, subst, arith}
+use Rattle.std.proofs.Common.{◌≡◌, inl, inr, ℕ, zero, suc, ◌+◌, ◌-◌, ◌^◌, ◌<◌, ◌==◌, min, nat_lt, Bool, true, false, cond, List, [], ◌∷◌, Option, Some, None, slice_get, refl, sym, ap, subst, arith}
 use Rattle.std.proofs.lemmas.Bool.{eqb-false}
 use Rattle.kube_lease.specs.declared.election.Entrant.{Entrant}
 use Rattle.kube_lease.specs.declared.election.LeaseStep.{LeaseStep}
@@ -10,10 +10,10 @@ use Rattle.kube_lease.specs.Staging.{IsRegular, IsRegularSent, IsSmall}
 use Rattle.kube_lease.proofs.ElectionLaws.{slice_get-first, slice_get-joined, slice_get-last, under_there}
 
 unheld_small : IsSmall unheld
-unheld_small = (omega arith, omega arith)
+unheld_small = let small : 0 < 2 ^ 64 = omega arith in (small, small)
 
 end_small : (now duration : ℕ) → end_of now duration < 2 ^ 64
-end_small now duration = omega arith
+end_small now duration = let small : min (now + duration) (2 ^ 64 - 1) < 2 ^ 64 = omega arith in small
 
 -- ---- what is sent
 

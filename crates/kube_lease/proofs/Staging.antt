@@ -43,8 +43,9 @@ pub tick_stage : (es : List Entrant) (s : Stage) (p : Past) (by : ℕ) (now : Mo
 tick_stage es s p by now h m e =
     let known : s.now.0 ≡ p.now = h.now in
     let fits : p.now + by < 2 ^ 64 = ltb-true (p.now + by) (2 ^ 64) m in
+    let later : now.0 ≡ p.now + by = omega (arith, known, fits, e) in
     record {
-      now = omega (arith, known, fits, e);
+      now = later;
       serves = h.serves;
       sights = h.sights;
       candidates = h.candidates;
