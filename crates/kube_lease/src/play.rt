@@ -417,10 +417,10 @@ pub(crate) fn played(
     }
     let lease = stage.lease(alloc)?;
     let server = stage.server;
-    let candidates = List::from(stage.candidates);
+    let all = List::from(stage.candidates);
     Ok(Played {
         lease,
         server,
-        candidates,
+        candidates: all,
     })
 }

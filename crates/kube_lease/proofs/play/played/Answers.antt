@@ -37,4 +37,4 @@ returns-clause-asked c = played_on c.args.candidates.now c.args.election.now c.l
 pub returns-clause-candidates : goal.returns-clause-candidates
 returns-clause-candidates c =
     let stage = played_end c.args.candidates.now c.args.election.now c.loop-step.step-index c.loop-step.stage c.loop-step.invariant (omega arith) in
-    c.from-candidates.ensures ∙ stage.candidates
+    c.from-all.ensures ∙ stage.candidates
