@@ -1,4 +1,4 @@
-use Rattle.std.proofs.Common.{◌≡◌, Some, map, ap, ◌∙◌}
+use Rattle.std.proofs.Common.{◌≡◌, ◌<◌, ◌^◌, Some, length, map, ap, sym, subst, ◌∙◌}
 use Rattle.kube_api.specs.Patches.{operation_of}
 use Rattle.kube_final.specs.FinalizerPolls.{objects_in}
 use Rattle.kube_lease.specs.Polls.{patch_of}
@@ -25,3 +25,6 @@ returns-in_err-answer-clause-lost g c =
     let sent : Some (map operation_of c.as_slice.result.now) ≡ patch_of s c.args.now.0 =
     ap (λ os. Some (map operation_of os)) c.as_slice.ensures.value ∙ (rw c.in-Some.is at c.in_ok-patch.ensures.operations) in
     lost_asked (objects_in g.A.ObjectApi) c.args.now.0 c.args.api.now s (map operation_of c.as_slice.result.now) c.ask.new.api sent c.in_err-answer.ensures.lost
+
+pub ask-requires : goal.ask-requires
+ask-requires g c = subst (λ os. length os < 2 ^ 32) (sym c.as_slice.ensures.value) (rw c.in-Some.is at c.in_ok-patch.ensures.few)
