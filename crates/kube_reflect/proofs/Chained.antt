@@ -53,7 +53,7 @@ head-other (x ∷ xs) zero (suc d) v n = refl
 head-other (x ∷ xs) (suc c) zero v n = refl
 head-other (x ∷ xs) (suc c) (suc d) v n = head-other xs c d v (λ e. n (ap suc e))
 
-pub length-written : (heads : List ℕ) (c v : ℕ) → length (set heads c v) ≡ length heads
+pub length-written : {X : Type 0} (xs : List X) (c : ℕ) (v : X) → length (set xs c v) ≡ length xs
 length-written [] c v = refl
 length-written (x ∷ xs) zero v = refl
 length-written (x ∷ xs) (suc c) v = ap suc (length-written xs c v)
@@ -74,14 +74,26 @@ module _ {K D : Type 0} where
     pub hash : y.hash ≡ x.hash
     pub stored : (t : Stored K D) → y.stored ≡ Some t → (s : Stored K D) × (x.stored ≡ Some s) × (s.reference ≡ t.reference)
 
+  -- a slot without its item, or with another name, is like it
+  pub like-emptied : (x : Slot K D) → IsLike x (record x { stored = None })
+  like-emptied x = record { hash = refl; stored = λ t e. cc }
+
+  pub like-named : (x : Slot K D) (n : ℕ) → IsLike x (record x { next = n })
+  like-named x n = record { hash = refl; stored = λ t e. (t, e, refl) }
+
+  -- no path begins at 0
+  pub nowhere : (slots : List (Slot K D)) (code : ℕ) (qs : List ℕ) (p : ℕ) → code ≤ 0 → IsPath slots code qs p → ⊥
+  nowhere slots code [] p le h = omega arith
+  nowhere slots code (q ∷ qs) p le h = let f = h.0 in omega arith
+
   -- one step along a chain
   along-path : (slots : List (Slot K D)) (q : ℕ) (x : Slot K D) (p : ℕ) → slice_get slots q ≡ Some x → (qs : List ℕ) → IsPath slots (q + 1) qs p → (p ≡ q → ⊥) → Reaches slots x.next p
   along-path slots q x p h [] e n = absurd (n (omega arith))
-  along-path slots q x p h (a ∷ as) e n =
+  along-path slots q x p h (a ∷ es) e n =
       let f = e.0 in
       let same : a ≡ q = omega arith in
       let is : e.1.0 ≡ x = one e.1.0 x (sym e.1.1 ∙ (ap (slice_get slots) same ∙ h)) in
-      (as, subst (λ (y : Slot K D). IsPath slots y.next as p) is e.1.2)
+      (es, subst (λ (y : Slot K D). IsPath slots y.next es p) is e.1.2)
 
   pub along : (slots : List (Slot K D)) (q : ℕ) (x : Slot K D) (p : ℕ) → slice_get slots q ≡ Some x → Reaches slots (q + 1) p → (p ≡ q → ⊥) → Reaches slots x.next p
   along slots q x p h r n = along-path slots q x p h r.0 r.1 n
@@ -193,7 +205,7 @@ module _ {K D : Type 0} where
 
   -- a slot names what the next one named, which has no item
   skipped : (slots : List (Slot K D)) (q : ℕ) (x : Slot K D) (p : ℕ) (y : Slot K D) → slice_get slots q ≡ Some x → slice_get slots p ≡ Some y → x.next ≡ p + 1
-      → (code : ℕ) (as : List ℕ) (t : ℕ) → (t ≡ p → ⊥) → IsPath slots code as t → Reaches (set slots q (record x { next = y.next })) code t
+      → (code : ℕ) (es : List ℕ) (t : ℕ) → (t ≡ p → ⊥) → IsPath slots code es t → Reaches (set slots q (record x { next = y.next })) code t
   skipped slots q x p y hq hp named code [] t n h = ([], h)
   skipped slots q x p y hq hp named code (a ∷ []) t n h = elim (cases_eq a q) [
     | inl same ↦

@@ -3,6 +3,8 @@
 use Rattle.std.specs.Prelude.{◌≡◌, ℕ, ◌+◌, ◌-◌, ◌%◌, ◌<◌, ◌≤◌, ◌==◌, Bool, true, false, ◌&&◌, List, [], ◌∷◌, map, length, Option, Some, None, slice_get, slice_index_or, vec_len, vec_capacity}
 use Rattle.std.specs.List.{fold, filter_map, list_any}
 use Rattle.std.specs.Arc.{arc_value}
+use Rattle.std.specs.declared.sync.Arc.{Arc}
+use Rattle.std.specs.declared.alloc.Global.{Global}
 use Rattle.std.specs.Hash as fed
 use Rattle.std.specs.Hash.FoldHasher as folding
 use Rattle.kube_meta.specs.Reference.{ObjectType, Reference, same_reference}
@@ -35,6 +37,11 @@ module _ {K D : Type 0} where
   -- what the slots have
   abbrev pub items_in : List (Slot K D) → List (Stored K D)
   items_in slots = filter_map (λ x. x.stored) slots
+
+  -- an item with another object
+  abbrev pub with_object : Arc K Global → Option (Stored K D) → Option (Stored K D)
+  with_object object None = None
+  with_object object (Some s) = Some (record s { object = object })
 
   -- slots from one to another place: each code is one more than the place of the slot that it names, which names the next
   abbrev pub IsPath : List (Slot K D) → ℕ → List ℕ → ℕ → Type 0

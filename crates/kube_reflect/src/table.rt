@@ -1,11 +1,11 @@
 //! Stored items by reference, and in the order in which their references came.
 
-ghost use Rattle.std.specs.Prelude.{◌≡◌, ℕ, ◌+◌, ◌%◌, ◌<◌, ◌≤◌, [], length, slice_get, slice_index_or, vec_capacity, is_some, Some, None, IfOk, IfSome, OnOk, option_map};
+ghost use Rattle.std.specs.Prelude.{◌≡◌, ℕ, ◌+◌, ◌%◌, ◌<◌, ◌≤◌, [], length, slice_get, slice_index_or, vec_capacity, is_some, Some, None, IfOk, IfSome, OnOk};
 ghost use Rattle.std.specs.Arc.{arc_value};
 ghost use Rattle.kube_meta.specs.Reference.{Reference};
 ghost use Rattle.kube_model.specs.Store.{stored_under};
 ghost use Rattle.kube_reflect.specs.Cached.{put_under, drop_under};
-ghost use Rattle.kube_reflect.specs.Tables.{reference_hash, sought_of, ref_of, head_of, holds_at, listed, room, Falls, IsLinked, IsKept, IsAt, IsFound, IsFoundFrom, HoldSame};
+ghost use Rattle.kube_reflect.specs.Tables.{reference_hash, sought_of, ref_of, head_of, holds_at, listed, room, Falls, IsLinked, IsKept, IsAt, IsFound, IsFoundFrom, HoldSame, with_object};
 ghost use Rattle.kube_reflect.specs.Views.{stored_of};
 
 use crate::sought::Sought;
@@ -119,7 +119,7 @@ fn place_before<K: Resource>(slots: &[Slot<K>], head: usize, place: usize) -> Op
 
 /// An item's object in place of another one.
 fn write_object<K: Resource>(slot: &mut Slot<K>, object: Arc<K>)
-    ensures { slot.new ≡ record slot.old { stored = option_map (λ s. record s { object = object }) slot.old.stored } }
+    ensures { slot.new ≡ record slot.old { stored = with_object object slot.old.stored } }
 {
     if let Some(stored) = &mut slot.stored {
         stored.object = object;
