@@ -11,3 +11,4 @@ pub mod Joining
 pub mod Dealing
 pub mod Telling
 pub mod Together
+pub mod Calling

@@ -4,3 +4,4 @@ pub mod Steps
 pub mod Seats
 pub mod Passes
 pub mod Whole
+pub mod Calls

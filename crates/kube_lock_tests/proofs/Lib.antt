@@ -1,2 +1,1 @@
 pub mod Happening
-pub mod Calling

@@ -1,3 +1,2 @@
 pub mod Stocks
 pub mod Events
-pub mod Calls

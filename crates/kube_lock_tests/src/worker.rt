@@ -3,7 +3,7 @@
 ghost use Rattle.std.specs.Prelude.{◌≡◌, Option, IfOk, IfErr};
 ghost use Rattle.kube_lock.specs.Passes.{IsPassOf};
 ghost use Rattle.kube_lock_tests.specs.Stocks.{Took, Marked, number_of, MayHappen};
-ghost use Rattle.kube_lock_tests.specs.Calls.{Sees, Adds, IsSamePass};
+ghost use Rattle.kube_lock.specs.Calls.{Sees, Adds, IsSamePass};
 
 use crate::desk::Desk;
 use crate::stock::Thing;

@@ -1,7 +1,7 @@
 use Rattle.std.proofs.Common.{[], ◌∷◌, ◌++◌, sym, ap, subst, ◌∙◌}
 use Rattle.kube_lock_tests.specs.Stocks.{Took, number_of, MayHappen}
-use Rattle.kube_lock_tests.specs.Calls.{Adds}
-use Rattle.kube_lock_tests.proofs.Calling.{adds}
+use Rattle.kube_lock.specs.Calls.{Adds}
+use Rattle.kube_lock.proofs.Calling.{adds}
 use Rattle.kube_lock_tests.proofs.worker.take.Goals as goal
 
 pub commit-requires-clause-entry : goal.commit-requires-clause-entry

@@ -3,7 +3,7 @@ use Rattle.std.proofs.Common.{◌≡◌, ℕ, List, [], ◌∷◌, ◌++◌, sym
 use mathlib.Core.List.{IsPrefix}
 use Rattle.kube_lock.specs.Rule.{calls_of}
 use Rattle.kube_lock.specs.Passes.{Passing}
-use Rattle.kube_lock_tests.specs.Calls.{Sees, Adds, IsSamePass}
+use Rattle.kube_lock.specs.Calls.{Sees, Adds, IsSamePass}
 
 module _ {E P : Type 0} (number : E → ℕ) (Legal : List E → Type 0) (pass turn : Passing E P) (log : List E) (front : IsPrefix pass.seen log) (entered : turn ≡ record pass { seen = log }) where
   pub sees : (after : Passing E P) → calls_of number pass.number log ≡ pass.own → Legal log → after ≡ turn → Sees number Legal pass after

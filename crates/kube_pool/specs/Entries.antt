@@ -1,0 +1,30 @@
+-- Which entry of a pool's history an event is. K is the type of objects, D that of their dynamic types.
+use Rattle.std.specs.Prelude.{ℕ, Option, Some, None, true}
+use Rattle.std.specs.Arc.{arc_value}
+use Rattle.kube_meta.specs.Reference.{ObjectType}
+use Rattle.kube_meta.specs.Keys.{reference_of}
+use Rattle.kube_model.specs.History.{Taken}
+use Rattle.kube_model.specs.ReasonView.{reason_of}
+use Rattle.kube_history.specs.CoreEvents.{CoreEvent, Answered, Requested, Reloaded, Finished, Settled}
+use Rattle.kube_history.specs.PoolHistory.{PoolEntry, Single, SettledAndTook}
+use Rattle.kube_turn.specs.Views.{exchange_of, taken_of}
+use Rattle.kube_pool.specs.declared.event.Happened.{Happened}
+use Rattle.kube_pool.specs.declared.event.Happened.TheVariants as happened
+use Rattle.kube_pool.specs.declared.lease.PoolTaken.{PoolTaken}
+use Rattle.kube_pool.specs.declared.lease.PoolTaken.TheVariants as takes
+
+module _ {K D : Type 0} (type_of : D → ObjectType) where
+  -- what a pass did at a moment
+  abbrev pub entry_of : ℕ → ℕ → Happened K D → PoolEntry K
+  entry_of pass at (happened.Answered exchange) = Single pass (Answered at (exchange_of type_of exchange))
+  entry_of pass at (happened.Requested reference) = Single pass (Requested at (reference_of type_of reference))
+  entry_of pass at happened.Reloaded = Single pass (Reloaded at)
+  entry_of pass at (happened.Finished reference ok action ran) = Single pass (Finished at (reference_of type_of reference) ok action ran)
+  entry_of pass at happened.Settled = Single pass (Settled at)
+  entry_of pass at (happened.Took taken) = SettledAndTook pass at (taken_of type_of taken)
+
+  -- what a take of a pass replies
+  abbrev pub reply_of : PoolTaken K D → Option (Taken K)
+  reply_of (takes.Lease lease) = Some (record { message = record { reference = reference_of type_of lease.reference; reason = reason_of lease.reason }; object = Some (arc_value lease.object) })
+  reply_of (takes.NotFound reference reason) = Some (record { message = record { reference = reference_of type_of reference; reason = reason_of reason }; object = None })
+  reply_of takes.Nothing = None

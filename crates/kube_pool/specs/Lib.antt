@@ -1,0 +1,4 @@
+pub mod Entries
+pub mod Desks
+pub mod Wanting
+pub mod Calls

@@ -1,0 +1,235 @@
+//! What lies under a pool's lock.
+
+ghost use Rattle.std.specs.Prelude.{◌≡◌, ◌≤◌, ◌<◌, ◌+◌, ◌^◌, [], ◌∷◌, ◌++◌, List, Bool, length, map, true, Some, IfOk, IfErr, IfSome, OnOk, OnErr, is_some};
+ghost use Rattle.std.specs.Option.{option_map};
+ghost use Rattle.std.specs.Arc.{arc_value};
+ghost use Rattle.kube_meta.specs.Keys.{reference_of};
+ghost use Rattle.kube_model.specs.ReasonView.{reason_of};
+ghost use Rattle.kube_model.specs.Store.{found};
+ghost use Rattle.kube_history.specs.CoreWorld.{CoreWorld};
+ghost use Rattle.kube_history.specs.CoreEvents.{CoreEvent, Answered, Requested, Reloaded, Finished, Settled, cache_of, next_candidate, queue_of, running_of, take_of};
+ghost use Rattle.kube_history.specs.PoolHistory.{PoolEntry, Single, SettledAndTook, events_in, has_started};
+ghost use Rattle.kube_turn.specs.Views.{exchange_of, taken_of};
+ghost use Rattle.kube_core.specs.Cores.{StandsFor};
+ghost use Rattle.kube_pool.specs.Desks.{IsRaised, MayAnswer, MayHappen, raised};
+ghost use Rattle.kube_pool.specs.Entries.{reply_of};
+ghost use Rattle.kube_pool.specs.Wanting.{IsLeftBy};
+
+use crate::event::{Happened, HistoryEvent};
+use crate::lease::{Lease, PoolTaken};
+use kube_core::Core;
+use kube_lock::Kept;
+use kube_meta::{Action, Moment, NoMemory, ObjectRef, Resource};
+use kube_turn::{SourceExchange, Taken};
+use std::alloc::Global;
+use std::marker::Model;
+use std::snapshot::Snapshot;
+use std::sync::Arc;
+
+/// There was no memory: nothing was done, or only the settle.
+#[derive(Drop)]
+pub(crate) enum Wanting {
+    Nothing,
+    Settle,
+}
+
+/// A core, with what happened to it since it was opened.
+#[derive(Drop)]
+pub struct Desk<K: Resource> {
+    core: Core<K>,
+    events: Vec<HistoryEvent<K>>,
+    opened: Snapshot<Core<K>>,
+    /// How many references were taken and not finished. The events have places for their finishes.
+    held: usize,
+}
+
+impl<K: Resource> Model for Desk<K> {
+    ghost use Rattle.std.specs.Prelude.{◌-◌, vec_len, vec_capacity};
+    ghost use Rattle.kube_pool.specs.Desks.{Desked, IsDesk};
+
+    ghost Value = { Desked K K.DynamicType };
+
+    ghost view = { λ d. record { opened = d.opened.value; entries = d.events.items; core = d.core } };
+
+    ghost invariant = { λ d. IsDesk K.type_of K.meta_of d.opened.value d.events.items (vec_capacity d.events - vec_len d.events) d.held d.core };
+}
+
+impl<K: Resource> Kept for Desk<K> {
+    ghost use Rattle.kube_history.specs.PoolHistory.{pass_of};
+    ghost use Rattle.kube_history.proofs.PoolEntries.{front};
+    ghost use Rattle.kube_pool.specs.Desks.{MayHappen};
+
+    type Entry = HistoryEvent<K>;
+
+    type Opening = Core<K>;
+
+    ghost entries = { λ d. d.entries };
+
+    ghost number = { pass_of };
+
+    ghost opened = { λ d. d.opened };
+
+    ghost legal = { MayHappen K.type_of K.meta_of };
+
+    ghost fronts = { λ opening begins rest may core h stands. front core h begins rest (may core h stands) };
+}
+
+/// The later of two moments.
+fn later(at: Moment, clock: Moment) -> Moment
+    ensures { result.0 ≡ raised at.0 clock.0 }
+{
+    if at.0 < clock.0 { clock } else { at }
+}
+
+/// The same object.
+fn share<K: Drop>(object: &Arc<K>) -> Result<Arc<K>, NoMemory>
+    ensures { IfOk result (λ o. arc_value o ≡ arc_value object.now) }
+{
+    Ok(Arc::try_clone(object)?)
+}
+
+impl<K: Resource> Desk<K> {
+    /// A core to which nothing happened yet.
+    pub(crate) fn new(alloc: Global, core: Core<K>) -> Desk<K>
+        ensures opened { result.opened ≡ core }
+        ensures core { result.core ≡ core }
+        ensures none { result.entries ≡ [] }
+    {
+        let opened = Snapshot::of(&core);
+        Desk {
+            core,
+            events: Vec::new(alloc),
+            opened,
+            held: 0,
+        }
+    }
+
+    /// The core, and what happened to it.
+    pub(crate) fn into_parts(self) -> (Core<K>, Vec<HistoryEvent<K>>)
+        ensures core { result.0 ≡ self.core }
+        ensures events { result.1.items ≡ self.entries }
+        ensures leaves { Leaves K.type_of K.meta_of self.opened self.entries self.core }
+    {
+        let Desk {
+            core,
+            events,
+            opened: _,
+            held: _,
+        } = self;
+        (core, events)
+    }
+
+    /// Takes in what a source answered.
+    ///
+    /// # Errors
+    ///
+    /// `NoMemory`, and nothing happened.
+    pub(crate) fn answer(
+        &mut self,
+        alloc: Global,
+        pass: u64,
+        exchange: SourceExchange<K>,
+        now: Moment,
+    ) -> Result<(), NoMemory>
+        requires first { pass ≡ 0 }
+        requires may { MayAnswer K.type_of K.meta_of self.old.opened self.old.entries (exchange_of K.type_of exchange) }
+        ensures opened { self.new.opened ≡ self.old.opened }
+        ensures answered { OnOk result (self.new.entries ≡ self.old.entries ++ Single pass (Answered (raised now.0 self.old.core.clock.0) (exchange_of K.type_of exchange)) ∷ []) }
+        ensures err { OnErr result (self.new.entries ≡ self.old.entries) }
+        ensures legal { MayHappen K.type_of K.meta_of self.new.opened self.new.entries }
+        ensures short { length self.new.entries < 2 ^ 64 }
+    {
+        self.events.reserve(self.held + 1)?;
+        let at = later(now, self.core.clock());
+        self.core.answer(alloc, &exchange, at)?;
+        self.events.push_reserved(HistoryEvent {
+            pass,
+            at,
+            what: Happened::Answered(exchange),
+        });
+        Ok(())
+    }
+
+    /// Requests a reference.
+    ///
+    /// # Errors
+    ///
+    /// `NoMemory`, and nothing happened.
+    pub(crate) fn request(
+        &mut self,
+        alloc: Global,
+        pass: u64,
+        reference: ObjectRef<K>,
+        now: Moment,
+    ) -> Result<(), NoMemory>
+        ensures opened { self.new.opened ≡ self.old.opened }
+        ensures requested { OnOk result (self.new.entries ≡ self.old.entries ++ Single pass (Requested (raised now.0 self.old.core.clock.0) (reference_of K.type_of reference)) ∷ []) }
+        ensures err { OnErr result (self.new.entries ≡ self.old.entries) }
+        ensures legal { MayHappen K.type_of K.meta_of self.new.opened self.new.entries }
+        ensures short { length self.new.entries < 2 ^ 64 }
+    {
+        self.events.reserve(self.held + 1)?;
+        let again = reference.copy(alloc)?;
+        let at = later(now, self.core.clock());
+        self.core.request(alloc, again, at)?;
+        self.events.push_reserved(HistoryEvent {
+            pass,
+            at,
+            what: Happened::Requested(reference),
+        });
+        Ok(())
+    }
+
+    /// Requests all that is stored.
+    ///
+    /// # Errors
+    ///
+    /// `NoMemory`, and nothing happened.
+    pub(crate) fn reload(&mut self, alloc: Global, pass: u64, now: Moment) -> Result<(), NoMemory>
+        ensures opened { self.new.opened ≡ self.old.opened }
+        ensures reloaded { OnOk result (self.new.entries ≡ self.old.entries ++ Single pass (Reloaded (raised now.0 self.old.core.clock.0)) ∷ []) }
+        ensures err { OnErr result (self.new.entries ≡ self.old.entries) }
+        ensures legal { MayHappen K.type_of K.meta_of self.new.opened self.new.entries }
+        ensures short { length self.new.entries < 2 ^ 64 }
+    {
+        self.events.reserve(self.held + 1)?;
+        let at = later(now, self.core.clock());
+        self.core.reload(alloc, at)?;
+        self.events.push_reserved(HistoryEvent {
+            pass,
+            at,
+            what: Happened::Reloaded,
+        });
+        Ok(())
+    }
+
+    /// Lets a reference run no more that this pass has taken and not finished since. It takes no memory.
+    pub(crate) fn finish(
+        &mut self,
+        pass: u64,
+        reference: ObjectRef<K>,
+        ok: bool,
+        action: Action,
+        now: Moment,
+    )
+        requires started { has_started pass (reference_of K.type_of reference) self.old.entries ≡ true }
+        ensures opened { self.new.opened ≡ self.old.opened }
+        ensures finished { (ran : Bool) × (self.new.entries ≡ self.old.entries ++ Single pass (Finished (raised now.0 self.old.core.clock.0) (reference_of K.type_of reference) ok action ran) ∷ []) }
+        ensures legal { MayHappen K.type_of K.meta_of self.new.opened self.new.entries }
+        ensures short { length self.new.entries < 2 ^ 64 }
+    {
+        let at = later(now, self.core.clock());
+        let ran = self.core.finish(&reference, ok, action, at);
+        self.held -= 1;
+        self.events.push_reserved(HistoryEvent {
+            pass,
+            at,
+            what: Happened::Finished {
+                reference,
+                ok,
+                action,
+                ran,
+            },
+        });
+    }
+}
