@@ -1,5 +1,5 @@
 -- What lies under a pool's lock: a core, with what happened to it since it was opened. K is the type of objects, D that of their dynamic types.
-use Rattle.std.specs.Prelude.{◌≡◌, ◌≤◌, ℕ, Bool, true, false, not, ◌&&◌, ◌==◌, List, [], ◌∷◌, ◌++◌, length, max, Option, Some, None, cond}
+use Rattle.std.specs.Prelude.{◌≡◌, ◌≤◌, ℕ, Bool, true, false, not, ◌&&◌, ◌==◌, List, [], ◌∷◌, ◌++◌, length, max, is_some, Option, Some, None, cond}
 use Rattle.std.specs.List.{fold}
 use Rattle.kube_meta.specs.declared.metadata.ObjectMeta.{ObjectMeta}
 use Rattle.kube_meta.specs.Reference.{ObjectType, Reference, same_reference}
@@ -40,8 +40,7 @@ module _ {O : Type 0} where
 
   abbrev pub held_with_take : ℕ → List Held → Option (Taken O) → List Held
   held_with_take pass hs None = hs
-  held_with_take pass hs (Some (record { message = m; object = None })) = hs
-  held_with_take pass hs (Some (record { message = m; object = Some o })) = hs ++ record { pass = pass; reference = m.reference } ∷ []
+  held_with_take pass hs (Some taken) = cond (is_some taken.object) (hs ++ record { pass = pass; reference = taken.message.reference } ∷ []) hs
 
   abbrev pub held_with : List Held → PoolEntry O → List Held
   held_with hs (Single pass event) = held_with_event pass hs event

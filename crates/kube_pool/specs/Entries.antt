@@ -1,5 +1,6 @@
 -- Which entry of a pool's history an event is. K is the type of objects, D that of their dynamic types.
-use Rattle.std.specs.Prelude.{ℕ, Option, Some, None, true}
+use Rattle.std.specs.Prelude.{ℕ, Bool, true, false, Option, Some, None, is_some}
+use Rattle.std.specs.Option.{option_map}
 use Rattle.std.specs.Arc.{arc_value}
 use Rattle.kube_meta.specs.Reference.{ObjectType}
 use Rattle.kube_meta.specs.Keys.{reference_of}
@@ -7,7 +8,8 @@ use Rattle.kube_model.specs.History.{Taken}
 use Rattle.kube_model.specs.ReasonView.{reason_of}
 use Rattle.kube_history.specs.CoreEvents.{CoreEvent, Answered, Requested, Reloaded, Finished, Settled}
 use Rattle.kube_history.specs.PoolHistory.{PoolEntry, Single, SettledAndTook}
-use Rattle.kube_turn.specs.Views.{exchange_of, taken_of}
+use Rattle.kube_turn.specs.Views.{exchange_of, message_of, taken_of}
+use Rattle.kube_pool.specs.declared.desk.Following.{Following}
 use Rattle.kube_pool.specs.declared.event.Happened.{Happened}
 use Rattle.kube_pool.specs.declared.event.Happened.TheVariants as happened
 use Rattle.kube_pool.specs.declared.lease.PoolTaken.{PoolTaken}
@@ -28,3 +30,12 @@ module _ {K D : Type 0} (type_of : D → ObjectType) where
   reply_of (takes.Lease lease) = Some (record { message = record { reference = reference_of type_of lease.reference; reason = reason_of lease.reason }; object = Some (arc_value lease.object) })
   reply_of (takes.NotFound reference reason) = Some (record { message = record { reference = reference_of type_of reference; reason = reason_of reason }; object = None })
   reply_of takes.Nothing = None
+
+  -- what would be taken
+  abbrev pub next_of : Following K D → Taken K
+  next_of f = record { message = message_of type_of f.request; object = option_map arc_value f.object }
+
+-- whether a take hands an object over
+abbrev pub hands_over : {O : Type 0} → Option (Taken O) → Bool
+hands_over None = false
+hands_over (Some taken) = is_some taken.object

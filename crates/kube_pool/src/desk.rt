@@ -1,18 +1,16 @@
 //! What lies under a pool's lock.
 
-ghost use Rattle.std.specs.Prelude.{◌≡◌, ◌≤◌, ◌<◌, ◌+◌, ◌^◌, [], ◌∷◌, ◌++◌, List, Bool, length, map, true, Some, IfOk, IfErr, IfSome, OnOk, OnErr, is_some};
+ghost use Rattle.std.specs.Prelude.{◌≡◌, ◌<◌, ◌^◌, [], ◌∷◌, ◌++◌, List, Bool, length, true, not, cond, Some, None, IfOk, IfErr, IfSome, OnOk, OnErr, is_some, option_copied};
 ghost use Rattle.std.specs.Option.{option_map};
 ghost use Rattle.std.specs.Arc.{arc_value};
 ghost use Rattle.kube_meta.specs.Keys.{reference_of};
-ghost use Rattle.kube_model.specs.ReasonView.{reason_of};
-ghost use Rattle.kube_model.specs.Store.{found};
 ghost use Rattle.kube_history.specs.CoreWorld.{CoreWorld};
-ghost use Rattle.kube_history.specs.CoreEvents.{CoreEvent, Answered, Requested, Reloaded, Finished, Settled, cache_of, next_candidate, queue_of, running_of, take_of};
-ghost use Rattle.kube_history.specs.PoolHistory.{PoolEntry, Single, SettledAndTook, events_in, has_started};
-ghost use Rattle.kube_turn.specs.Views.{exchange_of, taken_of};
+ghost use Rattle.kube_history.specs.CoreEvents.{CoreEvent, Answered, Requested, Reloaded, Finished, next_candidate, queue_of, running_of, take_of};
+ghost use Rattle.kube_history.specs.PoolHistory.{Single, SettledAndTook, has_started};
+ghost use Rattle.kube_turn.specs.Views.{exchange_of, message_of, taken_of};
 ghost use Rattle.kube_core.specs.Cores.{StandsFor};
-ghost use Rattle.kube_pool.specs.Desks.{IsRaised, MayAnswer, MayHappen, raised};
-ghost use Rattle.kube_pool.specs.Entries.{reply_of};
+ghost use Rattle.kube_pool.specs.Desks.{Leaves, MayAnswer, MayHappen, raised};
+ghost use Rattle.kube_pool.specs.Entries.{hands_over, next_of, reply_of};
 ghost use Rattle.kube_pool.specs.Wanting.{IsLeftBy};
 
 use crate::event::{Happened, HistoryEvent};
@@ -20,7 +18,7 @@ use crate::lease::{Lease, PoolTaken};
 use kube_core::Core;
 use kube_lock::Kept;
 use kube_meta::{Action, Moment, NoMemory, ObjectRef, Resource};
-use kube_turn::{SourceExchange, Taken};
+use kube_turn::{ReconcileRequest, SourceExchange, Taken};
 use std::alloc::Global;
 use std::marker::Model;
 use std::snapshot::Snapshot;
@@ -86,6 +84,103 @@ fn share<K: Drop>(object: &Arc<K>) -> Result<Arc<K>, NoMemory>
     ensures { IfOk result (λ o. arc_value o ≡ arc_value object.now) }
 {
     Ok(Arc::try_clone(object)?)
+}
+
+/// A message that is next, with what is stored for it.
+#[derive(Drop)]
+pub(crate) struct Following<K: Resource> {
+    request: ReconcileRequest<K>,
+    object: Option<Arc<K>>,
+}
+
+impl<K: Resource> Following<K> {
+    fn reply(self) -> PoolTaken<K>
+        ensures { reply_of K.type_of result ≡ Some (next_of K.type_of self) }
+    {
+        let Following { request, object } = self;
+        let ReconcileRequest { obj_ref, reason } = request;
+        match object {
+            Some(object) => PoolTaken::Lease(Lease {
+                reference: obj_ref,
+                reason,
+                object,
+            }),
+            None => PoolTaken::NotFound {
+                reference: obj_ref,
+                reason,
+            },
+        }
+    }
+
+    fn noted(self) -> Taken<K>
+        ensures { taken_of K.type_of result ≡ Some (next_of K.type_of self) }
+    {
+        let Following { request, object } = self;
+        let ReconcileRequest { obj_ref, reason } = request;
+        match object {
+            Some(object) => Taken::Started {
+                reference: obj_ref,
+                reason,
+                object,
+            },
+            None => Taken::NotFound {
+                reference: obj_ref,
+                reason,
+            },
+        }
+    }
+}
+
+/// A copy of a request, with the object that was found for it.
+fn copied<K: Resource>(
+    alloc: Global,
+    request: &ReconcileRequest<K>,
+    found: Option<&Arc<K>>,
+) -> Result<Following<K>, NoMemory>
+    ensures message { IfOk result (λ f. (next_of K.type_of f).message ≡ message_of K.type_of request.now) }
+    ensures object { IfOk result (λ f. (next_of K.type_of f).object ≡ option_map arc_value (option_copied found.entry)) }
+{
+    let request = request.copy(alloc)?;
+    let object = match found {
+        Some(object) => Some(share(object)?),
+        None => None,
+    };
+    Ok(Following { request, object })
+}
+
+/// Whether nothing was taken.
+fn is_nothing<K: Resource>(taken: &Taken<K>) -> bool
+    ensures { result ≡ not (is_some (taken_of K.type_of taken.now)) }
+{
+    match taken {
+        Taken::Started { .. } | Taken::NotFound { .. } => false,
+        Taken::Nothing => true,
+    }
+}
+
+/// Whether it is handed over.
+fn is_lease<K: Resource>(taken: &PoolTaken<K>) -> bool
+    ensures { result ≡ hands_over (reply_of K.type_of taken.now) }
+{
+    match taken {
+        PoolTaken::Lease(_) => true,
+        PoolTaken::NotFound { .. } | PoolTaken::Nothing => false,
+    }
+}
+
+/// What a take replies, and what is noted of it.
+fn both<K: Resource>(
+    following: Option<(Following<K>, Following<K>)>,
+    nothing: bool,
+) -> (PoolTaken<K>, Taken<K>)
+    requires { IfSome following (λ f. next_of K.type_of f.0 ≡ next_of K.type_of f.1) }
+    ensures same { taken_of K.type_of result.1 ≡ reply_of K.type_of result.0 }
+    ensures reply { reply_of K.type_of result.0 ≡ cond nothing None (option_map (λ f. next_of K.type_of f.0) following) }
+{
+    match following {
+        Some((reply, noted)) if !nothing => (reply.reply(), noted.noted()),
+        _ => (PoolTaken::Nothing, Taken::Nothing),
+    }
 }
 
 impl<K: Resource> Desk<K> {
@@ -231,5 +326,76 @@ impl<K: Resource> Desk<K> {
                 ran,
             },
         });
+    }
+
+    // What would be taken now, twice.
+    fn following(&self, alloc: Global) -> Result<Option<(Following<K>, Following<K>)>, NoMemory>
+        ensures same { IfOk result (λ o. IfSome o (λ f. next_of K.type_of f.0 ≡ next_of K.type_of f.1)) }
+        ensures next { IfOk result (λ o. (core : CoreWorld K) (es : List (CoreEvent K)) → StandsFor K.type_of K.meta_of core es self.now.core
+            → option_map (λ f. next_of K.type_of f.0) o ≡ option_map (take_of core es) (next_candidate core (queue_of core es) (running_of es))) }
+    {
+        let Some(request) = self.core.pending().candidate() else {
+            return Ok(None);
+        };
+        let found = self.core.cache().get(&request.obj_ref);
+        let one = copied(alloc, request, found)?;
+        let two = copied(alloc, request, found)?;
+        Ok(Some((one, two)))
+    }
+
+    /// Lets what is due wait, and takes the first waiting message whose reference doesn't run, with what is stored for it.
+    ///
+    /// # Errors
+    ///
+    /// Want of memory: nothing happened, or what was due waits.
+    pub(crate) fn take(
+        &mut self,
+        alloc: Global,
+        pass: u64,
+        now: Moment,
+    ) -> Result<PoolTaken<K>, Wanting>
+        ensures opened { self.new.opened ≡ self.old.opened }
+        ensures taken { IfOk result (λ t. self.new.entries ≡ self.old.entries ++ SettledAndTook pass (raised now.0 self.old.core.clock.0) (reply_of K.type_of t) ∷ []) }
+        ensures err { IfErr result (λ e. IsLeftBy e pass (raised now.0 self.old.core.clock.0) self.old.entries self.new.entries) }
+        ensures legal { MayHappen K.type_of K.meta_of self.new.opened self.new.entries }
+        ensures short { length self.new.entries < 2 ^ 64 }
+    {
+        if self.events.reserve(self.held + 2).is_err() {
+            return Err(Wanting::Nothing);
+        }
+        let at = later(now, self.core.clock());
+        self.core.settle(at);
+        let following = match self.following(alloc) {
+            Ok(following) => following,
+            Err(NoMemory) => {
+                self.events.push_reserved(HistoryEvent {
+                    pass,
+                    at,
+                    what: Happened::Settled,
+                });
+                return Err(Wanting::Settle);
+            }
+        };
+        let nothing = match self.core.take(alloc, at) {
+            Ok(taken) => is_nothing(&taken),
+            Err(NoMemory) => {
+                self.events.push_reserved(HistoryEvent {
+                    pass,
+                    at,
+                    what: Happened::Settled,
+                });
+                return Err(Wanting::Settle);
+            }
+        };
+        let (reply, noted) = both(following, nothing);
+        if is_lease(&reply) {
+            self.held += 1;
+        }
+        self.events.push_reserved(HistoryEvent {
+            pass,
+            at,
+            what: Happened::Took(noted),
+        });
+        Ok(reply)
     }
 }
