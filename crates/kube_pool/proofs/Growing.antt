@@ -1,0 +1,56 @@
+-- One event more of what lies under a pool's lock.
+use Rattle.std.proofs.Common.{◌≡◌, ℕ, List, [], ◌∷◌, ◌++◌, refl, sym, ap, subst, ◌∙◌, append_assoc, append-nil}
+use Rattle.std.specs.List.{filter, filter_map}
+use Rattle.std.proofs.lemmas.Option.{filter_map-append}
+use Rattle.kube_meta.specs.declared.metadata.ObjectMeta.{ObjectMeta}
+use Rattle.kube_meta.specs.Reference.{ObjectType}
+use Rattle.kube_history.specs.CoreWorld.{CoreWorld}
+use Rattle.kube_history.specs.CoreEvents.{CoreEvent}
+use Rattle.kube_history.specs.Legal.{AreLegal}
+use Rattle.kube_history.specs.PoolHistory.{PoolEntry, entry_events, events_in, IsOfPass, IsPoolHistory}
+use Rattle.kube_history.proofs.Calls.{legal-right}
+use Rattle.kube_history.proofs.PoolEntries.{events-push, grows}
+use Rattle.kube_core.specs.Cores.{Parts, StandsFor}
+use Rattle.kube_pool.specs.Desks.{Leaves, MayHappen}
+
+module _ {K D : Type 0} (type_of : D → ObjectType) (meta : K → ObjectMeta) where
+  -- room makes no difference to what a core stands for
+  pub stands_with : (core : CoreWorld K) (es : List (CoreEvent K)) (c : Parts K D) (n : ℕ) → StandsFor type_of meta core es c
+      → StandsFor type_of meta core es (record c { pending = record c.pending { schedule = record c.pending.schedule { spare = n } } })
+  stands_with core es c n s = record {
+    world = s.world;
+    legal = s.legal;
+    stored = s.stored;
+    pending = record {
+      limit = s.pending.limit;
+      debounce = s.pending.debounce;
+      events = s.pending.events;
+      scheduled = record { waits = s.pending.scheduled.waits; comes = s.pending.scheduled.comes };
+      seen_as = s.pending.seen_as;
+      running = s.pending.running;
+      once = s.pending.once;
+    };
+    initial = s.initial;
+    clock = s.clock;
+    shut = s.shut;
+  }
+
+  module _ (opened c c' : Parts K D) (es new : List (PoolEntry K)) (e : PoolEntry K) (is : new ≡ es ++ e ∷ []) (may : MayHappen type_of meta opened es) (leaves : Leaves type_of meta opened es c)
+      (step : (core : CoreWorld K) (h : List (CoreEvent K)) → StandsFor type_of meta core h opened → StandsFor type_of meta core (h ++ events_in es) c
+        → StandsFor type_of meta core ((h ++ events_in es) ++ entry_events e) c')
+      (passes : IsOfPass es e) where
+    after : (core : CoreWorld K) (h : List (CoreEvent K)) → StandsFor type_of meta core h opened → StandsFor type_of meta core ((h ++ events_in es) ++ entry_events e) c'
+    after core h s = step core h s (leaves core h s)
+
+    -- it is a pool's history too
+    pub may_more : MayHappen type_of meta opened new
+    may_more core h s =
+        subst (λ (l : List (PoolEntry K)). IsPoolHistory core h l) (sym is)
+        (grows core h es e (may core h s, legal-right core [] (h ++ events_in es) (entry_events e) (after core h s).legal, passes))
+
+    -- and leaves the core that is there now
+    pub leaves_more : Leaves type_of meta opened new c'
+    leaves_more core h s =
+        subst (λ (us : List (CoreEvent K)). StandsFor type_of meta core us c')
+        (append_assoc h (events_in es) (entry_events e) ∙ ap (λ us. h ++ us) (sym (events-push es e) ∙ ap events_in (sym is)))
+        (after core h s)
