@@ -122,28 +122,33 @@ module _ {O : Type 0} where
   or_left true b e = refl
   or_left false b e = absurd (false≢true e)
 
-  takes : (es : List (PoolEntry O)) (pass at : ℕ) (t : Taken O) → AreHeld es → AreHeld (es ++ SettledAndTook pass at (Some t) ∷ [])
-  takes es pass at t k p r h =
-      ap (list_any (is_held_by p r)) (held-push es (SettledAndTook pass at (Some t)))
-      ∙ go (pass == p) (same_reference t.message.reference r) (is_some t.object) refl refl refl (sym (started-push p r es (SettledAndTook pass at (Some t))) ∙ h)
+  -- an entry that takes
+  takes : (es : List (PoolEntry O)) (e : PoolEntry O) (t : Taken O) → held_with (held_in es) e ≡ held_with_take (pass_of e) (held_in es) (Some t)
+      → ((r : Reference) (b : Bool) → fold (says r) b (entry_events e) ≡ unwrap_or (if same_reference t.message.reference r then Some (is_some t.object) else None) b)
+      → AreHeld es → AreHeld (es ++ e ∷ [])
+  takes es e t adds tells k p r h =
+      ap (list_any (is_held_by p r)) (held-push es e ∙ adds)
+      ∙ go (pass_of e == p) (same_reference t.message.reference r) (is_some t.object) refl refl refl (sym (started-push p r es e) ∙ h)
     where
       new : Held
-      new = record { pass = pass; reference = t.message.reference }
+      new = record { pass = pass_of e; reference = t.message.reference }
 
       more : list_any (is_held_by p r) (held_in es) ≡ true → (o : Bool) → list_any (is_held_by p r) (cond o (held_in es ++ new ∷ []) (held_in es)) ≡ true
-      more e true = list_any-append (is_held_by p r) (held_in es) (new ∷ []) ∙ or_left (list_any (is_held_by p r) (held_in es)) (list_any (is_held_by p r) (new ∷ [])) e
-      more e false = e
+      more x true = list_any-append (is_held_by p r) (held_in es) (new ∷ []) ∙ or_left (list_any (is_held_by p r) (held_in es)) (list_any (is_held_by p r) (new ∷ [])) x
+      more x false = x
 
-      go : (b c o : Bool) → (pass == p) ≡ b → same_reference t.message.reference r ≡ c → is_some t.object ≡ o
-          → fold (says r) (has_started p r es) (if b then Settled at ∷ Took at (Some t) ∷ [] else []) ≡ true
+      go : (b c o : Bool) → (pass_of e == p) ≡ b → same_reference t.message.reference r ≡ c → is_some t.object ≡ o
+          → fold (says r) (has_started p r es) (if b then entry_events e else []) ≡ true
           → list_any (is_held_by p r) (cond (is_some t.object) (held_in es ++ new ∷ []) (held_in es)) ≡ true
-      go true true true e f g i =
+      go true true true x f g i =
           ap (λ o. list_any (is_held_by p r) (cond o (held_in es ++ new ∷ []) (held_in es))) g
           ∙ (list_any-append (is_held_by p r) (held_in es) (new ∷ [])
-          ∙ or_right (list_any (is_held_by p r) (held_in es)) (list_any (is_held_by p r) (new ∷ [])) (rw (e, f) refl))
-      go true true false e f g i = absurd (false≢true (sym (ap (λ c. unwrap_or (if c then Some (is_some t.object) else None) (has_started p r es)) f ∙ g) ∙ i))
-      go true false o e f g i = more (k p r (sym (ap (λ c. unwrap_or (if c then Some (is_some t.object) else None) (has_started p r es)) f) ∙ i)) (is_some t.object)
-      go false c o e f g i = more (k p r i) (is_some t.object)
+          ∙ or_right (list_any (is_held_by p r) (held_in es)) (list_any (is_held_by p r) (new ∷ [])) (rw (x, f) refl))
+      go true true false x f g i =
+          absurd (false≢true (sym (tells r (has_started p r es) ∙ (ap (λ c. unwrap_or (if c then Some (is_some t.object) else None) (has_started p r es)) f ∙ g)) ∙ i))
+      go true false o x f g i =
+          more (k p r (sym (tells r (has_started p r es) ∙ ap (λ c. unwrap_or (if c then Some (is_some t.object) else None) (has_started p r es)) f) ∙ i)) (is_some t.object)
+      go false c o x f g i = more (k p r i) (is_some t.object)
 
   step : (es : List (PoolEntry O)) (e : PoolEntry O) → AreHeld es → AreHeld (es ++ e ∷ [])
   step es (Single pass (Finished at g ok action ran)) k = finishes es pass at g ok action ran k
@@ -152,10 +157,10 @@ module _ {O : Type 0} where
   step es (Single pass (Reloaded at)) k = quiet es (Single pass (Reloaded at)) (λ r b i. i) refl k
   step es (Single pass (Settled at)) k = quiet es (Single pass (Settled at)) (λ r b i. i) refl k
   step es (Single pass (Took at None)) k = quiet es (Single pass (Took at None)) (λ r b i. i) refl k
-  step es (Single pass (Took at (Some t))) k = ?
+  step es (Single pass (Took at (Some t))) k = takes es (Single pass (Took at (Some t))) t refl (λ r b. refl) k
   step es (Single pass (Shut at)) k = quiet es (Single pass (Shut at)) (λ r b i. i) refl k
   step es (SettledAndTook pass at None) k = quiet es (SettledAndTook pass at None) (λ r b i. i) refl k
-  step es (SettledAndTook pass at (Some t)) k = takes es pass at t k
+  step es (SettledAndTook pass at (Some t)) k = takes es (SettledAndTook pass at (Some t)) t refl (λ r b. refl) k
 
   steps : (before es : List (PoolEntry O)) → AreHeld before → AreHeld (before ++ es)
   steps before [] k = subst AreHeld (sym (append-nil before)) k

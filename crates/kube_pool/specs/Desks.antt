@@ -29,18 +29,18 @@ let_go pass r [] = []
 let_go pass r (h ∷ hs) = cond (is_held_by pass r h) hs (h ∷ let_go pass r hs)
 
 module _ {O : Type 0} where
+  abbrev pub held_with_take : ℕ → List Held → Option (Taken O) → List Held
+  held_with_take pass hs None = hs
+  held_with_take pass hs (Some taken) = cond (is_some taken.object) (hs ++ record { pass = pass; reference = taken.message.reference } ∷ []) hs
+
   abbrev pub held_with_event : ℕ → List Held → CoreEvent O → List Held
   held_with_event pass hs (Finished at reference ok action ran) = let_go pass reference hs
   held_with_event pass hs (Answered at exchange) = hs
   held_with_event pass hs (Requested at reference) = hs
   held_with_event pass hs (Reloaded at) = hs
   held_with_event pass hs (Settled at) = hs
-  held_with_event pass hs (Took at taken) = hs
+  held_with_event pass hs (Took at taken) = held_with_take pass hs taken
   held_with_event pass hs (Shut at) = hs
-
-  abbrev pub held_with_take : ℕ → List Held → Option (Taken O) → List Held
-  held_with_take pass hs None = hs
-  held_with_take pass hs (Some taken) = cond (is_some taken.object) (hs ++ record { pass = pass; reference = taken.message.reference } ∷ []) hs
 
   abbrev pub held_with : List Held → PoolEntry O → List Held
   held_with hs (Single pass event) = held_with_event pass hs event
