@@ -17,7 +17,7 @@ module _ {E P : Type 0} (number : E → ℕ) (Legal : List E → Type 0) (pass t
   pub turn_seen : turn.seen ≡ log
   turn_seen = ap (λ (t : Passing E P). t.seen) entered
 
-  pub adds : (new : List E) (x : E) (after : Passing E P) → new ≡ log ++ x ∷ [] → calls_of number pass.number log ≡ pass.own → Legal new
+  abbrev pub adds : (new : List E) (x : E) (after : Passing E P) → new ≡ log ++ x ∷ [] → calls_of number pass.number log ≡ pass.own → Legal new
       → ((y : E) → new ≡ turn.seen ++ y ∷ [] → after ≡ record turn { seen = new; own = turn.own ++ y ∷ [] })
       → (calls_of number turn.number turn.seen ≡ turn.own → calls_of number after.number after.seen ≡ after.own) → Adds number Legal pass x after
   adds new x after is own legal gives keeps =

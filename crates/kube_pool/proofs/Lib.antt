@@ -1,3 +1,4 @@
 pub mod Growing
 pub mod Held
 pub mod Answers
+pub mod Calling

@@ -69,6 +69,12 @@ module _ {K D : Type 0} (type_of : D → ObjectType) (meta : K → ObjectMeta) w
   abbrev pub IsRaised : Parts K D → List (PoolEntry K) → ℕ → ℕ → Type 0
   IsRaised opened before now at = (core : CoreWorld K) (h : List (CoreEvent K)) → StandsFor type_of meta core h opened → at ≡ raised now (clock_of (h ++ events_in before))
 
+  -- one entry more, at a moment that was raised to the clock
+  pub record IsNoted (opened : Parts K D) (now : ℕ) (before : List (PoolEntry K)) (entry : ℕ → PoolEntry K) (after : List (PoolEntry K)) : Type 0 where
+    pub at : ℕ
+    pub is : after ≡ before ++ entry at ∷ []
+    pub raised_to : IsRaised opened before now at
+
   -- an exchange that may be answered after those of the opened core and these
   abbrev pub MayAnswer : Parts K D → List (PoolEntry K) → Exchange K → Type 0
   MayAnswer opened own x = (core : CoreWorld K) (h : List (CoreEvent K)) → StandsFor type_of meta core h opened → MayBeAnswered core (answers_in (h ++ events_in own)) x

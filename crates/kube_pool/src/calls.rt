@@ -6,7 +6,7 @@ ghost use Rattle.kube_history.specs.CoreEvents.{Answered, Requested, Reloaded, F
 ghost use Rattle.kube_history.specs.PoolHistory.{Single, SettledAndTook, has_started};
 ghost use Rattle.kube_turn.specs.Views.{exchange_of};
 ghost use Rattle.kube_lock.specs.Passes.{IsPassOf};
-ghost use Rattle.kube_pool.specs.Calls.{HasCalled, HasSeen, HasSeenOrSettled};
+ghost use Rattle.kube_pool.specs.Calls.{HasCalled, HasSeen, HasSeenOrSettled, IsStarted, StillHolds};
 ghost use Rattle.kube_pool.specs.Desks.{MayAnswer};
 ghost use Rattle.kube_pool.specs.Entries.{reply_of};
 
@@ -35,6 +35,7 @@ impl<K: Resource> Pool<K> {
     ) -> Result<(Pass<K>, PoolTaken<K>), (Pass<K>, NoMemory)>
         requires pass { IsPassOf self.now pass }
         ensures taken { IfOk result (λ r. HasCalled K.type_of K.meta_of self.now.opening now.0 pass (λ at. SettledAndTook pass.number at (reply_of K.type_of r.1)) r.0) }
+        ensures started { IfOk result (λ r. IsStarted K.type_of r.1 r.0) }
         ensures err { IfErr result (λ r. HasSeenOrSettled K.type_of K.meta_of self.now.opening now.0 pass r.0) }
     {
         let number = pass.number();
@@ -90,6 +91,7 @@ impl<K: Resource> Pool<K> {
         requires first { pass.number ≡ 0 }
         requires may { MayAnswer K.type_of K.meta_of self.now.opening pass.own (exchange_of K.type_of exchange) }
         ensures answered { IfOk result (λ after. HasCalled K.type_of K.meta_of self.now.opening now.0 pass (λ at. Single pass.number (Answered at (exchange_of K.type_of exchange))) after) }
+        ensures holds { IfOk result (λ after. StillHolds pass after) }
         ensures err { IfErr result (λ r. HasSeen K.type_of K.meta_of self.now.opening pass r.0) }
     {
         let number = pass.number();
@@ -115,6 +117,7 @@ impl<K: Resource> Pool<K> {
     ) -> Result<Pass<K>, (Pass<K>, NoMemory)>
         requires pass { IsPassOf self.now pass }
         ensures requested { IfOk result (λ after. HasCalled K.type_of K.meta_of self.now.opening now.0 pass (λ at. Single pass.number (Requested at (reference_of K.type_of reference))) after) }
+        ensures holds { IfOk result (λ after. StillHolds pass after) }
         ensures err { IfErr result (λ r. HasSeen K.type_of K.meta_of self.now.opening pass r.0) }
     {
         let number = pass.number();
@@ -139,6 +142,7 @@ impl<K: Resource> Pool<K> {
     ) -> Result<Pass<K>, (Pass<K>, NoMemory)>
         requires pass { IsPassOf self.now pass }
         ensures reloaded { IfOk result (λ after. HasCalled K.type_of K.meta_of self.now.opening now.0 pass (λ at. Single pass.number (Reloaded at)) after) }
+        ensures holds { IfOk result (λ after. StillHolds pass after) }
         ensures err { IfErr result (λ r. HasSeen K.type_of K.meta_of self.now.opening pass r.0) }
     {
         let number = pass.number();

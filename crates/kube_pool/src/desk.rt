@@ -9,7 +9,7 @@ ghost use Rattle.kube_history.specs.CoreEvents.{CoreEvent, Answered, Requested, 
 ghost use Rattle.kube_history.specs.PoolHistory.{Single, SettledAndTook, has_started};
 ghost use Rattle.kube_turn.specs.Views.{exchange_of, message_of, taken_of};
 ghost use Rattle.kube_core.specs.Cores.{StandsFor};
-ghost use Rattle.kube_pool.specs.Desks.{Leaves, MayAnswer, MayHappen, raised};
+ghost use Rattle.kube_pool.specs.Desks.{IsNoted, Leaves, MayAnswer, MayHappen, raised};
 ghost use Rattle.kube_pool.specs.Entries.{hands_over, next_of, reply_of};
 ghost use Rattle.kube_pool.specs.Wanting.{IsLeftBy};
 
@@ -229,7 +229,7 @@ impl<K: Resource> Desk<K> {
         requires first { pass ≡ 0 }
         requires may { MayAnswer K.type_of K.meta_of self.old.opened self.old.entries (exchange_of K.type_of exchange) }
         ensures opened { self.new.opened ≡ self.old.opened }
-        ensures answered { OnOk result (self.new.entries ≡ self.old.entries ++ Single pass (Answered (raised now.0 self.old.core.clock.0) (exchange_of K.type_of exchange)) ∷ []) }
+        ensures answered { OnOk result (IsNoted K.type_of K.meta_of self.old.opened now.0 self.old.entries (λ at. Single pass (Answered at (exchange_of K.type_of exchange))) self.new.entries) }
         ensures err { OnErr result (self.new.entries ≡ self.old.entries) }
         ensures legal { MayHappen K.type_of K.meta_of self.new.opened self.new.entries }
         ensures short { length self.new.entries < 2 ^ 64 }
@@ -258,7 +258,7 @@ impl<K: Resource> Desk<K> {
         now: Moment,
     ) -> Result<(), NoMemory>
         ensures opened { self.new.opened ≡ self.old.opened }
-        ensures requested { OnOk result (self.new.entries ≡ self.old.entries ++ Single pass (Requested (raised now.0 self.old.core.clock.0) (reference_of K.type_of reference)) ∷ []) }
+        ensures requested { OnOk result (IsNoted K.type_of K.meta_of self.old.opened now.0 self.old.entries (λ at. Single pass (Requested at (reference_of K.type_of reference))) self.new.entries) }
         ensures err { OnErr result (self.new.entries ≡ self.old.entries) }
         ensures legal { MayHappen K.type_of K.meta_of self.new.opened self.new.entries }
         ensures short { length self.new.entries < 2 ^ 64 }
@@ -282,7 +282,7 @@ impl<K: Resource> Desk<K> {
     /// `NoMemory`, and nothing happened.
     pub(crate) fn reload(&mut self, alloc: Global, pass: u64, now: Moment) -> Result<(), NoMemory>
         ensures opened { self.new.opened ≡ self.old.opened }
-        ensures reloaded { OnOk result (self.new.entries ≡ self.old.entries ++ Single pass (Reloaded (raised now.0 self.old.core.clock.0)) ∷ []) }
+        ensures reloaded { OnOk result (IsNoted K.type_of K.meta_of self.old.opened now.0 self.old.entries (λ at. Single pass (Reloaded at)) self.new.entries) }
         ensures err { OnErr result (self.new.entries ≡ self.old.entries) }
         ensures legal { MayHappen K.type_of K.meta_of self.new.opened self.new.entries }
         ensures short { length self.new.entries < 2 ^ 64 }
@@ -309,7 +309,7 @@ impl<K: Resource> Desk<K> {
     )
         requires started { has_started pass (reference_of K.type_of reference) self.old.entries ≡ true }
         ensures opened { self.new.opened ≡ self.old.opened }
-        ensures finished { (ran : Bool) × (self.new.entries ≡ self.old.entries ++ Single pass (Finished (raised now.0 self.old.core.clock.0) (reference_of K.type_of reference) ok action ran) ∷ []) }
+        ensures finished { (ran : Bool) × IsNoted K.type_of K.meta_of self.old.opened now.0 self.old.entries (λ at. Single pass (Finished at (reference_of K.type_of reference) ok action ran)) self.new.entries }
         ensures legal { MayHappen K.type_of K.meta_of self.new.opened self.new.entries }
         ensures short { length self.new.entries < 2 ^ 64 }
     {
@@ -355,8 +355,8 @@ impl<K: Resource> Desk<K> {
         now: Moment,
     ) -> Result<PoolTaken<K>, Wanting>
         ensures opened { self.new.opened ≡ self.old.opened }
-        ensures taken { IfOk result (λ t. self.new.entries ≡ self.old.entries ++ SettledAndTook pass (raised now.0 self.old.core.clock.0) (reply_of K.type_of t) ∷ []) }
-        ensures err { IfErr result (λ e. IsLeftBy e pass (raised now.0 self.old.core.clock.0) self.old.entries self.new.entries) }
+        ensures taken { IfOk result (λ t. IsNoted K.type_of K.meta_of self.old.opened now.0 self.old.entries (λ at. SettledAndTook pass at (reply_of K.type_of t)) self.new.entries) }
+        ensures err { IfErr result (λ e. IsLeftBy K.type_of K.meta_of e self.old.opened now.0 pass self.old.entries self.new.entries) }
         ensures legal { MayHappen K.type_of K.meta_of self.new.opened self.new.entries }
         ensures short { length self.new.entries < 2 ^ 64 }
     {
