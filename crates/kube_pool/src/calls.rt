@@ -36,6 +36,8 @@ impl<K: Resource> Pool<K> {
         requires pass { IsPassOf self.now pass }
         ensures taken { IfOk result (λ r. HasCalled K.type_of K.meta_of self.now.opening now.0 pass (λ at. SettledAndTook pass.number at (reply_of K.type_of r.1)) r.0) }
         ensures started { IfOk result (λ r. IsStarted K.type_of r.1 r.0) }
+        ensures theirs { IfOk result (λ r. IsPassOf self.now r.0) }
+        ensures theirs_still { IfErr result (λ r. IsPassOf self.now r.0) }
         ensures err { IfErr result (λ r. HasSeenOrSettled K.type_of K.meta_of self.now.opening now.0 pass r.0) }
     {
         let number = pass.number();
@@ -60,7 +62,8 @@ impl<K: Resource> Pool<K> {
     ) -> Pass<K>
         requires pass { IsPassOf self.now pass }
         requires started { has_started pass.number (reference_of K.type_of lease.reference) pass.own ≡ true }
-        ensures { (ran : Bool) × HasCalled K.type_of K.meta_of self.now.opening now.0 pass (λ at. Single pass.number (Finished at (reference_of K.type_of lease.reference) ok action ran)) result }
+        ensures finished { (ran : Bool) × HasCalled K.type_of K.meta_of self.now.opening now.0 pass (λ at. Single pass.number (Finished at (reference_of K.type_of lease.reference) ok action ran)) result }
+        ensures theirs { IsPassOf self.now result }
     {
         let Lease {
             reference,
@@ -91,6 +94,8 @@ impl<K: Resource> Pool<K> {
         requires first { pass.number ≡ 0 }
         requires may { MayAnswer K.type_of K.meta_of self.now.opening pass.own (exchange_of K.type_of exchange) }
         ensures answered { IfOk result (λ after. HasCalled K.type_of K.meta_of self.now.opening now.0 pass (λ at. Single pass.number (Answered at (exchange_of K.type_of exchange))) after) }
+        ensures theirs { IfOk result (λ after. IsPassOf self.now after) }
+        ensures theirs_still { IfErr result (λ r. IsPassOf self.now r.0) }
         ensures holds { IfOk result (λ after. StillHolds pass after) }
         ensures err { IfErr result (λ r. HasSeen K.type_of K.meta_of self.now.opening pass r.0) }
     {
@@ -117,6 +122,8 @@ impl<K: Resource> Pool<K> {
     ) -> Result<Pass<K>, (Pass<K>, NoMemory)>
         requires pass { IsPassOf self.now pass }
         ensures requested { IfOk result (λ after. HasCalled K.type_of K.meta_of self.now.opening now.0 pass (λ at. Single pass.number (Requested at (reference_of K.type_of reference))) after) }
+        ensures theirs { IfOk result (λ after. IsPassOf self.now after) }
+        ensures theirs_still { IfErr result (λ r. IsPassOf self.now r.0) }
         ensures holds { IfOk result (λ after. StillHolds pass after) }
         ensures err { IfErr result (λ r. HasSeen K.type_of K.meta_of self.now.opening pass r.0) }
     {
@@ -142,6 +149,8 @@ impl<K: Resource> Pool<K> {
     ) -> Result<Pass<K>, (Pass<K>, NoMemory)>
         requires pass { IsPassOf self.now pass }
         ensures reloaded { IfOk result (λ after. HasCalled K.type_of K.meta_of self.now.opening now.0 pass (λ at. Single pass.number (Reloaded at)) after) }
+        ensures theirs { IfOk result (λ after. IsPassOf self.now after) }
+        ensures theirs_still { IfErr result (λ r. IsPassOf self.now r.0) }
         ensures holds { IfOk result (λ after. StillHolds pass after) }
         ensures err { IfErr result (λ r. HasSeen K.type_of K.meta_of self.now.opening pass r.0) }
     {
