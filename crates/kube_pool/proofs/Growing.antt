@@ -1,5 +1,5 @@
 -- One event more of what lies under a pool's lock.
-use Rattle.std.proofs.Common.{◌≡◌, ℕ, List, [], ◌∷◌, ◌++◌, refl, sym, ap, subst, ◌∙◌, append_assoc, append-nil}
+use Rattle.std.proofs.Common.{◌≡◌, ◌≤◌, ℕ, length, List, [], ◌∷◌, ◌++◌, refl, sym, ap, subst, ◌∙◌, append_assoc, append-nil}
 use Rattle.std.specs.List.{filter, filter_map}
 use Rattle.std.proofs.lemmas.Option.{filter_map-append}
 use Rattle.kube_meta.specs.declared.metadata.ObjectMeta.{ObjectMeta}
@@ -11,7 +11,8 @@ use Rattle.kube_history.specs.PoolHistory.{PoolEntry, entry_events, events_in, I
 use Rattle.kube_history.proofs.Calls.{legal-right}
 use Rattle.kube_history.proofs.PoolEntries.{events-push, grows}
 use Rattle.kube_core.specs.Cores.{Parts, StandsFor}
-use Rattle.kube_pool.specs.Desks.{Leaves, MayHappen}
+use Rattle.kube_pool.specs.Desks.{IsDesk, Leaves, MayHappen, held_in, held_with}
+use Rattle.kube_pool.proofs.Held.{held-push}
 
 module _ {K D : Type 0} (type_of : D → ObjectType) (meta : K → ObjectMeta) where
   -- room makes no difference to what a core stands for
@@ -54,3 +55,23 @@ module _ {K D : Type 0} (type_of : D → ObjectType) (meta : K → ObjectMeta) w
         subst (λ (us : List (CoreEvent K)). StandsFor type_of meta core us c')
         (append_assoc h (events_in es) (entry_events e) ∙ ap (λ us. h ++ us) (sym (events-push es e) ∙ ap events_in (sym is)))
         (after core h s)
+
+  -- the same, with other places
+  pub still : (opened c c' : Parts K D) (es es' : List (PoolEntry K)) (places places' held : ℕ) → IsDesk type_of meta opened es places held c → es' ≡ es → c' ≡ c → held ≤ places'
+      → IsDesk type_of meta opened es' places' held c'
+  still opened c c' es es' places places' held d e f h =
+      subst (λ (l : List (PoolEntry K)). IsDesk type_of meta opened l places' held c') (sym e)
+      (subst (λ (x : Parts K D). IsDesk type_of meta opened es places' held x) (sym f)
+      (record { may = d.may; leaves = d.leaves; counts = d.counts; places_enough = h }))
+
+  -- one event more, which starts and finishes nothing
+  pub noted : (opened c c' : Parts K D) (es new : List (PoolEntry K)) (e : PoolEntry K) (places places' held : ℕ) → new ≡ es ++ e ∷ [] → IsDesk type_of meta opened es places held c
+      → ((core : CoreWorld K) (h : List (CoreEvent K)) → StandsFor type_of meta core h opened → StandsFor type_of meta core (h ++ events_in es) c
+        → StandsFor type_of meta core ((h ++ events_in es) ++ entry_events e) c')
+      → IsOfPass es e → held_with (held_in es) e ≡ held_in es → held ≤ places' → IsDesk type_of meta opened new places' held c'
+  noted opened c c' es new e places places' held is d step passes same h = record {
+    may = may_more opened c c' es new e is d.may d.leaves step passes;
+    leaves = leaves_more opened c c' es new e is d.may d.leaves step passes;
+    counts = d.counts ∙ ap length (sym (ap held_in is ∙ (held-push es e ∙ same)));
+    places_enough = h;
+  }

@@ -1,4 +1,4 @@
-pub mod Growing
 pub mod Held
+pub mod Growing
 pub mod Answers
 pub mod Calling

@@ -1,6 +1,6 @@
 //! What a pass of a pool does.
 
-ghost use Rattle.std.specs.Prelude.{◌≡◌, ◌×◌, Bool, true, IfOk, IfErr};
+ghost use Rattle.std.specs.Prelude.{◌≡◌, Bool, true, IfOk, IfErr};
 ghost use Rattle.kube_meta.specs.Keys.{reference_of};
 ghost use Rattle.kube_history.specs.CoreEvents.{Answered, Requested, Reloaded, Finished};
 ghost use Rattle.kube_history.specs.PoolHistory.{Single, SettledAndTook, has_started};

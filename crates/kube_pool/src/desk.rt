@@ -231,8 +231,8 @@ impl<K: Resource> Desk<K> {
         ensures opened { self.new.opened ≡ self.old.opened }
         ensures answered { OnOk result (IsNoted K.type_of K.meta_of self.old.opened now.0 self.old.entries (λ at. Single pass (Answered at (exchange_of K.type_of exchange))) self.new.entries) }
         ensures err { OnErr result (self.new.entries ≡ self.old.entries) }
-        ensures legal { MayHappen K.type_of K.meta_of self.new.opened self.new.entries }
-        ensures short { length self.new.entries < 2 ^ 64 }
+        ensures legal { OnOk result (MayHappen K.type_of K.meta_of self.new.opened self.new.entries) }
+        ensures short { OnOk result (length self.new.entries < 2 ^ 64) }
     {
         self.events.reserve(self.held + 1)?;
         let at = later(now, self.core.clock());
@@ -260,8 +260,8 @@ impl<K: Resource> Desk<K> {
         ensures opened { self.new.opened ≡ self.old.opened }
         ensures requested { OnOk result (IsNoted K.type_of K.meta_of self.old.opened now.0 self.old.entries (λ at. Single pass (Requested at (reference_of K.type_of reference))) self.new.entries) }
         ensures err { OnErr result (self.new.entries ≡ self.old.entries) }
-        ensures legal { MayHappen K.type_of K.meta_of self.new.opened self.new.entries }
-        ensures short { length self.new.entries < 2 ^ 64 }
+        ensures legal { OnOk result (MayHappen K.type_of K.meta_of self.new.opened self.new.entries) }
+        ensures short { OnOk result (length self.new.entries < 2 ^ 64) }
     {
         self.events.reserve(self.held + 1)?;
         let again = reference.copy(alloc)?;
@@ -284,8 +284,8 @@ impl<K: Resource> Desk<K> {
         ensures opened { self.new.opened ≡ self.old.opened }
         ensures reloaded { OnOk result (IsNoted K.type_of K.meta_of self.old.opened now.0 self.old.entries (λ at. Single pass (Reloaded at)) self.new.entries) }
         ensures err { OnErr result (self.new.entries ≡ self.old.entries) }
-        ensures legal { MayHappen K.type_of K.meta_of self.new.opened self.new.entries }
-        ensures short { length self.new.entries < 2 ^ 64 }
+        ensures legal { OnOk result (MayHappen K.type_of K.meta_of self.new.opened self.new.entries) }
+        ensures short { OnOk result (length self.new.entries < 2 ^ 64) }
     {
         self.events.reserve(self.held + 1)?;
         let at = later(now, self.core.clock());

@@ -1,6 +1,6 @@
 //! Pools, and how one is opened.
 
-ghost use Rattle.std.specs.Prelude.{◌≡◌, ◌≤◌, IfOk, IfErr};
+ghost use Rattle.std.specs.Prelude.{◌≡◌, ◌≤◌, length, IfOk, IfErr};
 ghost use Rattle.std.specs.List.{AllByRecursion};
 ghost use Rattle.kube_lock.specs.Passes.{HaveMet, IsPassOf, dealt_all};
 ghost use Rattle.kube_pool.specs.Desks.{MayHappen};
