@@ -1,7 +1,5 @@
 -- One event more of what lies under a pool's lock.
 use Rattle.std.proofs.Common.{◌≡◌, ◌≤◌, ℕ, length, List, [], ◌∷◌, ◌++◌, refl, sym, ap, subst, ◌∙◌, append_assoc, append-nil}
-use Rattle.std.specs.List.{filter, filter_map}
-use Rattle.std.proofs.lemmas.Option.{filter_map-append}
 use Rattle.kube_meta.specs.declared.metadata.ObjectMeta.{ObjectMeta}
 use Rattle.kube_meta.specs.Reference.{ObjectType}
 use Rattle.kube_history.specs.CoreWorld.{CoreWorld}
@@ -63,6 +61,13 @@ module _ {K D : Type 0} (type_of : D → ObjectType) (meta : K → ObjectMeta) w
       subst (λ (l : List (PoolEntry K)). IsDesk type_of meta opened l places' held c') (sym e)
       (subst (λ (x : Parts K D). IsDesk type_of meta opened es places' held x) (sym f)
       (record { may = d.may; leaves = d.leaves; counts = d.counts; places_enough = h }))
+
+  -- room in the core makes no difference
+  pub roomy : (opened c c' : Parts K D) (es : List (PoolEntry K)) (places held n : ℕ) → IsDesk type_of meta opened es places held c → c' ≡ record c { pending = record c.pending { schedule = record c.pending.schedule { spare = n } } }
+      → IsDesk type_of meta opened es places held c'
+  roomy opened c c' es places held n d e =
+      subst (λ (x : Parts K D). IsDesk type_of meta opened es places held x) (sym e)
+      (record { may = d.may; leaves = λ core h s. stands_with core (h ++ events_in es) c n (d.leaves core h s); counts = d.counts; places_enough = d.places_enough })
 
   -- one event more, which starts and finishes nothing
   pub noted : (opened c c' : Parts K D) (es new : List (PoolEntry K)) (e : PoolEntry K) (places places' held : ℕ) → new ≡ es ++ e ∷ [] → IsDesk type_of meta opened es places held c

@@ -7,7 +7,7 @@ use Rattle.std.proofs.lemmas.List.Folds.{list_any-append}
 use Rattle.std.proofs.lemmas.List.Sums.{fold-append}
 use Rattle.kube_meta.specs.Reference.{Reference, same_reference}
 use Rattle.kube_model.specs.History.{Taken}
-use Rattle.kube_model.proofs.Stores as stores
+use Rattle.kube_meta.specs.ReferenceLaws.{same_reference_equiv}
 use Rattle.kube_history.specs.CoreEvents.{CoreEvent, Answered, Requested, Reloaded, Finished, Settled, Took, Shut}
 use Rattle.kube_history.specs.PoolHistory.{PoolEntry, Single, SettledAndTook, pass_of, entry_events, events_in, events_by, says_of, has_started}
 use Rattle.kube_history.proofs.PoolEntries.{events-append}
@@ -16,6 +16,18 @@ use Rattle.kube_pool.specs.Desks.{Held, held_in, held_with, held_with_event, hel
 and_parts : (a b : Bool) → (a && b) ≡ true → (a ≡ true) × (b ≡ true)
 and_parts true b e = (refl, e)
 and_parts false b e = (cc, cc)
+
+-- two references that a third equals are equal
+two_alike : (a g r : Reference) → same_reference a g ≡ true → same_reference a r ≡ true → same_reference g r ≡ true
+two_alike a g r e f = sym (same_reference_equiv.congr a g r e) ∙ f
+
+or_right : (a b : Bool) → b ≡ true → (a || b) ≡ true
+or_right true b e = refl
+or_right false b e = e
+
+or_left : (a b : Bool) → a ≡ true → (a || b) ≡ true
+or_left true b e = refl
+or_left false b e = absurd (false≢true e)
 
 -- ---- what is let go
 
@@ -91,10 +103,6 @@ module _ {O : Type 0} where
       go true i = f r (has_started p r es) i
       go false i = i
 
-  -- two references that a third equals are equal
-  two_alike : (a g r : Reference) → same_reference a g ≡ true → same_reference a r ≡ true → same_reference g r ≡ true
-  two_alike a g r e f = sym (stores.alike a g r e) ∙ f
-
   finishes : (es : List (PoolEntry O)) (pass at : ℕ) (g : Reference) (ok : Bool) (action : Option ℕ) (ran : Bool) → AreHeld es → AreHeld (es ++ Single pass (Finished at g ok action ran) ∷ [])
   finishes es pass at g ok action ran k p r h =
       ap (list_any (is_held_by p r)) (held-push es (Single pass (Finished at g ok action ran)))
@@ -113,14 +121,6 @@ module _ {O : Type 0} where
             (λ x y z. let u = and_parts (x.pass == pass) (same_reference x.reference g) y in let v = and_parts (x.pass == p) (same_reference x.reference r) z in
               false≢true (sym e ∙ eq-eqb pass p (sym (eqb-true x.pass pass u.0) ∙ eqb-true x.pass p v.0)))
             (k p r i)
-
-  or_right : (a b : Bool) → b ≡ true → (a || b) ≡ true
-  or_right true b e = refl
-  or_right false b e = e
-
-  or_left : (a b : Bool) → a ≡ true → (a || b) ≡ true
-  or_left true b e = refl
-  or_left false b e = absurd (false≢true e)
 
   -- an entry that takes
   takes : (es : List (PoolEntry O)) (e : PoolEntry O) (t : Taken O) → held_with (held_in es) e ≡ held_with_take (pass_of e) (held_in es) (Some t)
