@@ -1,5 +1,5 @@
 -- One event more of what lies under a pool's lock.
-use Rattle.std.proofs.Common.{◌≡◌, ◌≤◌, ℕ, length, List, [], ◌∷◌, ◌++◌, refl, sym, ap, subst, ◌∙◌, append_assoc, append-nil}
+use Rattle.std.proofs.Common.{◌≡◌, ◌≤◌, ◌+◌, ℕ, arith, length, List, [], ◌∷◌, ◌++◌, refl, sym, ap, subst, ◌∙◌, append_assoc, append-nil}
 use Rattle.kube_meta.specs.declared.metadata.ObjectMeta.{ObjectMeta}
 use Rattle.kube_meta.specs.Reference.{ObjectType}
 use Rattle.kube_history.specs.CoreWorld.{CoreWorld}
@@ -80,3 +80,18 @@ module _ {K D : Type 0} (type_of : D → ObjectType) (meta : K → ObjectMeta) w
     counts = d.counts ∙ ap length (sym (ap held_in is ∙ (held-push es e ∙ same)));
     places_enough = h;
   }
+
+  -- one event more, after which so many are held
+  pub ended : (opened c c' : Parts K D) (es new : List (PoolEntry K)) (e : PoolEntry K) (places places' held held' : ℕ) → new ≡ es ++ e ∷ [] → IsDesk type_of meta opened es places held c
+      → ((core : CoreWorld K) (h : List (CoreEvent K)) → StandsFor type_of meta core h opened → StandsFor type_of meta core (h ++ events_in es) c
+        → StandsFor type_of meta core ((h ++ events_in es) ++ entry_events e) c')
+      → IsOfPass es e → length (held_in es) ≡ length (held_with (held_in es) e) + 1 → held ≡ held' + 1 → held' ≤ places' → IsDesk type_of meta opened new places' held' c'
+  ended opened c c' es new e places places' held held' is d step passes one less h =
+      let was : held ≡ length (held_in es) = d.counts in
+      let now : held' ≡ length (held_with (held_in es) e) = omega arith in
+      record {
+        may = may_more opened c c' es new e is d.may d.leaves step passes;
+        leaves = leaves_more opened c c' es new e is d.may d.leaves step passes;
+        counts = now ∙ ap length (sym (ap held_in is ∙ held-push es e));
+        places_enough = h;
+      }

@@ -168,3 +168,8 @@ module _ {O : Type 0} where
 
   pub started_held : (es : List (PoolEntry O)) → AreHeld es
   started_held es = steps [] es (λ p r h. absurd (false≢true h))
+
+  -- a finish lets one go
+  pub finish_lets_go : (es : List (PoolEntry O)) (pass at : ℕ) (g : Reference) (ok : Bool) (action : Option ℕ) (ran : Bool) → has_started pass g es ≡ true
+      → length (held_in es) ≡ length (held_with {O = O} (held_in es) (Single pass (Finished at g ok action ran))) + 1
+  finish_lets_go es pass at g ok action ran h = let_go_one pass g (held_in es) (started_held es pass g h)
