@@ -1,5 +1,5 @@
 -- What passes hold: what a pass has started and not finished is held, and its finish lets it go.
-use Rattle.std.proofs.Common.{◌≡◌, ◌⊎◌, inl, inr, ℕ, zero, suc, ◌+◌, ◌==◌, Bool, true, false, cond, ◌&&◌, ◌||◌, List, [], ◌∷◌, ◌++◌, length, Option, Some, None, is_some, unwrap_or, if◌then◌else◌, refl, sym, ap, subst, ◌∙◌, append_assoc, append-nil, arith}
+use Rattle.std.proofs.Common.{◌≡◌, ◌⊎◌, inl, inr, ℕ, zero, suc, ◌+◌, ◌<◌, ◌==◌, Bool, true, false, cond, ◌&&◌, ◌||◌, List, [], ◌∷◌, ◌++◌, length, Option, Some, None, is_some, unwrap_or, if◌then◌else◌, refl, sym, ap, subst, ◌∙◌, append_assoc, append-nil, arith}
 use Rattle.std.specs.List.{filter, filter_map, fold, last_or, cons_option, list_any}
 use Rattle.std.proofs.lemmas.Bool.{false≢true, eqb-true, eq-eqb}
 use Rattle.std.proofs.lemmas.List.Elements.{filter-append}
@@ -173,3 +173,7 @@ module _ {O : Type 0} where
   pub finish_lets_go : (es : List (PoolEntry O)) (pass at : ℕ) (g : Reference) (ok : Bool) (action : Option ℕ) (ran : Bool) → has_started pass g es ≡ true
       → length (held_in es) ≡ length (held_with {O = O} (held_in es) (Single pass (Finished at g ok action ran))) + 1
   finish_lets_go es pass at g ok action ran h = let_go_one pass g (held_in es) (started_held es pass g h)
+
+  -- what is started is held, so something is
+  pub one_held : (es : List (PoolEntry O)) (pass : ℕ) (g : Reference) → has_started pass g es ≡ true → 0 < length (held_in es)
+  one_held es pass g h = let k : length (held_in es) ≡ length (let_go pass g (held_in es)) + 1 = let_go_one pass g (held_in es) (started_held es pass g h) in omega arith
