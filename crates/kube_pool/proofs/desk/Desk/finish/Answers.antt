@@ -11,7 +11,7 @@ pub overflow_sub-self : goal.overflow_sub-self
 overflow_sub-self g c =
     let d = c.self.inside in
     let r = reference_of g.K.Resource.type_of c.args.reference in
-    let started = subst (λ t. has_started c.args.pass r t.entries ≡ true) (sym c.self.view_is) c.requires in
+    let started = subst (λ t. has_started c.args.pass r t.entries ≡ true) (sym c.self.view_is) c.requires.started in
     let some : 0 < length (held_in d.events.items) = one_held d.events.items c.args.pass r started in
     omega arith
 
@@ -19,7 +19,7 @@ pub push_reserved-requires : goal.push_reserved-requires
 push_reserved-requires g c =
     let d = c.self.inside in
     let r = reference_of g.K.Resource.type_of c.args.reference in
-    let started = subst (λ t. has_started c.args.pass r t.entries ≡ true) (sym c.self.view_is) c.requires in
+    let started = subst (λ t. has_started c.args.pass r t.entries ≡ true) (sym c.self.view_is) c.requires.started in
     let some : 0 < length (held_in d.events.items) = one_held d.events.items c.args.pass r started in
     omega arith
 
@@ -31,7 +31,7 @@ invariant_of-self g c =
     let at = c.later-at.result.0 in
     let r = reference_of type_of c.args.reference in
     let x = Single c.args.pass (Finished at r c.args.ok c.args.action c.finish-ran.result) in
-    let started = subst (λ t. has_started c.args.pass r t.entries ≡ true) (sym c.self.view_is) c.requires in
+    let started = subst (λ t. has_started c.args.pass r t.entries ≡ true) (sym c.self.view_is) c.requires.started in
     let some : 0 < length (held_in d.events.items) = one_held d.events.items c.args.pass r started in
     let one = finish_lets_go d.events.items c.args.pass at r c.args.ok c.args.action c.finish-ran.result started in
     ended type_of meta d.opened.value d.core c.finish-ran.new.self d.events.items c.push_reserved.new.self.items x _ _ d.held _

@@ -1,0 +1,31 @@
+use Rattle.std.proofs.Common.{[], ◌∷◌, ◌++◌, sym, ap, subst, ◌∙◌}
+use Rattle.kube_meta.specs.Keys.{reference_of}
+use Rattle.kube_turn.specs.Views.{exchange_of}
+use Rattle.kube_history.specs.CoreEvents.{Answered}
+use Rattle.kube_history.specs.PoolHistory.{Single}
+use Rattle.kube_pool.specs.Desks.{MayHappen}
+use Rattle.kube_pool.specs.Calls.{HasCalled}
+use Rattle.kube_pool.proofs.Calling.{called}
+use Rattle.kube_pool.proofs.calls.Pool.answer.Goals as goal
+
+pub commit-requires-clause-entry : goal.commit-requires-clause-entry
+commit-requires-clause-entry g c =
+    let e = c.enter-turn.ensures in
+    let n = c.in-Ok.ensures.answered in
+    let at = n.at in
+    let x = Single c.number-number.result (Answered at (exchange_of g.K.Resource.type_of c.args.exchange)) in (
+      x,
+      n.is ∙ ap (λ l. l ++ x ∷ []) (sym (ap (λ t. t.seen) e.turn)),
+      c.number-number.ensures ∙ sym (ap (λ t. t.number) e.turn),
+    )
+
+pub returns-in-Ok-clause-answered : goal.returns-in-Ok-clause-answered
+returns-in-Ok-clause-answered g c =
+    let type_of = g.K.Resource.type_of in
+    let meta = g.K.Resource.meta_of in
+    let e = c.enter-turn.ensures in
+    let opened = c.args.self.now.opening in
+    let legal = subst (λ o. MayHappen type_of meta o c.answer.new.self.entries) (c.in-Ok.ensures.opened ∙ e.opened) c.in-Ok.ensures.legal in
+    subst (λ n. HasCalled type_of meta opened c.args.now.0 c.args.pass (λ at. Single n (Answered at (exchange_of g.K.Resource.type_of c.args.exchange))) c.commit.result) c.number-number.ensures
+    (called type_of meta opened c.args.now.0 c.args.pass c.enter-turn.result.0 c.enter-turn.result.1.entries e.seen e.turn c.answer.new.self.entries (λ at. Single c.number-number.result (Answered at (exchange_of g.K.Resource.type_of c.args.exchange))) c.commit.result
+    c.in-Ok.ensures.answered e.own legal c.commit.ensures.pass c.commit.ensures.own)

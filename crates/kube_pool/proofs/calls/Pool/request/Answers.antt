@@ -1,0 +1,31 @@
+use Rattle.std.proofs.Common.{[], ◌∷◌, ◌++◌, sym, ap, subst, ◌∙◌}
+use Rattle.kube_meta.specs.Keys.{reference_of}
+use Rattle.kube_turn.specs.Views.{exchange_of}
+use Rattle.kube_history.specs.CoreEvents.{Requested}
+use Rattle.kube_history.specs.PoolHistory.{Single}
+use Rattle.kube_pool.specs.Desks.{MayHappen}
+use Rattle.kube_pool.specs.Calls.{HasCalled}
+use Rattle.kube_pool.proofs.Calling.{called}
+use Rattle.kube_pool.proofs.calls.Pool.request.Goals as goal
+
+pub commit-requires-clause-entry : goal.commit-requires-clause-entry
+commit-requires-clause-entry g c =
+    let e = c.enter-turn.ensures in
+    let n = c.in-Ok.ensures.requested in
+    let at = n.at in
+    let x = Single c.number-number.result (Requested at (reference_of g.K.Resource.type_of c.args.reference)) in (
+      x,
+      n.is ∙ ap (λ l. l ++ x ∷ []) (sym (ap (λ t. t.seen) e.turn)),
+      c.number-number.ensures ∙ sym (ap (λ t. t.number) e.turn),
+    )
+
+pub returns-in-Ok-clause-requested : goal.returns-in-Ok-clause-requested
+returns-in-Ok-clause-requested g c =
+    let type_of = g.K.Resource.type_of in
+    let meta = g.K.Resource.meta_of in
+    let e = c.enter-turn.ensures in
+    let opened = c.args.self.now.opening in
+    let legal = subst (λ o. MayHappen type_of meta o c.request.new.self.entries) (c.in-Ok.ensures.opened ∙ e.opened) c.in-Ok.ensures.legal in
+    subst (λ n. HasCalled type_of meta opened c.args.now.0 c.args.pass (λ at. Single n (Requested at (reference_of g.K.Resource.type_of c.args.reference))) c.commit.result) c.number-number.ensures
+    (called type_of meta opened c.args.now.0 c.args.pass c.enter-turn.result.0 c.enter-turn.result.1.entries e.seen e.turn c.request.new.self.entries (λ at. Single c.number-number.result (Requested at (reference_of g.K.Resource.type_of c.args.reference))) c.commit.result
+    c.in-Ok.ensures.requested e.own legal c.commit.ensures.pass c.commit.ensures.own)
