@@ -177,3 +177,11 @@ module _ {O : Type 0} where
   -- what is started is held, so something is
   pub one_held : (es : List (PoolEntry O)) (pass : ℕ) (g : Reference) → has_started pass g es ≡ true → 0 < length (held_in es)
   one_held es pass g h = let k : length (held_in es) ≡ length (let_go pass g (held_in es)) + 1 = let_go_one pass g (held_in es) (started_held es pass g h) in omega arith
+
+  -- an entry that says nothing of what is started leaves it so
+  pub quiet_still : (p : ℕ) (r : Reference) (es : List (PoolEntry O)) (e : PoolEntry O) → ((b : Bool) → fold (says r) b (entry_events e) ≡ b) → has_started p r es ≡ true → has_started p r (es ++ e ∷ []) ≡ true
+  quiet_still p r es e f h = started-push p r es e ∙ (go (pass_of e == p) ∙ h)
+    where
+      go : (b : Bool) → fold (says r) (has_started p r es) (if b then entry_events e else []) ≡ has_started p r es
+      go true = f (has_started p r es)
+      go false = refl
