@@ -6,7 +6,8 @@ use Rattle.kube_history.specs.PoolHistory.{Single}
 use Rattle.kube_pool.specs.Desks.{IsNoted, MayHappen}
 use Rattle.kube_history.specs.PoolHistory.{pass_of}
 use Rattle.kube_pool.proofs.Held.{quiet_still}
-use Rattle.kube_pool.specs.Calls.{HasCalled}
+use Rattle.kube_pool.specs.Calls.{HasCalled, HasSeen}
+use Rattle.kube_lock.proofs.Calling.{sees}
 use Rattle.kube_pool.proofs.Calling.{called, holds, theirs}
 use Rattle.kube_pool.proofs.pool.Pool.answer.Goals as goal
 
@@ -27,8 +28,8 @@ returns-in-Ok-clause-answered g c =
     let meta = g.K.Resource.meta_of in
     let e = c.enter-turn.ensures in
     let opened = c.args.self.now.opening in
-    let noted = subst (λ o. IsNoted type_of meta o c.args.now.0 c.enter-turn.result.1.entries (λ at. Single c.number-number.result (Answered at (exchange_of g.K.Resource.type_of c.args.exchange))) c.answer.new.self.entries) e.opened c.in-Ok.ensures.answered in
-    let legal = subst (λ o. MayHappen type_of meta o c.answer.new.self.entries) (c.in-Ok.ensures.opened ∙ e.opened) c.in-Ok.ensures.legal in
+    let noted = subst (λ o. IsNoted type_of meta o c.args.now.0 c.enter-turn.result.1.entries (λ at. Single c.number-number.result (Answered at (exchange_of g.K.Resource.type_of c.args.exchange))) c.answer.new.self.entries) (e.opened ∙ ap (λ l. l.opening) c.self.view_is) c.in-Ok.ensures.answered in
+    let legal = subst (λ o. MayHappen type_of meta o c.answer.new.self.entries) (c.in-Ok.ensures.opened ∙ (e.opened ∙ ap (λ l. l.opening) c.self.view_is)) c.in-Ok.ensures.legal in
     subst (λ n. HasCalled type_of meta opened c.args.now.0 c.args.pass (λ at. Single n (Answered at (exchange_of g.K.Resource.type_of c.args.exchange))) c.commit.result) c.number-number.ensures
     (called type_of meta opened c.args.now.0 c.args.pass c.enter-turn.result.0 c.enter-turn.result.1.entries e.seen e.turn c.answer.new.self.entries (λ at. Single c.number-number.result (Answered at (exchange_of g.K.Resource.type_of c.args.exchange))) c.commit.result
     noted e.own legal c.commit.ensures.pass c.commit.ensures.own)
@@ -46,3 +47,11 @@ pub returns-in-Ok-clause-holds : goal.returns-in-Ok-clause-holds
 returns-in-Ok-clause-holds g c =
     holds g.K.Resource.type_of g.K.Resource.meta_of c.args.self.now.opening c.args.now.0 c.args.pass c.commit.result (λ at. Single c.args.pass.number (Answered at (exchange_of g.K.Resource.type_of c.args.exchange))) (returns-in-Ok-clause-answered g c)
     (λ r own h. quiet_still c.args.pass.number r own _ (λ b. refl) h)
+
+pub returns-in-Err-clause-err : goal.returns-in-Err-clause-err
+returns-in-Err-clause-err g c =
+    let e = c.enter-turn.ensures in
+    let type_of = g.K.Resource.type_of in
+    let meta = g.K.Resource.meta_of in
+    subst (λ l. HasSeen type_of meta l.opening c.args.pass c.leave.result) c.self.view_is
+    (sees pass_of (MayHappen type_of meta c.self.inside.lock.opening) c.args.pass c.enter-turn.result.0 c.enter-turn.result.1.entries e.seen e.turn c.leave.result e.own e.legal c.leave.ensures)
