@@ -54,4 +54,4 @@ returns-in-Err-clause-err g c =
     let type_of = g.K.Resource.type_of in
     let meta = g.K.Resource.meta_of in
     subst (λ l. HasSeen type_of meta l.opening c.args.pass c.leave.result) c.self.view_is
-    (sees pass_of (MayHappen type_of meta c.self.inside.lock.opening) c.args.pass c.enter-turn.result.0 c.enter-turn.result.1.entries e.seen e.turn c.leave.result e.own e.legal c.leave.ensures)
+    (sees pass_of (MayHappen type_of meta c.self.inside.lock.opening) c.args.pass c.enter-turn.result.0 c.enter-turn.result.1.entries e.seen e.turn c.leave.result e.own e.legal c.leave.ensures.pass)

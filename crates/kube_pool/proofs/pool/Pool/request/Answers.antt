@@ -41,7 +41,7 @@ commit-requires-clause-legal g c =
 
 pub returns-in-Ok-clause-theirs : goal.returns-in-Ok-clause-theirs
 returns-in-Ok-clause-theirs g c =
-    theirs g.K.Resource.type_of g.K.Resource.meta_of c.args.self.now.opening c.args.now.0 c.args.pass c.commit.result (λ at. Single c.args.pass.number (Requested at (reference_of g.K.Resource.type_of c.args.reference))) (returns-in-Ok-clause-requested g c) c.args.self.now c.requires
+    theirs g.K.Resource.type_of g.K.Resource.meta_of c.args.self.now.opening c.args.now.0 c.args.pass c.commit.result (λ at. Single c.args.pass.number (Requested at (reference_of g.K.Resource.type_of c.args.reference))) (returns-in-Ok-clause-requested g c) c.args.self.now c.requires.pass
 
 pub returns-in-Ok-clause-holds : goal.returns-in-Ok-clause-holds
 returns-in-Ok-clause-holds g c =
@@ -54,4 +54,4 @@ returns-in-Err-clause-err g c =
     let type_of = g.K.Resource.type_of in
     let meta = g.K.Resource.meta_of in
     subst (λ l. HasSeen type_of meta l.opening c.args.pass c.leave.result) c.self.view_is
-    (sees pass_of (MayHappen type_of meta c.self.inside.lock.opening) c.args.pass c.enter-turn.result.0 c.enter-turn.result.1.entries e.seen e.turn c.leave.result e.own e.legal c.leave.ensures)
+    (sees pass_of (MayHappen type_of meta c.self.inside.lock.opening) c.args.pass c.enter-turn.result.0 c.enter-turn.result.1.entries e.seen e.turn c.leave.result e.own e.legal c.leave.ensures.pass)
