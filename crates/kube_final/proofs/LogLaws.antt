@@ -64,6 +64,6 @@ module _ (talk : Connection DynamicObject → Option (List (Raw DynamicObject)))
 pub deletion-makes : {O V A W : Type 0} (objects : Objects O V) (reply_meta : V → ObjectMeta) (api : Api A W) (meta : W → ObjectMeta) (uid : Option (List ℕ)) (now fuel : ℕ) (before after : O) (old new : Deleting A W)
     (answer : Next (Result (Unit {0}) Error)) (makes : O → O → Type 0) → ((o : O) → makes o o) → ((at : ℕ) (raw : ObjectRaw V) (o p : O) → objects.moves o at raw p → makes o p)
     → IsDeletedBy objects reply_meta api meta now fuel uid before old answer after new → makes before after
-deletion-makes objects reply_meta api meta (Some uid) now fuel before after old new answer makes still moved h = subst (λ o. makes before o) (sym h.0) (still before)
-deletion-makes objects reply_meta api meta None now fuel before after old new answer makes still moved h =
+deletion-makes objects reply_meta watched meta (Some uid) now fuel before after old new answer makes still moved h = subst (λ o. makes before o) (sym h.0) (still before)
+deletion-makes objects reply_meta watched meta None now fuel before after old new answer makes still moved h =
     moved now (record { call = DeleteAsked old.name; answer = h.1.answer }) before after h.1.moved
