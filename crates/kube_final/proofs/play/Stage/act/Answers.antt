@@ -1,7 +1,8 @@
 use Rattle.std.proofs.Common.{◌≡◌, ◌<◌, ◌^◌, length, Some, None, slice_get, map, true, ap, sym, subst, ◌∙◌}
 use Rattle.kube_api.specs.Patches.{operation_of}
 use Rattle.kube_final.specs.Lives.{may_follow, state_after}
-use Rattle.kube_final.specs.Playing.{IsPatchOf, Serves, stage_reference}
+use Rattle.kube_final.specs.Finalizers.{replacement}
+use Rattle.kube_final.specs.Playing.{IsAnswered, IsPatchOf, Serves, stage_reference}
 use Rattle.kube_final.specs.Played.{IsStepAsked}
 use Rattle.kube_final.proofs.Asking.{asked-as}
 use Rattle.kube_final.proofs.Sights.{arrived-as, none-arrives, on-ok, sent-there, short-there}
@@ -47,3 +48,12 @@ pub arrive-requires : goal.arrive-requires
 arrive-requires c =
     let there : slice_get c.args.self.now.sent.items c.in-Arrive.send ≡ Some c.in-Some.patch.now = ap (λ vs. slice_get vs c.in-Arrive.send) (sym c.as_slice-in-Arrive.ensures.value) ∙ sym c.in-Some.ensures in
     subst (λ os. length os < 2 ^ 32) (sym c.as_slice-in-Some.ensures.value) (short-there c.args.self.now.sent.items c.in-Arrive.send c.in-Some.patch.now c.requires there)
+
+pub returns-in-Other-clause-asked : goal.returns-in-Other-clause-asked
+returns-in-Other-clause-asked c =
+    let name = c.args.self.now.name in
+    let r = stage_reference c.args.self.now in
+    on-ok c.change.result _ _ (λ a p k m.
+    subst (λ step. IsStepAsked name p step r c.args.self.now.server c.change.new.server) (sym c.in-Other.is)
+    (subst (λ names. IsAnswered c.args.self.now.server c.change.new.server r (replacement names)) c.as_slice.ensures a))
+    c.change.ensures.asked
