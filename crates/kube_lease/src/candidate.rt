@@ -50,14 +50,14 @@ fn greater(a: Option<Claim>, b: Claim) -> Claim
 
 /// A candidate for the lease of a name.
 ///
-/// It reads no clock: `now` is the server's moment, or one that is never ahead of it.
+/// It reads no clock: `now` is the server's moment. One behind it would let a candidate act past its claim.
 #[derive(Drop)]
 pub struct Candidate {
-    pub(crate) id: Text,
-    pub(crate) lease: Text,
-    pub(crate) duration: u64,
-    pub(crate) seen: Option<LeaseView>,
-    pub(crate) claim: Option<Claim>,
+    id: Text,
+    lease: Text,
+    duration: u64,
+    seen: Option<LeaseView>,
+    claim: Option<Claim>,
 }
 
 impl Model for Candidate {
