@@ -3,8 +3,10 @@
 ghost use Rattle.std.specs.Prelude.{◌≡◌, IfOk, Ok, Some, map};
 ghost use Rattle.std.specs.Arc.{arc_value};
 ghost use Rattle.kube_api.specs.Answers.{list_answer, event_answer, next_answer};
+ghost use Rattle.kube_api.specs.Patches.{operation_of};
 
 use crate::event::{Bookmark, Page, WatchEvent};
+use crate::patch::Patch;
 use kube_meta::text::copy_option;
 use kube_meta::{List, NoMemory, Polled};
 use kube_model::error::{ApiError, Status};
@@ -133,4 +135,35 @@ pub fn copy_given<K: Drop>(
         Ok(event) => Ok(copy_event(alloc, event)?),
         Err(error) => Err(copy_error(alloc, error)?),
     })
+}
+
+fn copy_operation(alloc: Global, operation: &Patch) -> Result<Patch, NoMemory>
+    ensures { IfOk result (λ o. operation_of o ≡ operation_of operation.now) }
+{
+    Ok(match operation {
+        Patch::Test { path, value } => Patch::Test {
+            path: path.copy(alloc)?,
+            value: value.clone()?,
+        },
+        Patch::Add { path, value } => Patch::Add {
+            path: path.copy(alloc)?,
+            value: value.clone()?,
+        },
+        Patch::Remove { path } => Patch::Remove {
+            path: path.copy(alloc)?,
+        },
+    })
+}
+
+/// An equal patch in memory of its own.
+///
+/// Errors: `NoMemory`.
+pub fn copy_patch(alloc: Global, patch: &[Patch]) -> Result<Vec<Patch>, NoMemory>
+    ensures { IfOk result (λ v. map operation_of v.items ≡ map operation_of patch.now) }
+{
+    let mut all = Vec::new(alloc);
+    for operation in patch {
+        all.push(copy_operation(alloc, operation)?)?;
+    }
+    Ok(all)
 }

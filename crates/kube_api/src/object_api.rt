@@ -31,7 +31,7 @@ pub enum DeleteAnswer<V: Drop> {
 ///
 /// Want of memory takes nothing from what the API tells.
 pub trait ObjectApi: Drop {
-    ghost use Rattle.std.specs.Prelude.{ℕ, ◌^◌, ◌-◌, List, Option, None, length, map, IfOk, OnErr, ◌≡◌, ◌≤◌, ◌<◌};
+    ghost use Rattle.std.specs.Prelude.{ℕ, ◌^◌, ◌-◌, List, Option, None, length, map, IfOk, OnErr, ⊤, ◌≡◌, ◌≤◌, ◌<◌};
     ghost use Rattle.serde_json.specs.Data.{Data};
     ghost use Rattle.kube_model.specs.Raw.{grown, FaultRose};
     ghost use Rattle.kube_api.specs.Patches.{operation_of};
@@ -49,6 +49,14 @@ pub trait ObjectApi: Drop {
     /// How often a call failed. Where it doesn't say so the count stands at its end, at which it need not rise.
     ghost faults: { Self → ℕ } = { λ _. 2 ^ 64 - 1 };
 
+    /// What a call with its answer, at a moment in nanoseconds, makes of the API, where it says so: the API before it, the
+    /// moment, the call with its answer, the API after it. Where it doesn't say so that may be anything.
+    ghost moves: { Self → ℕ → ObjectRaw Self.Value → Self → Type 0 } = { λ _ _ _ _. ⊤ };
+
+    /// What a call that had no memory leaves of the API, where it says so: the API before it, and after it. Where it doesn't
+    /// say so that may be anything.
+    ghost rests: { Self → Self → Type 0 } = { λ _ _. ⊤ };
+
     /// Patches the object of a name, all or none.
     ///
     /// Errors: `NoMemory`, and the API has told nothing. A refusal and a fault of the API are answers.
@@ -63,6 +71,8 @@ pub trait ObjectApi: Drop {
         ensures grows { IfOk result (λ a. talk self.new ≡ grown (talk self.old) (record { call = PatchAsked name.now (map operation_of patch.now); answer = patch_answer a })) }
         ensures unchanged { OnErr result (talk self.new ≡ talk self.old) }
         ensures kept { OnErr result (held self.new ≡ held self.old) }
+        ensures rests { OnErr result (rests self.old self.new) }
+        ensures moves { IfOk result (λ a. moves self.old now.0 (record { call = PatchAsked name.now (map operation_of patch.now); answer = patch_answer a }) self.new) }
         ensures refused { IfOk result (λ a. RefusedAs (held self.old) name.now (map operation_of patch.now) (patch_answer a)) }
         ensures no_memory { IfOk result (λ a. IsNotMemory (patch_answer a)) }
         ensures stays { IfOk result (λ a. IsKept (patch_answer a) (held self.old) (held self.new)) }
@@ -81,6 +91,8 @@ pub trait ObjectApi: Drop {
         ensures grows { IfOk result (λ a. talk self.new ≡ grown (talk self.old) (record { call = DeleteAsked name.now; answer = delete_answer a })) }
         ensures unchanged { OnErr result (talk self.new ≡ talk self.old) }
         ensures kept { OnErr result (held self.new ≡ held self.old) }
+        ensures rests { OnErr result (rests self.old self.new) }
+        ensures moves { IfOk result (λ a. moves self.old now.0 (record { call = DeleteAsked name.now; answer = delete_answer a }) self.new) }
         ensures missing { IfOk result (λ a. MissingAs (held self.old) name.now (delete_answer a)) }
         ensures stays { IfOk result (λ a. IsKept (delete_answer a) (held self.old) (held self.new)) }
         ensures faults { IfOk result (λ a. FaultRose (is_object_fault (delete_answer a)) (faults self.old) (faults self.new)) }

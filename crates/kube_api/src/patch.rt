@@ -137,7 +137,10 @@ fn passes(alloc: Global, document: &Value, path: &Text, value: &Value) -> Result
     }
 }
 
-fn is_equal(alloc: Global, left: &Value, right: &Value) -> Result<bool, NoMemory>
+/// Whether values are equal, as a patch's test has it.
+///
+/// Errors: `NoMemory`.
+pub fn is_equal(alloc: Global, left: &Value, right: &Value) -> Result<bool, NoMemory>
     ensures { IfOk result (λ equal. equal ≡ is_equal_data (view left.now) (view right.now)) }
 {
     if holds_fraction(left) || holds_fraction(right) {

@@ -24,4 +24,4 @@ comes_to meta_of (Ready (Fault error)) = (_, refl)
 pub lost_still : {O V A W : Type 0} (objects : Objects O V) (reply_meta : V → ObjectMeta) (api : Api A W) (meta_of : W → ObjectMeta) (now fuel : ℕ) (uid : Option (List ℕ)) (before after : O) (old new : Deleting A W)
     → after ≡ before → new.watch ≡ old.watch → IsLostBy objects reply_meta api meta_of now fuel uid before old after new
 lost_still objects reply_meta api meta_of now fuel (Some uid) before after old new same watch = (same, inl watch)
-lost_still objects reply_meta api meta_of now fuel None before after old new same watch = inl (inl (ap objects.talk same, ap objects.held same), watch)
+lost_still objects reply_meta api meta_of now fuel None before after old new same watch = inl (inl (ap objects.talk same, ap objects.held same, inl same), watch)

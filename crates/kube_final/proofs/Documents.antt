@@ -127,12 +127,12 @@ list-found uid version None (Some d) = refl
 list-found uid version (Some t) None = refl
 list-found uid version (Some t) (Some d) = refl
 
-name-there : (names : List (List ℕ)) (i : ℕ) → get_item i (items_of (map string names)) ≡ option_map string (slice_get names i)
+pub name-there : (names : List (List ℕ)) (i : ℕ) → get_item i (items_of (map string names)) ≡ option_map string (slice_get names i)
 name-there [] i = refl
 name-there (n ∷ ns) zero = refl
 name-there (n ∷ ns) (suc i) = name-there ns i
 
-found-rest : (o : Option Data) → option_and_then (found_by []) o ≡ o
+pub found-rest : (o : Option Data) → option_and_then (found_by []) o ≡ o
 found-rest None = refl
 found-rest (Some d) = refl
 
@@ -163,7 +163,7 @@ pub pushed : (names : List (List ℕ)) (d : Data) → inserted_item (items_len (
 pushed [] d = refl
 pushed (n ∷ ns) d = rw (pushed ns d) refl
 
-map-push : (names : List (List ℕ)) (n : List ℕ) → map string (names ++ n ∷ []) ≡ map string names ++ string n ∷ []
+pub map-push : (names : List (List ℕ)) (n : List ℕ) → map string (names ++ n ∷ []) ≡ map string names ++ string n ∷ []
 map-push [] n = refl
 map-push (m ∷ ms) n = ap (λ l. string m ∷ l) (map-push ms n)
 
@@ -173,7 +173,7 @@ unfolding unescape
 end-put uid version None names n = rw (pushed names (string n), map-push names n) refl
 end-put uid version (Some t) names n = rw (pushed names (string n), map-push names n) refl
 
-taken : (names : List (List ℕ)) (i : ℕ) (n : List ℕ) → slice_get names i ≡ Some n → removed_item i (items_of (map string names)) ≡ Some (items_of (map string (remove names i)))
+pub taken : (names : List (List ℕ)) (i : ℕ) (n : List ℕ) → slice_get names i ≡ Some n → removed_item i (items_of (map string names)) ≡ Some (items_of (map string (remove names i)))
 taken [] i n e = cc
 taken (m ∷ ms) zero n e = refl
 taken (m ∷ ms) (suc i) n e = rw (taken ms i n e) refl

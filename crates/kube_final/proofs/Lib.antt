@@ -8,3 +8,8 @@ pub mod Documents
 pub mod Patching
 pub mod Staging
 pub mod Sights
+pub mod Asking
+pub mod LogLaws
+pub mod Lent
+pub mod MemberChanges
+pub mod AnyObject

@@ -15,7 +15,7 @@ use Rattle.kube_final.specs.declared.finalizer.Decision.TheVariants.{Apply, Clea
 use Rattle.kube_final.specs.declared.life.LifeStep.{LifeStep}
 use Rattle.kube_final.specs.declared.life.LifeStep.TheVariants.{Other, RequestDelete, Decide, ApplyStarts, CleanupStarts, CleanupEnds, Send, Arrive}
 use Rattle.kube_final.specs.declared.life.LifeState.{LifeState}
-use Rattle.kube_final.specs.Finalizers.{decided, place_of}
+use Rattle.kube_final.specs.Finalizers.{decided, first_index}
 use Rattle.kube_final.specs.Lives.{Decided, Past, after, applies, arrived, beginning, cleaned_by, cleans, count_of, decided_on, decision_at, decision_of, decisions_after, ends_cleanup, is_among, is_at, is_empty, is_life, is_life_from, is_made, is_name, may_follow, may_send, others_in, past_of, patched_by, same_names, sent_by, starts_apply, state_after, state_at, state_of, with_decision}
 
 -- ---- truth values, lists
@@ -92,7 +92,7 @@ applies_counts name deleting (Some j) names xs p e = found_counts name xs 0 j p
 
 -- an Apply is decided only where the name is there
 decided_counts : (name : List ℕ) (s : LifeState) → applies (decided_on name s).decision ≡ true → 0 < count_of name s.finalizers
-decided_counts name s e = applies_counts name s.deleting (place_of name s.finalizers) s.finalizers s.finalizers refl e
+decided_counts name s e = applies_counts name s.deleting (first_index name s.finalizers) s.finalizers s.finalizers refl e
 
 -- ---- patches leave the others as they are
 

@@ -21,21 +21,25 @@ no-floats : (names : List (List ℕ)) → items_have_float (items_of (map string
 no-floats [] = refl
 no-floats (n ∷ ns) = no-floats ns
 
-null-test : (names : List (List ℕ)) → passes null (list_of names) ≡ is_empty names
+pub null-test : (names : List (List ℕ)) → passes null (list_of names) ≡ is_empty names
 null-test [] = refl
 null-test (n ∷ ns) = rw (no-floats ns) refl
 
-seen-test : (s : List ℕ) (ss names : List (List ℕ)) → passes (names_data (s ∷ ss)) (list_of names) ≡ same_names (s ∷ ss) names
+pub seen-test : (s : List ℕ) (ss names : List (List ℕ)) → passes (names_data (s ∷ ss)) (list_of names) ≡ same_names (s ∷ ss) names
 seen-test s ss [] = refl
 seen-test s ss (n ∷ ns) = rw (no-floats ns, no-floats ss) (list-test (n ∷ ns) (s ∷ ss))
 
-name-test : (name : List ℕ) (found : Option (List ℕ)) → passes (string name) (option_map string found) ≡ is_at name found
+pub name-test : (name : List ℕ) (found : Option (List ℕ)) → passes (string name) (option_map string found) ≡ is_at name found
 name-test name None = refl
 name-test name (Some other) = text-test other name
 
+pub found-name : (name : List ℕ) (found : Option (List ℕ)) → is_at name found ≡ true → (n : List ℕ) × (found ≡ Some n)
+found-name name None h = absurd (true≢false (sym h))
+found-name name (Some n) h = (n, refl)
+
 -- ---- a test and a change
 
-two-steps : (b : Bool) (p q : List ℕ) (v : Data) (change : Change) (before after : Data) → passes v (found_at p before) ≡ b
+pub two-steps : (b : Bool) (p q : List ℕ) (v : Data) (change : Change) (before after : Data) → passes v (found_at p before) ≡ b
     → (b ≡ true → changed_at change q before ≡ Some after) → (b ≡ true → stays before after ≡ true)
     → patched (Tests p v ∷ Changes q change ∷ []) before ≡ cond b (Ok after) (Err (TestFailed 0))
 two-steps true p q v change before after test changes stays = rw (test, changes refl, stays refl) refl
@@ -49,10 +53,6 @@ module _ (uid version : List ℕ) (deleted : Option (List ℕ)) where
 
   abbrev pub after : List (List ℕ) → Data
   after names = document uid version deleted (Some (names_data names))
-
-  found-name : (name : List ℕ) (found : Option (List ℕ)) → is_at name found ≡ true → (n : List ℕ) × (found ≡ Some n)
-  found-name name None h = absurd (true≢false (sym h))
-  found-name name (Some n) h = (n, refl)
 
   item-there : (names : List (List ℕ)) (i : ℕ) (n : List ℕ) → slice_get names i ≡ Some n → with names ≡ after names
   item-there [] i n e = cc

@@ -1,7 +1,8 @@
 -- What a stage keeps of a life, step by step.
-use Rattle.std.proofs.Common.{◌≡◌, inl, inr, ℕ, suc, zero, ◌<◌, ◌&&◌, List, [], ◌∷◌, ◌++◌, map, length, slice_get, ◌≤◌, Option, Some, None, Result, Ok, Err, Bool, true, false, not, is_some, OnOk, IfOk, refl, sym, ap, ◌∙◌, subst, true≢false, append-nil, arith}
-use Rattle.std.specs.Prelude.{unwrap_or, nat_lt, drop, fold}
-use Rattle.std.proofs.lemmas.List.{drop_all}
+use Rattle.std.proofs.Common.{◌≡◌, inl, inr, ℕ, suc, zero, ◌<◌, ◌^◌, ◌&&◌, List, [], ◌∷◌, ◌++◌, map, length, slice_get, ◌≤◌, Option, Some, None, Result, Ok, Err, Bool, true, false, not, is_some, OnOk, IfOk, refl, sym, ap, ◌∙◌, subst, true≢false, append-nil, arith}
+use Rattle.std.specs.Prelude.{unwrap_or, nat_lt, drop, fold, take}
+use Rattle.std.proofs.lemmas.List.Sums.{fold-append}
+use Rattle.std.proofs.lemmas.List.{drop_all, length-map}
 use Rattle.std.proofs.lemmas.Bool.Decides.{nat_tests}
 use Rattle.std.specs.Arc.{arc_value}
 use Rattle.std.specs.declared.alloc.Global.{Global}
@@ -9,9 +10,8 @@ use Rattle.std.specs.declared.sync.Arc.{Arc}
 use Rattle.std.specs.declared.vec.Vec.{Vec}
 use Rattle.kube_meta.specs.declared.dynamic.DynamicObject.{DynamicObject}
 use Rattle.kube_meta.specs.Reading.{ObjectData, seen_object, unless_empty}
-use Rattle.kube_meta.specs.Keys.{reference_of}
 use Rattle.kube_meta.specs.Reference.{Reference}
-use Rattle.kube_meta.specs.Resources.{resource_type}
+use Rattle.kube_meta.specs.Resources.{dynamic_reference}
 use Rattle.kube_api.specs.declared.patch.Patch.{Patch}
 use Rattle.kube_api.specs.Patches.{Operation, operation_of}
 use Rattle.kube_server.specs.History.{State, state_of as objects_after}
@@ -23,9 +23,9 @@ use Rattle.kube_final.specs.declared.life.LifeStep.{LifeStep}
 use Rattle.kube_final.specs.declared.life.LifeStep.TheVariants.{Arrive}
 use Rattle.kube_final.specs.declared.play.Stage.{Stage}
 use Rattle.kube_final.specs.declared.play.Made.{Made}
-use Rattle.kube_final.specs.Finalizers.{decided, decision_on, finalizers_in, place_of, replacement}
-use Rattle.kube_final.specs.Lives.{Decided, Past, after, arrived, decided_on, decisions_after, sent_by, is_life_from, may_follow, past_of, state_after, is_made, is_there, state_of, with_decision}
-use Rattle.kube_final.specs.Playing.{AreMade, AreSent, AreSights, IsAnswered, IsDue, IsHeldAs, IsKept, IsMadeAs, IsPatchOf, IsSeenAs, IsSight, IsStage, Serves, is_due, stage_reference, there}
+use Rattle.kube_final.specs.Finalizers.{decided, decision_on, finalizers_in, patch_on, first_index, replacement}
+use Rattle.kube_final.specs.Lives.{Decided, Past, after, arrived, beginning, decided_on, decisions_after, sent_by, is_life_from, may_follow, past_of, state_after, is_made, is_there, state_of, with_decision}
+use Rattle.kube_final.specs.Playing.{AreMade, AreSent, AreShort, AreSights, IsAnswered, IsDue, IsHeldAs, IsKept, IsMadeAs, IsPatchOf, IsSeenAs, IsSight, IsStage, Serves, is_due, stage_reference, there}
 use Rattle.kube_final.proofs.Staging.{arrived-done, arrived-refused, change-gives, held-only, only, patch-done, patch-refused}
 
 pub on-ok : {A E : Type 0} (r : Result A E) (P Q : Type 0) → (P → Q) → OnOk r P → OnOk r Q
@@ -81,11 +81,11 @@ plain-finalizers (n ∷ ns) = refl
 pub seen-finalizers : (x : DynamicObject) (state : LifeState) → IsSeenAs (seen_object x) state → finalizers_in x.metadata ≡ state.finalizers
 seen-finalizers x state h = ap (λ d. finalizers_in d.metadata) h.is ∙ plain-finalizers state.finalizers
 
-seen-decision : (name : List ℕ) (x : DynamicObject) (state : LifeState) → IsSeenAs (seen_object x) state → decision_on name x.metadata ≡ decided true state.deleting (place_of name state.finalizers) state.finalizers
+seen-decision : (name : List ℕ) (x : DynamicObject) (state : LifeState) → IsSeenAs (seen_object x) state → decision_on name x.metadata ≡ decided true state.deleting (first_index name state.finalizers) state.finalizers
 seen-decision name x state h =
     ap (λ d. decision_on name d.metadata) h.is
-    ∙ ap (λ fs. decided true (is_some h.deleted) (place_of name fs) fs) (plain-finalizers state.finalizers)
-    ∙ ap (λ b. decided true b (place_of name state.finalizers) state.finalizers) h.deleting
+    ∙ ap (λ fs. decided true (is_some h.deleted) (first_index name fs) fs) (plain-finalizers state.finalizers)
+    ∙ ap (λ b. decided true b (first_index name state.finalizers) state.finalizers) h.deleting
 
 made-seen : (name : List ℕ) (m : Made) (x : DynamicObject) (state : LifeState) → IsSeenAs (seen_object x) state → m.decision ≡ decision_on name x.metadata → arc_value m.object ≡ x → IsMadeAs name m (decided_on name state)
 made-seen name m x state h e f = record {
@@ -172,9 +172,36 @@ none-sent name ds (w ∷ vs) [] n h e t = h
 none-sent name ds (w ∷ vs) (m ∷ ns) zero h e t = some-no w e
 none-sent name ds (w ∷ vs) (m ∷ ns) (suc n) h e t = none-sent name ds vs ns n h.1 e (omega (arith, t))
 
+-- ---- patches are short
+
+due-short : (name : List ℕ) (seen : List (List ℕ)) (d : Decision) → length (patch_on name seen d) ≤ 2
+due-short name seen Apply = omega arith
+due-short name seen (Cleanup i) = omega arith
+due-short name seen AddFirst = omega arith
+due-short name seen AddMore = omega arith
+due-short name seen Nothing = omega arith
+due-short name seen Unnamed = omega arith
+
+patch-short : (name : List ℕ) (os : List Operation) (o : Option Decided) → IsPatchOf name os o → length os ≤ 2
+patch-short name os None h = absurd h
+patch-short name os (Some d) h = subst (λ x. length x ≤ 2) (sym h.0) (due-short name d.seen d.decision)
+
+pub sent-short : (name : List ℕ) (ds : List Decided) (vs : List (Vec Patch Global)) (ns : List ℕ) → AreSent name ds vs ns → AreShort vs
+sent-short name ds [] [] h = tt
+sent-short name ds [] (n ∷ ns) h = absurd h
+sent-short name ds (v ∷ vs) [] h = absurd h
+sent-short name ds (v ∷ vs) (n ∷ ns) h =
+    let few = patch-short name (map operation_of v.items) (slice_get ds n) h.0 in
+    (omega (arith, few, length-map v.items operation_of), sent-short name ds vs ns h.1)
+
+pub short-there : (vs : List (Vec Patch Global)) (n : ℕ) (v : Vec Patch Global) → AreShort vs → slice_get vs n ≡ Some v → length v.items < 2 ^ 32
+short-there [] n v h e = absurd (some-no v (sym e))
+short-there (w ∷ vs) zero v h e = subst (λ x. length x.items < 2 ^ 32) (some-same w v e) h.0
+short-there (w ∷ vs) (suc n) v h e = short-there vs n v h.1 e
+
 -- ---- one step more
 
-both : (a b : Bool) → (a && b) ≡ true → (a ≡ true) × (b ≡ true)
+pub both : (a b : Bool) → (a && b) ≡ true → (a ≡ true) × (b ≡ true)
 both true b h = (refl, h)
 both false b h = absurd (true≢false (sym h))
 
@@ -236,7 +263,7 @@ stage-taken old acted noted seen o p step a n more h m serves made sent sight =
     let state = state_after old.name p step in
     let same-server : noted.server ≡ acted.server = ap (λ s. s.server) n in
     let same-key : noted.key ≡ old.key = ap (λ s. s.key) n ∙ ap (λ s. s.key) a in
-    let same-reference : stage_reference noted ≡ stage_reference old = ap (λ k. reference_of (λ t. resource_type t.value) k) same-key in
+    let same-reference : stage_reference noted ≡ stage_reference old = ap (λ k. dynamic_reference k) same-key in
     let same-seen : noted.seen.items ≡ old.seen.items = ap (λ s. s.seen.items) n ∙ ap (λ s. s.seen.items) a in
     let served : Serves noted.server (stage_reference noted) state = subst (λ r. Serves noted.server r state) (sym same-reference) (subst (λ s. Serves s (stage_reference old) state) (sym same-server) (serves p h m)) in
     record {
@@ -258,6 +285,13 @@ pub record IsPlayed (name : List ℕ) (life : List LifeStep) (i : ℕ) (s : Stag
   pub stage : IsStage name s past
   pub rest : is_life_from name past (drop i life) ≡ true
   pub comes : fold (after name) past (drop i life) ≡ past_of name life
+  pub upto : past ≡ past_of name (take i life)
+
+pub taken-more : {A : Type 0} (i : ℕ) (xs : List A) (x : A) → drop i xs ≡ x ∷ drop (suc i) xs → take (suc i) xs ≡ take i xs ++ x ∷ []
+taken-more zero [] x e = absurd cc
+taken-more zero (y ∷ ys) x e = ap (take 1) e
+taken-more (suc i) [] x e = absurd cc
+taken-more (suc i) (y ∷ ys) x e = ap (λ zs. y ∷ zs) (taken-more i ys x e)
 
 pub played-step : (name : List ℕ) (life : List LifeStep) (i : ℕ) (s t : Stage) (step : LifeStep) → IsPlayed name life i s → drop i life ≡ step ∷ drop (suc i) life → t.name ≡ s.name
     → ((p : Past) → IsStage s.name s p → may_follow s.name p step ≡ true → IsStage s.name t (after s.name p step)) → IsPlayed name life (suc i) t
@@ -272,6 +306,7 @@ played-step name life i s t step h e n f =
       stage = goes h.past h.stage parts.0;
       rest = parts.1;
       comes = sym (ap (fold (after name) h.past) e) ∙ h.comes;
+      upto = ap (λ q. after name q step) h.upto ∙ sym (fold-append (after name) beginning (take i life) (step ∷ [])) ∙ ap (past_of name) (sym (taken-more i life step e));
     }
 
 pub played-next : (name : List ℕ) (life : List LifeStep) (i j : ℕ) (s t : Stage) (step : LifeStep) → j ≡ suc i → IsPlayed name life i s → drop i life ≡ step ∷ drop (suc i) life → t.name ≡ s.name

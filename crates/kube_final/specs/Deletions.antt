@@ -14,7 +14,7 @@ use Rattle.kube_final.specs.declared.delete.Deletion.{Deletion}
 use Rattle.kube_final.specs.declared.delete.Deletion.TheVariants.{Later, Told, Failed}
 use Rattle.kube_final.specs.declared.wait.Error.TheVariants.{ProbeFailed}
 use Rattle.kube_final.specs.Conditions.{is_deleted}
-use Rattle.kube_final.specs.FinalizerPolls.{Objects}
+use Rattle.kube_final.specs.FinalizerPolls.{IsLeftUnasked, Objects}
 use Rattle.kube_final.specs.Waiting.{Deleting}
 use Rattle.kube_final.specs.Waits.{Awaited, LostWait}
 
@@ -33,19 +33,20 @@ deletion_by meta_of AnswersNone = Some (Failed (Delete NotFound))
 deletion_by meta_of (AnswersFault error) = Some (Failed (Delete (Fault error)))
 deletion_by meta_of (AnswersRefusal refusal) = None
 
--- the deletion of the object of this name was asked, once, which is all that was asked of the API
-pub record IsAsked {O V : Type 0} (objects : Objects O V) (meta_of : V → ObjectMeta) (name : List ℕ) (old : O) (deletion : Deletion) (new : O) : Type 0 where
+-- the deletion of the object of this name was asked at this moment, once, which is all that was asked of the API: it is what that made of it
+pub record IsAsked {O V : Type 0} (objects : Objects O V) (meta_of : V → ObjectMeta) (name : List ℕ) (now : ℕ) (old : O) (deletion : Deletion) (new : O) : Type 0 where
   pub answer : ObjectAnswer V
   pub told : objects.talk new ≡ grown (objects.talk old) (record { call = DeleteAsked name; answer = answer })
+  pub moved : objects.moves old now (record { call = DeleteAsked name; answer = answer }) new
   pub comes_to : deletion_by meta_of answer ≡ Some deletion
   pub missing : MissingAs (objects.held old) name answer
   pub kept : IsKept answer (objects.held old) (objects.held new)
   pub rose : FaultRose (is_object_fault answer) (objects.faults old) (objects.faults new)
 
--- memory could not be had: nothing was asked, and what the API holds is as before; or the deletion of the object of this name was asked, once
-abbrev pub IsAskedAtMostOnce : {O V : Type 0} → Objects O V → (V → ObjectMeta) → List ℕ → O → O → Type 0
-IsAskedAtMostOnce objects meta_of name old new =
-    ((objects.talk new ≡ objects.talk old) × (objects.held new ≡ objects.held old)) ⊎ ((deletion : Deletion) × IsAsked objects meta_of name old deletion new)
+-- memory could not be had: nothing was asked, and the API is as before, or as want of memory leaves it, with what it tells and holds; or the deletion of the object of this name was asked, once
+abbrev pub IsAskedAtMostOnce : {O V : Type 0} → Objects O V → (V → ObjectMeta) → List ℕ → ℕ → O → O → Type 0
+IsAskedAtMostOnce objects meta_of name now old new =
+    ((objects.talk new ≡ objects.talk old) × (objects.held new ≡ objects.held old) × IsLeftUnasked objects old new) ⊎ ((deletion : Deletion) × IsAsked objects meta_of name now old deletion new)
 
 -- the answer of a poll by that of the wait
 abbrev pub ended : {W : Type 0} → Next (Found W) → Next (Result (Unit {0}) Error)
@@ -72,7 +73,7 @@ IsFollowed api meta_of now fuel (Told uid) old answer new = IsAwaited api meta_o
 abbrev pub IsDeletedBy : {O V A W : Type 0} → Objects O V → (V → ObjectMeta) → Api A W → (W → ObjectMeta) → ℕ → ℕ → Option (List ℕ) → O → Deleting A W → Next (Result (Unit {0}) Error) → O → Deleting A W → Type 0
 IsDeletedBy objects reply_meta api meta_of now fuel (Some uid) before old answer after new = (after ≡ before) × IsAwaited api meta_of uid now fuel old answer new
 IsDeletedBy objects reply_meta api meta_of now fuel None before old answer after new =
-    (deletion : Deletion) × IsAsked objects reply_meta old.name before deletion after × IsFollowed api meta_of now fuel deletion old answer new
+    (deletion : Deletion) × IsAsked objects reply_meta old.name now before deletion after × IsFollowed api meta_of now fuel deletion old answer new
 
 -- memory could not be had in the wait for the object of a uid
 abbrev pub IsWaitLost : {A W : Type 0} → Api A W → (W → ObjectMeta) → List ℕ → ℕ → ℕ → Deleting A W → Deleting A W → Type 0
@@ -82,5 +83,5 @@ IsWaitLost api meta_of uid now fuel old new = LostWait api (λ object says. says
 abbrev pub IsLostBy : {O V A W : Type 0} → Objects O V → (V → ObjectMeta) → Api A W → (W → ObjectMeta) → ℕ → ℕ → Option (List ℕ) → O → Deleting A W → O → Deleting A W → Type 0
 IsLostBy objects reply_meta api meta_of now fuel (Some uid) before old after new = (after ≡ before) × IsWaitLost api meta_of uid now fuel old new
 IsLostBy objects reply_meta api meta_of now fuel None before old after new =
-    (IsAskedAtMostOnce objects reply_meta old.name before after × (new.watch ≡ old.watch))
-    ⊎ ((uid : List ℕ) × IsAsked objects reply_meta old.name before (Told uid) after × IsWaitLost api meta_of uid now fuel old new)
+    (IsAskedAtMostOnce objects reply_meta old.name now before after × (new.watch ≡ old.watch))
+    ⊎ ((uid : List ℕ) × IsAsked objects reply_meta old.name now before (Told uid) after × IsWaitLost api meta_of uid now fuel old new)

@@ -1,10 +1,11 @@
 -- What a poll of a finalizer answers, and what it asks of the API. E is the type of a branch's fault. (Crate: `finalizer`.)
-use Rattle.std.specs.Prelude.{◌≡◌, ℕ, Bool, true, false, List, Option, Some, None, Result, Ok, Err, unwrap_or, []}
+use Rattle.std.specs.Prelude.{◌≡◌, ◌⊎◌, ℕ, Bool, true, false, List, Option, Some, None, Result, Ok, Err, unwrap_or, []}
 use Rattle.serde_json.specs.Data.{Data}
 use Rattle.kube_meta.specs.declared.metadata.ObjectMeta.{ObjectMeta}
 use Rattle.kube_meta.specs.declared.poll.Polled.{Polled}
 use Rattle.kube_meta.specs.declared.poll.Polled.TheVariants.{Ready, NotReady}
 use Rattle.kube_model.specs.Raw.{grown, FaultRose}
+use Rattle.kube_api.specs.declared.object_api.ObjectApi as object_api
 use Rattle.kube_api.specs.Patches.{Operation}
 use Rattle.kube_api.specs.ObjectTalk.{ObjectAnswer, AnswersLater, AnswersFault, AnswersObject, AnswersGone, AnswersNone, AnswersRefusal, ObjectRaw, PatchAsked, is_object_fault, RefusedAs, IsKept, IsNotMemory}
 use Rattle.kube_final.specs.declared.finalizer.Decision.{Decision}
@@ -95,16 +96,27 @@ answer_by decision action AnswersNone = None
 
 -- ---- a poll
 
--- what is asked of an API of objects: what it holds, what it tells, and how often it failed
-pub record Objects (A V : Type 0) : Type 0 where
+-- what is asked of an API of objects: what a call makes of it, what want of memory leaves of it, what it holds, what it tells, and how often it failed
+pub record Objects (A V : Type 0) : Type 1 where
+  pub moves : A → ℕ → ObjectRaw V → A → Type 0
+  pub rests : A → A → Type 0
   pub held : A → Option (List ℕ → Option Data)
   pub talk : A → Option (List (ObjectRaw V))
   pub faults : A → ℕ
 
--- the patch was sent, once, which is all that was asked of the API, and its answer is that of the poll
-pub record IsSent {A V E : Type 0} (api : Objects A V) (name : List ℕ) (patch : List Operation) (decision : Decision) (action : Option ℕ) (old : A) (answer : Polled (Answer E)) (new : A) : Type 0 where
+-- what is asked of one that says so of itself
+abbrev pub objects_in : {A V D : Type 0} → object_api.Ghosts A V D → Objects A V
+objects_in api = record { moves = api.moves; rests = api.rests; held = api.held; talk = api.talk; faults = api.faults }
+
+-- memory could not be had, and nothing was asked: the API is as it was, or as want of memory leaves it
+abbrev pub IsLeftUnasked : {A V : Type 0} → Objects A V → A → A → Type 0
+IsLeftUnasked api old new = (new ≡ old) ⊎ api.rests old new
+
+-- the patch was sent at this moment, once, which is all that was asked of the API: it is what that made of it, and its answer is that of the poll
+pub record IsSent {A V E : Type 0} (api : Objects A V) (name : List ℕ) (patch : List Operation) (decision : Decision) (action : Option ℕ) (now : ℕ) (old : A) (answer : Polled (Answer E)) (new : A) : Type 0 where
   pub patched : ObjectAnswer V
   pub told : api.talk new ≡ grown (api.talk old) (record { call = PatchAsked name patch; answer = patched })
+  pub moved : api.moves old now (record { call = PatchAsked name patch; answer = patched }) new
   pub answers : answer_by decision action patched ≡ Some answer
   pub refused : RefusedAs (api.held old) name patch patched
   pub not_memory : IsNotMemory patched
@@ -112,12 +124,12 @@ pub record IsSent {A V E : Type 0} (api : Objects A V) (name : List ℕ) (patch 
   pub rose : FaultRose (is_object_fault patched) (api.faults old) (api.faults new)
 
 -- where no patch is sent nothing is asked of the API
-abbrev pub IsPolledBy : {A V E : Type 0} → Objects A V → List ℕ → List Operation → Decision → Course E → A → Polled (Answer E) → A → Type 0
-IsPolledBy api name patch decision (Ends wanted) old answer new = (answer ≡ Ready wanted) × (new ≡ old)
-IsPolledBy api name patch decision Waits old answer new = (answer ≡ NotReady) × (new ≡ old)
-IsPolledBy api name patch decision (Sends action) old answer new = IsSent api name patch decision action old answer new
+abbrev pub IsPolledBy : {A V E : Type 0} → Objects A V → List ℕ → List Operation → Decision → Course E → ℕ → A → Polled (Answer E) → A → Type 0
+IsPolledBy api name patch decision (Ends wanted) now old answer new = (answer ≡ Ready wanted) × (new ≡ old)
+IsPolledBy api name patch decision Waits now old answer new = (answer ≡ NotReady) × (new ≡ old)
+IsPolledBy api name patch decision (Sends action) now old answer new = IsSent api name patch decision action now old answer new
 
--- the poll of a finalizer for an object with this metadata, whose branch is given or not
-abbrev pub IsPolled : {A V E : Type 0} → Objects A V → List ℕ → ObjectMeta → Option (Option ℕ) → Option (Result (Option ℕ) E) → A → Polled (Answer E) → A → Type 0
+-- the poll of a finalizer for an object with this metadata, whose branch is given or not, at a moment
+abbrev pub IsPolled : {A V E : Type 0} → Objects A V → List ℕ → ObjectMeta → Option (Option ℕ) → Option (Result (Option ℕ) E) → ℕ → A → Polled (Answer E) → A → Type 0
 IsPolled api name meta outcome branch =
     IsPolledBy api (unwrap_or meta.name []) (patch_on name (finalizers_in meta) (decision_on name meta)) (decision_on name meta) (course (decision_on name meta) outcome branch)

@@ -17,7 +17,7 @@ use Rattle.kube_final.specs.declared.finalizer.Event.TheVariants.{Apply as Apply
 abbrev pub finalizers_in : ObjectMeta → List (List ℕ)
 finalizers_in meta = unwrap_or meta.finalizers []
 
--- by whether the object has a name, whether it is being deleted, the first place of the finalizer, and all finalizers
+-- by whether the object has a name, whether it is being deleted, the index at which the finalizer stands first, and all finalizers
 abbrev pub decided : Bool → Bool → Option ℕ → List (List ℕ) → Decision
 decided named false (Some i) names = Apply
 decided true true (Some i) names = Cleanup i
@@ -27,12 +27,12 @@ decided true false None (n ∷ ns) = AddMore
 decided false false None names = Unnamed
 decided named true None names = Nothing
 
--- the first place of a name
-abbrev pub place_of : List ℕ → List (List ℕ) → Option ℕ
-place_of name names = position_from (λ other. bytes_eq other name) 0 names
+-- the index at which a name stands first
+abbrev pub first_index : List ℕ → List (List ℕ) → Option ℕ
+first_index name names = position_from (λ other. bytes_eq other name) 0 names
 
 abbrev pub decision_on : List ℕ → ObjectMeta → Decision
-decision_on name meta = decided (is_some meta.name) (is_some meta.deletion_timestamp) (place_of name (finalizers_in meta)) (finalizers_in meta)
+decision_on name meta = decided (is_some meta.name) (is_some meta.deletion_timestamp) (first_index name (finalizers_in meta)) (finalizers_in meta)
 
 -- ---- the branch that is owed
 

@@ -1,11 +1,14 @@
 pub mod Conditions
 pub mod Deletions
+pub mod FinalizerPatches
 pub mod FinalizerPolls
 pub mod Finalizers
 pub mod Guarding
 pub mod Kinds
+pub mod Lending
 pub mod Lives
 pub mod Waiting
 pub mod Waits
 pub mod Pasts
+pub mod Played
 pub mod Playing

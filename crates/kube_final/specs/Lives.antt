@@ -7,7 +7,7 @@ use Rattle.kube_final.specs.declared.finalizer.Decision.TheVariants.{Apply, Clea
 use Rattle.kube_final.specs.declared.life.LifeStep.{LifeStep}
 use Rattle.kube_final.specs.declared.life.LifeStep.TheVariants.{Other, RequestDelete, Decide, ApplyStarts, CleanupStarts, CleanupEnds, Send, Arrive}
 use Rattle.kube_final.specs.declared.life.LifeState.{LifeState}
-use Rattle.kube_final.specs.Finalizers.{decided, place_of}
+use Rattle.kube_final.specs.Finalizers.{decided, first_index}
 
 -- ---- the object
 
@@ -49,7 +49,7 @@ pub record Decided : Type 0 where
 
 -- the object has a name
 abbrev pub decided_on : List ℕ → LifeState → Decided
-decided_on name state = record { decision = decided true state.deleting (place_of name state.finalizers) state.finalizers; seen = state.finalizers }
+decided_on name state = record { decision = decided true state.deleting (first_index name state.finalizers) state.finalizers; seen = state.finalizers }
 
 abbrev pub is_at : List ℕ → Option (List ℕ) → Bool
 is_at name None = false

@@ -1,14 +1,13 @@
--- What a stage on which a life is played holds after the steps so far: a server with the object, what was seen of it, the decisions, and the patches that were sent. No clause of a public call shows it.
-use Rattle.std.specs.Prelude.{◌≡◌, ◌⊎◌, ℕ, ◌<◌, ◌^◌, Bool, true, false, ◌&&◌, is_some, List, [], ◌∷◌, ◌++◌, map, slice_get, Option, Some, None, codes}
+-- What a stage on which a life is played holds after the steps so far: a server with the object, what was seen of it, the decisions, and the patches that were sent. Of all this the clauses of public calls show the object and what a server answered.
+use Rattle.std.specs.Prelude.{◌≡◌, ◌⊎◌, ℕ, ◌<◌, ◌^◌, Bool, true, false, ◌&&◌, is_some, List, [], ◌∷◌, ◌++◌, length, map, slice_get, Option, Some, None, codes}
 use Rattle.std.specs.Arc.{arc_value}
 use Rattle.std.specs.declared.alloc.Global.{Global}
 use Rattle.std.specs.declared.sync.Arc.{Arc}
 use Rattle.serde_json.specs.Data.{Data, null, no_members}
 use Rattle.kube_meta.specs.declared.dynamic.DynamicObject.{DynamicObject}
 use Rattle.kube_meta.specs.Reading.{ObjectData, seen_object, unless_empty}
-use Rattle.kube_meta.specs.Keys.{reference_of}
 use Rattle.kube_meta.specs.Reference.{Reference}
-use Rattle.kube_meta.specs.Resources.{no_metadata, resource_type}
+use Rattle.kube_meta.specs.Resources.{dynamic_reference, no_metadata}
 use Rattle.kube_meta.specs.Writing.{content_members}
 use Rattle.kube_api.specs.declared.patch.Patch.{Patch}
 use Rattle.kube_api.specs.declared.patch.PatchRefusal.{PatchRefusal}
@@ -159,10 +158,15 @@ AreSent name ds [] (n ∷ ns) = ⊥
 AreSent name ds (v ∷ vs) [] = ⊥
 AreSent name ds (v ∷ vs) (n ∷ ns) = IsPatchOf name (map operation_of v.items) (slice_get ds n) × AreSent name ds vs ns
 
+-- each patch has fewer operations than a refusal can count
+abbrev pub AreShort : List (Vec Patch Global) → Type 0
+AreShort [] = Unit {0}
+AreShort (v ∷ vs) = (length v.items < 2 ^ 32) × AreShort vs
+
 -- ---- the stage after the steps of a life
 
 abbrev pub stage_reference : Stage → Reference
-stage_reference s = reference_of (λ t. resource_type t.value) s.key
+stage_reference s = dynamic_reference s.key
 
 -- what was seen, decided and sent
 pub record IsKept (name : List ℕ) (s : Stage) (p : Past) : Type 0 where

@@ -3,9 +3,10 @@
 ghost use Rattle.std.specs.Prelude.{◌≡◌, ◌≤◌, true, false, Some, None, IfOk, OnOk, OnErr, IsErr};
 ghost use Rattle.std.specs.Arc.{arc_value};
 ghost use Rattle.kube_api.specs.ObjectTalk.{delete_answer};
-ghost use Rattle.kube_watch.specs.Calls.{version_of};
 ghost use Rattle.kube_watch.specs.Objects.{IsOpened};
+ghost use Rattle.kube_watch.specs.Polls.{api_in};
 ghost use Rattle.kube_final.specs.Deletions.{IsAsked, IsAskedAtMostOnce, IsAwaited, IsDeletedBy, IsLostBy, IsWaitLost, deletion_by, ended, known};
+ghost use Rattle.kube_final.specs.FinalizerPolls.{objects_in};
 ghost use Rattle.kube_final.specs.Waits.{is_item, next_probed};
 
 use crate::conditions::is_deleted;
@@ -93,13 +94,13 @@ fn deletion_by<V: Resource>(
 ///
 /// Errors: `NoMemory`.
 fn ask<O: ObjectApi>(
-    objects: &mut O,
     alloc: Global,
+    objects: &mut O,
     name: &Text,
     now: Moment,
 ) -> Result<Deletion, NoMemory>
-    ensures asked { IfOk result (λ d. IsAsked (record { held = O.held; talk = O.talk; faults = O.faults }) O.Value.meta_of name.now objects.old d objects.new) }
-    ensures lost { OnErr result (IsAskedAtMostOnce (record { held = O.held; talk = O.talk; faults = O.faults }) O.Value.meta_of name.now objects.old objects.new) }
+    ensures asked { IfOk result (λ d. IsAsked (objects_in O.ObjectApi) O.Value.meta_of name.now now.0 objects.old d objects.new) }
+    ensures lost { OnErr result (IsAskedAtMostOnce (objects_in O.ObjectApi) O.Value.meta_of name.now now.0 objects.old objects.new) }
     ensures rises { O.faults objects.old ≤ O.faults objects.new }
 {
     let answer = objects.delete(alloc, name.as_str(), now)?;
@@ -143,6 +144,10 @@ impl<A: ApiMode> Model for DeleteAndFinalize<A> {
 }
 
 impl<A: ApiMode> DeleteAndFinalize<A> {
+    ghost use Rattle.std.specs.Borrow.{sem};
+    ghost use Rattle.kube_watch.specs.Stands.{api_of};
+    ghost use Rattle.kube_final.specs.Lending.{LendsDeletingApi};
+
     /// Deletes the object of a name, which the API watches alone.
     ///
     /// Errors: `NoMemory`.
@@ -169,22 +174,22 @@ impl<A: ApiMode> DeleteAndFinalize<A> {
     /// uid or an empty one, `Await` where the wait failed.
     pub fn poll<O: ObjectApi>(
         &mut self,
-        objects: &mut O,
         alloc: Global,
+        objects: &mut O,
         now: Moment,
         fuel: u32,
     ) -> Result<Next<Result<(), Error>>, NoMemory>
         requires unready { self.old.is_over ≡ false }
         requires fuel { 1 ≤ fuel }
-        ensures deleted { IfOk result (λ a. IsDeletedBy (record { held = O.held; talk = O.talk; faults = O.faults }) O.Value.meta_of
-            (record { moves = A.moves; talk = A.talk; faults = A.faults; version = version_of A.Value.meta_of }) A.Value.meta_of
+        ensures deleted { IfOk result (λ a. IsDeletedBy (objects_in O.ObjectApi) O.Value.meta_of
+            (api_in A.ApiMode A.Value.meta_of) A.Value.meta_of
             now.0 fuel self.old.uid objects.old self.old a objects.new self.new) }
         ensures name { self.new.name ≡ self.old.name }
         ensures over { IfOk result (λ a. self.new.is_over ≡ is_item a) }
         ensures rises { O.faults objects.old ≤ O.faults objects.new }
         ensures err { OnErr result (self.new.is_spent ≡ true) }
-        ensures lost { OnErr result (IsLostBy (record { held = O.held; talk = O.talk; faults = O.faults }) O.Value.meta_of
-            (record { moves = A.moves; talk = A.talk; faults = A.faults; version = version_of A.Value.meta_of }) A.Value.meta_of
+        ensures lost { OnErr result (IsLostBy (objects_in O.ObjectApi) O.Value.meta_of
+            (api_in A.ApiMode A.Value.meta_of) A.Value.meta_of
             now.0 fuel self.old.uid objects.old self.old objects.new self.new) }
         ensures again { OnErr result (self.new.is_over ≡ false) }
         ensures unspent { OnOk result (self.new.is_spent ≡ false) }
@@ -197,7 +202,7 @@ impl<A: ApiMode> DeleteAndFinalize<A> {
         if let Some(uid) = self.uid.take() {
             return self.wait(alloc, uid, now, fuel);
         }
-        match ask(objects, alloc, &self.name, now)? {
+        match ask(alloc, objects, &self.name, now)? {
             Deletion::Told(uid) => self.wait(alloc, uid, now, fuel),
             Deletion::Later => {
                 self.spent = false;
@@ -211,6 +216,14 @@ impl<A: ApiMode> DeleteAndFinalize<A> {
         }
     }
 
+    /// The API of the watch. All else is as before.
+    pub fn api_mut(&mut self) -> &mut A
+        ensures* lends { sem 𝓛 (LendsDeletingApi A.row A.Value.row A.Value.DynamicType.row A.ApiMode A.Value.Resource A.Value.DynamicType.Hash self.entry result) }
+        ensures value { result.now ≡ api_of self.old.watch.watcher }
+    {
+        self.watch.api_mut()
+    }
+
     // Waits until the object of a uid is gone.
     fn wait(
         &mut self,
@@ -219,13 +232,13 @@ impl<A: ApiMode> DeleteAndFinalize<A> {
         now: Moment,
         fuel: u32,
     ) -> Result<Next<Result<(), Error>>, NoMemory>
-        ensures awaited { IfOk result (λ a. IsAwaited (record { moves = A.moves; talk = A.talk; faults = A.faults; version = version_of A.Value.meta_of }) A.Value.meta_of
+        ensures awaited { IfOk result (λ a. IsAwaited (api_in A.ApiMode A.Value.meta_of) A.Value.meta_of
             uid now.0 fuel self.old a self.new) }
         ensures over { IfOk result (λ a. self.new.is_over ≡ is_item a) }
         ensures name { self.new.name ≡ self.old.name }
         ensures unspent { OnOk result (self.new.is_spent ≡ false) }
         ensures err { OnErr result (self.new ≡ record self.old { watch = self.new.watch }) }
-        ensures lost { OnErr result (IsWaitLost (record { moves = A.moves; talk = A.talk; faults = A.faults; version = version_of A.Value.meta_of }) A.Value.meta_of
+        ensures lost { OnErr result (IsWaitLost (api_in A.ApiMode A.Value.meta_of) A.Value.meta_of
             uid now.0 fuel self.old self.new) }
     {
         let answer = poll_end(&mut self.watch, &is_deleted(uid.as_str()), alloc, now, fuel)?;

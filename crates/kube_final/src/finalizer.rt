@@ -3,8 +3,8 @@
 ghost use Rattle.std.specs.Prelude.{◌≡◌, ◌≤◌, true, false, [], option_map, IfOk, OnOk, OnErr, IsErr, Some, unwrap_or};
 ghost use Rattle.std.specs.Arc.{arc_value};
 ghost use Rattle.kube_api.specs.ObjectTalk.{patch_answer};
-ghost use Rattle.kube_final.specs.Finalizers.{decided as decided_by, decision_on, finalizers_in, branch_on, branch_of, patch_on, place_of};
-ghost use Rattle.kube_final.specs.FinalizerPolls.{IsPolled, IsSent, answer_by, course, course_of, is_ready, outcome_after};
+ghost use Rattle.kube_final.specs.Finalizers.{decided as decided_by, decision_on, finalizers_in, branch_on, branch_of, patch_on, first_index};
+ghost use Rattle.kube_final.specs.FinalizerPolls.{IsLeftUnasked, IsPolled, IsSent, answer_by, course, course_of, is_ready, objects_in, outcome_after};
 ghost use Rattle.kube_final.specs.Guarding.{guarding};
 
 use crate::patches::patch_for;
@@ -87,17 +87,17 @@ pub(crate) fn decided(named: bool, deleting: bool, index: Option<u64>, names: &[
     }
 }
 
-fn place_of(names: &[Text], name: &str) -> Option<usize>
-    ensures { result ≡ place_of name.now names.now }
+fn first_index(names: &[Text], name: &str) -> Option<usize>
+    ensures { result ≡ first_index name.now names.now }
 {
     names.iter().position(|other| other.as_str() == name)
 }
 
-/// The first place of a name.
+/// The index at which a name stands first.
 pub(crate) fn index_of(names: &[Text], name: &str) -> Option<u64>
-    ensures { result ≡ place_of name.now names.now }
+    ensures { result ≡ first_index name.now names.now }
 {
-    match place_of(names, name) {
+    match first_index(names, name) {
         Some(index) => Some(index as u64),
         None => None,
     }
@@ -195,11 +195,12 @@ fn send<A: ObjectApi, E: Drop>(
     action: Action,
     now: Moment,
 ) -> Result<Polled<Result<Action, Error<E>>>, NoMemory>
-    ensures sent { IfOk result (λ a. IsSent (record { held = A.held; talk = A.talk; faults = A.faults })
-        (unwrap_or meta.now.name []) (patch_on name.now (finalizers_in meta.now) decision) decision action api.old a api.new) }
+    ensures sent { IfOk result (λ a. IsSent (objects_in A.ObjectApi)
+        (unwrap_or meta.now.name []) (patch_on name.now (finalizers_in meta.now) decision) decision action now.0 api.old a api.new) }
     ensures rises { A.faults api.old ≤ A.faults api.new }
     ensures silent { OnErr result (A.talk api.new ≡ A.talk api.old) }
     ensures kept { OnErr result (A.held api.new ≡ A.held api.old) }
+    ensures rests { OnErr result (IsLeftUnasked (objects_in A.ObjectApi) api.old api.new) }
 {
     let patch = patch_for(alloc, decision, name, finalizers(meta))?;
     let object = match &meta.name {
@@ -296,8 +297,8 @@ impl<K: Resource> Finalizer<K> {
         now: Moment,
     ) -> Result<Polled<Result<Action, Error<E>>>, NoMemory>
         requires unready { self.old.is_over ≡ false }
-        ensures polled { IfOk result (λ a. IsPolled (record { held = A.held; talk = A.talk; faults = A.faults })
-            self.old.name (K.meta_of self.old.object) self.old.outcome branch api.old a api.new) }
+        ensures polled { IfOk result (λ a. IsPolled (objects_in A.ObjectApi)
+            self.old.name (K.meta_of self.old.object) self.old.outcome branch now.0 api.old a api.new) }
         ensures after { IfOk result (λ a. self.new ≡ record self.old {
           outcome = outcome_after (decision_on self.old.name (K.meta_of self.old.object)) self.old.outcome branch;
           is_over = is_ready a;
@@ -306,6 +307,7 @@ impl<K: Resource> Finalizer<K> {
         ensures err { OnErr result (self.new ≡ record self.old { is_spent = true }) }
         ensures silent { OnErr result (A.talk api.new ≡ A.talk api.old) }
         ensures kept { OnErr result (A.held api.new ≡ A.held api.old) }
+        ensures rests { OnErr result (IsLeftUnasked (objects_in A.ObjectApi) api.old api.new) }
         ensures spent { self.old.is_spent ≡ true → IsErr result × (api.new ≡ api.old) }
         ensures unspent { OnOk result (self.old.is_spent ≡ false) }
     {

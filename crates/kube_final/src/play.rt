@@ -2,16 +2,17 @@
 
 ghost use Rattle.std.specs.Prelude.{◌≡◌, ◌<◌, ◌^◌, ◌++◌, ◌∷◌, [], true, false, map, length, List, ℕ, Some, option_map, option_copied, slice_get, IfOk, OnOk};
 ghost use Rattle.std.specs.Arc.{arc_value};
-ghost use Rattle.kube_meta.specs.Keys.{reference_of};
 ghost use Rattle.kube_meta.specs.Reading.{seen_object};
 ghost use Rattle.kube_meta.specs.Reference.{Reference};
-ghost use Rattle.kube_meta.specs.Resources.{resource_type};
+ghost use Rattle.kube_meta.specs.Resources.{dynamic_reference, resource_type};
 ghost use Rattle.kube_api.specs.Patches.{operation_of};
-ghost use Rattle.kube_server.specs.Servers.{held as held_by, reference_key};
+ghost use Rattle.kube_server.specs.Servers.{reference_key};
 ghost use Rattle.kube_final.specs.declared.life.LifeState.{LifeState as State};
 ghost use Rattle.kube_final.specs.Finalizers.{decision_on};
 ghost use Rattle.kube_final.specs.Lives.{Decided, Past, after, arrived, beginning, decision_at, decisions_after, first_state, is_life, past_of, sent_by, is_made, is_there, may_follow, state_after, state_at, state_of as state_with, with_decision};
-ghost use Rattle.kube_final.specs.Playing.{AreMade, AreSent, IsAnswered, IsKept, IsDue, IsMadeAs, IsPatchOf, IsSight, IsStage, Serves, is_due, new_object, object_key, stage_reference, there};
+ghost use Rattle.kube_final.specs.Playing.{AreMade, AreSent, AreShort, IsAnswered, IsKept, IsDue, IsMadeAs, IsPatchOf, IsSight, IsStage, Serves, is_due, new_object, object_key, stage_reference, there};
+ghost use Rattle.kube_final.specs.Finalizers.{patch_on, replacement as replacement_of};
+ghost use Rattle.kube_final.specs.Played.{IsDeletionAsked, IsOpened, IsPlayedOn, IsStepAsked};
 
 use crate::finalizer::{Decision, Finalizer, finalizers};
 use crate::life::{LifeState, LifeStep};
@@ -22,6 +23,14 @@ use kube_meta::{ApiResource, DynamicObject, List, Moment, NoMemory, ObjectMeta, 
 use kube_server::Server;
 use std::alloc::Global;
 use std::sync::Arc;
+
+/// A life that was played.
+#[derive(Drop)]
+pub struct PlayedLife {
+    /// How the object stands at its end.
+    pub state: LifeState,
+    pub server: Server,
+}
 
 /// A decision on an object as it was seen.
 #[derive(Drop)]
@@ -71,7 +80,8 @@ fn first_object(alloc: Global) -> Result<DynamicObject, NoMemory>
 
 /// A server that has the object of a life.
 fn opened(alloc: Global, resource: Arc<ApiResource>) -> Result<Server, NoMemory>
-    ensures { IfOk result (λ s. (r : Reference) → r.kind ≡ resource_type resource.value → reference_key r ≡ object_key → Serves s r first_state) }
+    ensures serves { IfOk result (λ s. (r : Reference) → r.kind ≡ resource_type resource.value → reference_key r ≡ object_key → Serves s r first_state) }
+    ensures opened { IfOk result (λ s. IsOpened (resource_type resource.value) s) }
 {
     let object = first_object(alloc)?;
     let mut server = Server::new(alloc, resource);
@@ -88,7 +98,7 @@ fn held(
     server: &Server,
     key: &ObjectRef<DynamicObject>,
 ) -> Result<Option<Arc<DynamicObject>>, NoMemory>
-    ensures { IfOk result (λ o. (state : State) → Serves server.now (reference_of (λ t. resource_type t.value) key.now) state → IsSight o state) }
+    ensures { IfOk result (λ o. (state : State) → Serves server.now (dynamic_reference key.now) state → IsSight o state) }
 {
     match server.get(alloc, key)? {
         Some(object) => Ok(Some(object.clone()?)),
@@ -104,7 +114,7 @@ fn send(
     patch: &[Patch],
 ) -> Result<(), NoMemory>
     requires { length patch.now < 2 ^ 32 }
-    ensures { OnOk result (IsAnswered server.old server.new (reference_of (λ t. resource_type t.value) key.now) (map operation_of patch.now)) }
+    ensures { OnOk result (IsAnswered server.old server.new (dynamic_reference key.now) (map operation_of patch.now)) }
 {
     match server.patch(alloc, key, patch) {
         Ok(_revision) => Ok(()),
@@ -120,8 +130,9 @@ fn change(
     key: &ObjectRef<DynamicObject>,
     names: &[Text],
 ) -> Result<(), NoMemory>
-    ensures { OnOk result ((state : State) → state.gone ≡ false → Serves server.old (reference_of (λ t. resource_type t.value) key.now) state
-        → Serves server.new (reference_of (λ t. resource_type t.value) key.now) (state_with names.now state.deleting)) }
+    ensures serves { OnOk result ((state : State) → state.gone ≡ false → Serves server.old (dynamic_reference key.now) state
+        → Serves server.new (dynamic_reference key.now) (state_with names.now state.deleting)) }
+    ensures asked { OnOk result (IsAnswered server.old server.new (dynamic_reference key.now) (replacement_of names.now)) }
 {
     let patch = replacement(alloc, names)?;
     send(alloc, server, key, patch.as_slice())
@@ -133,8 +144,9 @@ fn request(
     server: &mut Server,
     key: &ObjectRef<DynamicObject>,
 ) -> Result<(), NoMemory>
-    ensures { OnOk result ((state : State) → state.gone ≡ false → Serves server.old (reference_of (λ t. resource_type t.value) key.now) state
-        → Serves server.new (reference_of (λ t. resource_type t.value) key.now) (state_with state.finalizers true)) }
+    ensures serves { OnOk result ((state : State) → state.gone ≡ false → Serves server.old (dynamic_reference key.now) state
+        → Serves server.new (dynamic_reference key.now) (state_with state.finalizers true)) }
+    ensures asked { OnOk result (IsDeletionAsked (dynamic_reference key.now) server.old server.new) }
 {
     // (it is there, so it is refused only where memory is out)
     match server.request_delete(alloc, key, Moment(0)) {
@@ -150,12 +162,12 @@ fn arrive(
     key: &ObjectRef<DynamicObject>,
     patch: &[Patch],
 ) -> Result<(), NoMemory>
-    ensures { OnOk result ((name : List ℕ) (state : State) (d : Decided) → IsPatchOf name (map operation_of patch.now) (Some d) → Serves server.old (reference_of (λ t. resource_type t.value) key.now) state
-        → Serves server.new (reference_of (λ t. resource_type t.value) key.now) (arrived name state (Some d))) }
+    requires { length patch.now < 2 ^ 32 }
+    ensures serves { OnOk result ((name : List ℕ) (state : State) (d : Decided) → IsPatchOf name (map operation_of patch.now) (Some d) → Serves server.old (dynamic_reference key.now) state
+        → Serves server.new (dynamic_reference key.now) (arrived name state (Some d))) }
+    ensures asked { OnOk result ((name : List ℕ) (d : Decided) → IsPatchOf name (map operation_of patch.now) (Some d)
+        → IsAnswered server.old server.new (dynamic_reference key.now) (patch_on name d.seen d.decision)) }
 {
-    if patch.len() > 2 {
-        return Ok(());
-    }
     send(alloc, server, key, patch)
 }
 
@@ -204,6 +216,7 @@ impl Stage {
     fn new(alloc: Global, name: &str) -> Result<Stage, NoMemory>
         ensures named { IfOk result (λ s. s.name ≡ name.now) }
         ensures stage { IfOk result (λ s. IsStage name.now s beginning) }
+        ensures played { IfOk result (λ s. IsPlayedOn name.now [] (stage_reference s) s.server) }
     {
         let resource = resource(alloc)?;
         let key = ObjectRef::new_with(alloc, "object", resource.clone()?)?;
@@ -251,9 +264,12 @@ impl Stage {
 
     // What a step makes of the server.
     fn act(&mut self, alloc: Global, step: &LifeStep) -> Result<(), NoMemory>
+        requires { AreShort self.old.sent.items }
         ensures rest { self.new ≡ record self.old { server = self.new.server } }
         ensures server { OnOk result ((p : Past) → IsStage self.old.name self.old p → may_follow self.old.name p step.now ≡ true
             → Serves self.new.server (stage_reference self.old) (state_after self.old.name p step.now)) }
+        ensures asked { OnOk result ((p : Past) → IsKept self.old.name self.old p → may_follow self.old.name p step.now ≡ true
+            → IsStepAsked self.old.name p step.now (stage_reference self.old) self.old.server self.new.server) }
     {
         match step {
             LifeStep::Other { finalizers } => {
@@ -285,9 +301,13 @@ impl Stage {
 
     // Takes a step.
     fn take(&mut self, alloc: Global, step: &LifeStep) -> Result<(), NoMemory>
+        requires { AreShort self.old.sent.items }
         ensures named { OnOk result (self.new.name ≡ self.old.name) }
+        ensures key { OnOk result (stage_reference self.new ≡ stage_reference self.old) }
         ensures stage { OnOk result ((p : Past) → IsStage self.old.name self.old p → may_follow self.old.name p step.now ≡ true
             → IsStage self.old.name self.new (after self.old.name p step.now)) }
+        ensures asked { OnOk result ((p : Past) → IsKept self.old.name self.old p → may_follow self.old.name p step.now ≡ true
+            → IsStepAsked self.old.name p step.now (stage_reference self.old) self.old.server self.new.server) }
     {
         self.act(alloc, step)?;
         self.note(alloc, step)?;
@@ -318,16 +338,19 @@ impl Stage {
     }
 }
 
-/// Plays a life on a server, and gives how the object stands at its end.
+/// Plays a life on a server.
 ///
 /// Errors: `NoMemory`.
-pub(crate) fn played(alloc: Global, life: &[LifeStep], name: &str) -> Result<LifeState, NoMemory>
+pub(crate) fn played(alloc: Global, life: &[LifeStep], name: &str) -> Result<PlayedLife, NoMemory>
     requires { is_life name.now life.now ≡ true }
-    ensures { IfOk result (λ s. s ≡ (past_of name.now life.now).current) }
+    ensures state { IfOk result (λ p. p.state ≡ (past_of name.now life.now).current) }
+    ensures server { IfOk result (λ p. (r : Reference) × IsPlayedOn name.now life.now r p.server) }
 {
     let mut stage = Stage::new(alloc, name)?;
     for step in life {
         stage.take(alloc, step)?;
     }
-    stage.state(alloc)
+    let state = stage.state(alloc)?;
+    let server = stage.server;
+    Ok(PlayedLife { state, server })
 }

@@ -1,8 +1,8 @@
 //! Waiting for an object until a condition holds (kube-runtime's `wait`).
 
 ghost use Rattle.std.specs.Prelude.{◌≡◌, ◌≤◌, true, false, Option, Bool, IfOk, OnOk, OnErr, IsErr};
-ghost use Rattle.kube_watch.specs.Calls.{version_of};
 ghost use Rattle.kube_watch.specs.Objects.{IsOpened, LostObject, found_of};
+ghost use Rattle.kube_watch.specs.Polls.{api_in};
 ghost use Rattle.kube_watch.specs.Stands.{is_spent};
 ghost use Rattle.kube_final.specs.Waits.{Awaited, EndsAs, IsAskedOnce, IsFirstTaken, IsTaken, LostWait, is_item, maybe_found, maybe_probed, next_probed, probed};
 ghost use Rattle.kube_final.specs.Waiting.{IsLive};
@@ -177,10 +177,10 @@ fn ask_end<A: ApiMode, C: Condition<A::Value>>(
 ) -> Result<Next<Result<Option<Arc<A::Value>>, Error>>, NoMemory>
     requires may { (object : Option A.Value) → C.may condition.now object }
     requires live { ∥ IsLive watch.old ∥₁ }
-    ensures asked { IfOk result (λ a. IsAskedOnce (record { moves = A.moves; talk = A.talk; faults = A.faults; version = version_of A.Value.meta_of }) (C.says condition.now) now.0 watch.old (next_probed a) watch.new) }
+    ensures asked { IfOk result (λ a. IsAskedOnce (api_in A.ApiMode A.Value.meta_of) (C.says condition.now) now.0 watch.old (next_probed a) watch.new) }
     ensures live { ∥ IsLive watch.new ∥₁ }
     ensures err { OnErr result (is_spent watch.new.watcher ≡ true) }
-    ensures lost { OnErr result (LostObject (record { moves = A.moves; talk = A.talk; faults = A.faults; version = version_of A.Value.meta_of }) now.0 1 watch.old watch.new) }
+    ensures lost { OnErr result (LostObject (api_in A.ApiMode A.Value.meta_of) now.0 1 watch.old watch.new) }
 {
     match watch.poll_next(alloc, now, 1)? {
         Next::Item(answer) => {
@@ -210,10 +210,10 @@ pub(crate) fn poll_end<A: ApiMode, C: Condition<A::Value>>(
 ) -> Result<Next<Result<Option<Arc<A::Value>>, Error>>, NoMemory>
     requires may { (object : Option A.Value) → C.may condition.now object }
     requires live { ∥ IsLive watch.old ∥₁ }
-    ensures awaited { IfOk result (λ a. Awaited (record { moves = A.moves; talk = A.talk; faults = A.faults; version = version_of A.Value.meta_of }) (C.says condition.now) now.0 fuel watch.old (next_probed a) watch.new) }
+    ensures awaited { IfOk result (λ a. Awaited (api_in A.ApiMode A.Value.meta_of) (C.says condition.now) now.0 fuel watch.old (next_probed a) watch.new) }
     ensures live { ∥ IsLive watch.new ∥₁ }
     ensures err { OnErr result (is_spent watch.new.watcher ≡ true) }
-    ensures lost { OnErr result (LostWait (record { moves = A.moves; talk = A.talk; faults = A.faults; version = version_of A.Value.meta_of }) (C.says condition.now) now.0 fuel watch.old watch.new) }
+    ensures lost { OnErr result (LostWait (api_in A.ApiMode A.Value.meta_of) (C.says condition.now) now.0 fuel watch.old watch.new) }
     ensures unspent { OnOk result (is_spent watch.old.watcher ≡ false) }
     ensures spent { is_spent watch.old.watcher ≡ true → watch.new ≡ watch.old }
 {
@@ -250,6 +250,10 @@ impl<A: ApiMode, C> Model for AwaitCondition<A, C> {
 }
 
 impl<A: ApiMode, C: Condition<A::Value>> AwaitCondition<A, C> {
+    ghost use Rattle.std.specs.Borrow.{sem};
+    ghost use Rattle.kube_watch.specs.Stands.{api_of};
+    ghost use Rattle.kube_final.specs.Lending.{LendsAwaitedApi};
+
     /// Waits for the object of a name, which the API watches alone.
     ///
     /// Errors: `NoMemory`.
@@ -280,17 +284,25 @@ impl<A: ApiMode, C: Condition<A::Value>> AwaitCondition<A, C> {
         requires unready { self.old.is_over ≡ false }
         requires may { (object : Option A.Value) → C.may self.old.condition object }
         requires fuel { 1 ≤ fuel }
-        ensures awaited { IfOk result (λ a. Awaited (record { moves = A.moves; talk = A.talk; faults = A.faults; version = version_of A.Value.meta_of }) (C.says self.old.condition) now.0 fuel self.old.watch (next_probed a) self.new.watch) }
+        ensures awaited { IfOk result (λ a. Awaited (api_in A.ApiMode A.Value.meta_of) (C.says self.old.condition) now.0 fuel self.old.watch (next_probed a) self.new.watch) }
         ensures condition { self.new.condition ≡ self.old.condition }
         ensures over { IfOk result (λ a. self.new.is_over ≡ is_item a) }
         ensures err { OnErr result (is_spent self.new.watch.watcher ≡ true) }
-        ensures lost { OnErr result (LostWait (record { moves = A.moves; talk = A.talk; faults = A.faults; version = version_of A.Value.meta_of }) (C.says self.old.condition) now.0 fuel self.old.watch self.new.watch) }
+        ensures lost { OnErr result (LostWait (api_in A.ApiMode A.Value.meta_of) (C.says self.old.condition) now.0 fuel self.old.watch self.new.watch) }
         ensures again { OnErr result (self.new.is_over ≡ false) }
         ensures spent { is_spent self.old.watch.watcher ≡ true → IsErr result × (self.new ≡ self.old) }
     {
         let answer = poll_end(&mut self.watch, &self.condition, alloc, now, fuel)?;
         self.over = is_item(&answer);
         Ok(answer)
+    }
+
+    /// The API of the watch. All else is as before.
+    pub fn api_mut(&mut self) -> &mut A
+        ensures* lends { sem 𝓛 (LendsAwaitedApi A.row A.Value.row A.Value.DynamicType.row A.ApiMode A.Value.Resource A.Value.DynamicType.Hash C.row self.entry result) }
+        ensures value { result.now ≡ api_of self.old.watch.watcher }
+    {
+        self.watch.api_mut()
     }
 }
 

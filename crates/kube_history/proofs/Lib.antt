@@ -21,3 +21,4 @@ pub mod Endings
 pub mod PoolEntries
 pub mod PoolStarts
 pub mod FinishOrder
+pub mod SettledOn

@@ -8,4 +8,5 @@ pub mod TurnEvents
 pub mod Agrees
 pub mod PoolHistory
 pub mod Running
+pub mod SettledEvents
 pub mod Rows

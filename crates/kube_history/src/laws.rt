@@ -28,6 +28,7 @@ ghost use Rattle.kube_history.specs.TurnEvents.{asks, before_takes, core_events,
 ghost use Rattle.kube_history.specs.Agrees.{Agrees, AgreesSoFar, EachFits};
 ghost use Rattle.kube_history.specs.PoolHistory.{PoolEntry, entry_events, events_in, has_started, IsOfPass, IsPoolHistory};
 ghost use Rattle.kube_history.specs.Running.{EachShutsDown, MayRun};
+ghost use Rattle.kube_history.specs.SettledEvents.{AreSettled};
 
 /// One more event: what each word says after it, from what it said before.
 pub fn one_more_event<O>()
@@ -36,6 +37,12 @@ pub fn one_more_event<O>()
     ensures answers { (es : List (CoreEvent O)) (e : CoreEvent O) → answers_in (es ++ e ∷ []) ≡ answers_in es ++ answers_in (e ∷ []) }
     ensures shut { (es : List (CoreEvent O)) (e : CoreEvent O) → was_shut (es ++ e ∷ []) ≡ was_shut es || is_shutdown e }
     ensures clock { (es : List (CoreEvent O)) (e : CoreEvent O) → clock_of (es ++ e ∷ []) ≡ moment_of e }
+{}
+
+/// Nothing stays unreconciled, over any legal list of events until a shutdown: every object that is stored was last handed over
+/// as it stands, or its key has an entry.
+pub fn legal_lists_are_settled<O>()
+    ensures { (core : CoreWorld O) (es : List (CoreEvent O)) → AreLegal core [] es → was_shut es ≡ false → AreSettled core es }
 {}
 
 /// Lists of events are legal, one after another, exactly where they are legal joined.

@@ -1,5 +1,5 @@
 -- What is stored after a root's exchanges is a state; and all of this for the first of them.
-use Rattle.std.proofs.Common.{◌≡◌, ℕ, ◌<◌, ◌^◌, Bool, true, false, cond, ◌&&◌, List, [], ◌∷◌, ◌++◌, map, length, Option, Some, None, refl, sym, ap, ap₂, subst, ◌∙◌, append_assoc, append-nil}
+use Rattle.std.proofs.Common.{◌≡◌, ℕ, ◌<◌, ◌^◌, Bool, true, false, cond, ◌&&◌, List, [], ◌∷◌, ◌++◌, map, length, Option, Some, None, refl, sym, ap, ap₂, subst, ◌∙◌, append_assoc, append-nil, arith}
 use Rattle.std.specs.List.{list_any, AllByRecursion, IsDistinct}
 use Rattle.std.specs.Option.{option_eq}
 use Rattle.std.specs.Str.{bytes_eq}
@@ -9,8 +9,10 @@ use Rattle.kube_meta.specs.declared.metadata.ObjectMeta.{ObjectMeta}
 use Rattle.kube_meta.specs.Reference.{ObjectType, Reference, same_type, same_reference}
 use Rattle.kube_meta.specs.ReferenceLaws.{same_reference_equiv}
 use Rattle.kube_meta.specs.Keys.{key_of as reference_to}
-use Rattle.kube_model.specs.World.{Settings}
+use Rattle.kube_model.specs.declared.call.Call.TheVariants.{Next}
+use Rattle.kube_model.specs.World.{Settings, Watched}
 use Rattle.kube_model.specs.History.{Exchange}
+use Rattle.kube_model.specs.Owed.{owed}
 use Rattle.kube_model.specs.Raw.{Raw}
 use Rattle.kube_model.specs.Recorded.{AreRecorded}
 use Rattle.kube_model.specs.Store.{store_of}
@@ -18,12 +20,14 @@ use Rattle.kube_model.proofs.Alls.{or-left, or-right}
 use Rattle.kube_model.proofs.Listed.{both}
 use Rattle.kube_model.proofs.Stores.{AreDistinct, distinct-store}
 use Rattle.kube_server.specs.History.{Key, key_of, same_key, Change, IsHistory}
-use Rattle.kube_server.specs.Honest.{Selection, selected_at, IsHonestAfter, IsHonest}
+use Rattle.kube_server.specs.Honest.{Selection, list_told, selected_at, IsHonestAfter, IsHonest}
 use Rattle.kube_server.proofs.HistoryLemmas.{same-equal}
-use Rattle.kube_honest.specs.States.{selection_by, StoresState}
-use Rattle.kube_server.specs.Readers.{IsByKey}
+use Rattle.kube_honest.specs.States.{selection_by, IsStateAt, StoresState}
+use Rattle.kube_server.specs.Readers.{IsByKey, IsToldAll}
 use Rattle.kube_honest.proofs.Finds.{keys, own, under, Apart, same-objects}
 use Rattle.kube_honest.proofs.Follows.{at-apart}
+use Rattle.kube_honest.proofs.Newest.{newest-finds}
+use Rattle.kube_honest.proofs.Summaries.{summary}
 use Rattle.kube_honest.proofs.Walks.{EachOwed, honest-walk}
 
 -- ---- references of one type are the same where the keys are
@@ -145,3 +149,17 @@ module _ {V : Type 0} (meta : V → ObjectMeta) (selects : Selection → V → B
       let f = first-raws settings version raws xs ys r in
       stores-state before f.first xs f.recorded (owed-first [] xs ys o)
       (honest-first meta selects history [] (before ++ f.first) f.rest (subst (IsHonest meta selects history) (ap (λ qs. before ++ qs) f.is ∙ sym (append_assoc before f.first f.rest)) n))
+
+  -- where the open watch has told all it is the newest state
+  pub stores-newest : (before raws : List (Raw V)) (xs : List (Exchange V)) → AreRecorded version settings raws xs → EachIsOwed [] xs → IsHonest meta selects history (before ++ raws)
+      → owed (Watched settings) xs ≡ Next → IsToldAll meta selects history (before ++ raws) → IsStateAt key meta selects history (selection_by settings) (length history) (store_of key xs)
+  stores-newest before raws xs r o n owes all =
+      let h = honest-walk meta selects history settings by_key is_history small key alike version versions before raws xs r o (honest-later meta selects history [] before raws n) in
+      record {
+        known = omega arith;
+        same =
+            same-objects meta (store_of key xs) (selected_at meta selects history (selection_by settings) (length history))
+            (apart-store (store_of key xs) (distinct-store key xs)) (at-apart meta selects history (selection_by settings) by_key is_history (length history))
+            (newest-finds meta selects history settings by_key is_history small (list_told (before ++ raws)) (before ++ raws) (summary settings key xs) h owes all);
+        once = once-store (store_of key xs) (distinct-store key xs);
+      }

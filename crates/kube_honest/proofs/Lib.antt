@@ -7,6 +7,7 @@ pub mod Phases
 pub mod Steps
 pub mod NextSteps
 pub mod Walks
+pub mod Newest
 pub mod Endings
 pub mod Turns
 pub mod Tellings

@@ -5,20 +5,22 @@ use Rattle.std.proofs.lemmas.List.{map-append, take-append-drop}
 use Rattle.std.proofs.lemmas.List.Elements.{filter-append}
 use Rattle.kube_meta.specs.declared.metadata.ObjectMeta.{ObjectMeta}
 use Rattle.kube_meta.specs.Reference.{ObjectType}
+use Rattle.kube_model.specs.declared.call.Call.TheVariants.{Next}
 use Rattle.kube_model.specs.World.{World, Settings, Watched, feed_of}
 use Rattle.kube_model.specs.History.{Exchange, Dated, Turn, Step, dated, exchanges, dated_of, exchanges_of}
 use Rattle.kube_model.specs.Owed.{owed}
 use Rattle.kube_model.specs.Raw.{Raw}
 use Rattle.kube_model.specs.Recorded.{AreRecorded}
+use Rattle.kube_model.specs.Store.{store_of}
 use Rattle.kube_model.specs.Traces.{IsTrace, Made, step, steps}
 use Rattle.kube_model.proofs.Histories.{exchanges-push, exchanges_of-own, exchanges_of-other}
 use Rattle.kube_history.specs.Agrees.{EachFits}
 use Rattle.kube_history.proofs.TurnParts.{turn-fits}
 use Rattle.kube_server.specs.History.{Change, IsHistory}
 use Rattle.kube_server.specs.Honest.{Selection, IsHonest}
-use Rattle.kube_honest.specs.States.{selection_by, IsOfMetadata, StoresState}
-use Rattle.kube_server.specs.Readers.{IsByKey}
-use Rattle.kube_honest.proofs.Endings.{alike-keys, stores-first, EachIsOwed}
+use Rattle.kube_honest.specs.States.{selection_by, IsOfMetadata, IsStateAt, StoresState}
+use Rattle.kube_server.specs.Readers.{IsByKey, IsToldAll}
+use Rattle.kube_honest.proofs.Endings.{alike-keys, stores-first, stores-newest, stores-state, EachIsOwed}
 
 module _ {V B : Type 0} (w : World V B) where
   -- the exchanges of a trace fit, each after those before it
@@ -54,6 +56,18 @@ module _ {V B : Type 0} (w : World V B) (settings : Settings) (watched : feed_of
             subst (λ xs. IsOwedEach xs (exchanges_of 0 ds)) (exchanges_of-own 0 before d e) r,
           )
       go false e r = subst (λ xs. IsOwedEach xs (exchanges_of 0 ds)) (exchanges_of-other 0 before d e) r
+
+  -- exchanges of all sources, each of which fits those before it
+  pub exchanges-store : (ds : List (Dated V)) → EachFits w [] ds → (before talk : List (Raw V)) → AreRecorded w.version settings talk (exchanges_of 0 ds) → IsHonest meta selects history (before ++ talk)
+      → StoresState w.key meta selects history (selection_by settings) (exchanges_of 0 ds)
+  exchanges-store ds f before talk r honest =
+      stores-state meta selects history settings by_key is_history small w.key (alike-keys meta kind w.key of_meta.key) w.version versions before talk (exchanges_of 0 ds) r (owed-each [] ds f) honest
+
+  pub exchanges-newest : (ds : List (Dated V)) → EachFits w [] ds → (before talk : List (Raw V)) → AreRecorded w.version settings talk (exchanges_of 0 ds) → IsHonest meta selects history (before ++ talk)
+      → owed (Watched settings) (exchanges_of 0 ds) ≡ Next → IsToldAll meta selects history (before ++ talk)
+      → IsStateAt w.key meta selects history (selection_by settings) (length history) (store_of w.key (exchanges_of 0 ds))
+  exchanges-newest ds f before talk r honest owes all =
+      stores-newest meta selects history settings by_key is_history small w.key (alike-keys meta kind w.key of_meta.key) w.version versions before talk (exchanges_of 0 ds) r (owed-each [] ds f) honest owes all
 
   -- the root's exchanges of turns, cut at one
   cut : (n : ℕ) (h : List (Step V)) → exchanges_of 0 (exchanges h) ≡ exchanges_of 0 (exchanges (take n h)) ++ exchanges_of 0 (exchanges (drop n h))

@@ -2,27 +2,33 @@
 //! a run is what `Controller::run` ensures of it.
 
 ghost use Rattle.std.specs.Prelude.{◌≡◌, ◌<◌, ◌^◌, ◌++◌, ℕ, [], Bool, List, Option, Some, fold, length, map, take};
+ghost use Rattle.std.specs.declared.alloc.Global.{Global};
+ghost use Rattle.std.specs.declared.sync.Arc.{Arc};
+ghost use Rattle.kube_meta.specs.declared.dynamic.ApiResource.{ApiResource};
 ghost use Rattle.kube_meta.specs.declared.dynamic.DynamicObject.{DynamicObject};
-ghost use Rattle.kube_model.specs.World.{World, Settings};
+ghost use Rattle.kube_model.specs.declared.call.Call.TheVariants.{Next};
+ghost use Rattle.kube_model.specs.World.{World, Settings, Watched};
 ghost use Rattle.kube_model.specs.History.{Dated, Step, Turn, TurnRecord, exchanges, exchanges_of};
-ghost use Rattle.kube_model.specs.Raw.{Raw};
+ghost use Rattle.kube_model.specs.Owed.{owed};
+ghost use Rattle.kube_model.specs.Raw.{Raw, Waits};
+ghost use Rattle.kube_model.specs.Store.{store_of};
 ghost use Rattle.kube_model.specs.Traces.{IsTrace, steps, unread};
-ghost use Rattle.kube_server.specs.History.{Change, IsHistory};
+ghost use Rattle.kube_server.specs.History.{Change, IsHistory, IsLater};
 ghost use Rattle.kube_server.specs.Honest.{Selection, IsHonest};
 ghost use Rattle.kube_server.specs.Readers.{IsByKey};
-ghost use Rattle.kube_server.specs.Connections.{Act, Connection, acted, fresh};
+ghost use Rattle.kube_server.specs.Connections.{Act, Connection, IsSameLog, acted, fresh, polled, selected_by};
 ghost use Rattle.kube_server.specs.Servers.{meta_of};
 ghost use Rattle.kube_watch.specs.Calls.{version_of};
 ghost use Rattle.kube_watch.specs.Stands.{api_of, settings_in};
 ghost use Rattle.kube_asks.specs.Roots.{RootWatching};
 ghost use Rattle.kube_step.specs.Calls.{ArePolled, dated_in};
 ghost use Rattle.kube_control.specs.Controllers.{Controlling, StandsFor};
-ghost use Rattle.kube_honest.specs.States.{selection_by, StoresState};
+ghost use Rattle.kube_honest.specs.States.{selection_by, IsStateAt, StoresState};
 ghost use Rattle.kube_honest.specs.Talks.{HasTold};
 
 use kube_api::ApiMode;
 use kube_asks::{Backoff, RelatedSet, RootSource, WatchRoot};
-use kube_meta::DynamicObject;
+use kube_meta::{DynamicObject, Resource};
 use kube_server::Conn;
 
 /// The API of a root that lists and watches tells the raw forms of the root's exchanges, run after run: where it told those
@@ -50,10 +56,38 @@ pub fn honest_controllers_store_states<A: ApiMode, S: RelatedSet<A::Value>, B: B
 {}
 
 /// A connection to a server stays one that was made by calls and copies of the log, whatever a run asks of it: so its talk
-/// is honest to its log after the run too (kube_server's law `talks_are_honest`).
+/// is honest to its log after the run too (kube_server's law `talks_are_honest`). The log, and up to which revision it counts as
+/// gone, are as before the run.
 pub fn connections_stay_honest_in_runs<S: RelatedSet<DynamicObject>>()
-    ensures { (before ds : List (Dated DynamicObject)) (r r' : RootWatching (Connection DynamicObject) DynamicObject) (s s' : S) (changes : List (Change DynamicObject)) (compacted : ℕ) (acts : List (Act DynamicObject))
+    ensures honest { (before ds : List (Dated DynamicObject)) (r r' : RootWatching (Connection DynamicObject) DynamicObject) (s s' : S) (changes : List (Change DynamicObject)) (compacted : ℕ) (acts : List (Act DynamicObject))
         → api_of r.watcher ≡ fold (acted meta_of) (fresh changes compacted) acts
         → ArePolled ⟦<WatchRoot<Conn> as RootSource>⟧.polls S.polls before r s ds r' s'
         → (more : List (Act DynamicObject)) × (api_of r'.watcher ≡ fold (acted meta_of) (fresh changes compacted) more) }
+    ensures log { (before ds : List (Dated DynamicObject)) (r r' : RootWatching (Connection DynamicObject) DynamicObject) (s s' : S)
+        → ArePolled ⟦<WatchRoot<Conn> as RootSource>⟧.polls S.polls before r s ds r' s'
+        → IsSameLog (api_of r.watcher) (api_of r'.watcher) }
+{}
+
+/// A controller over a connection, however that was fed between its runs, stored a state of the server's history after each turn
+/// that it stands for: nothing before the first complete list, and from then on the selected objects at the revision that was
+/// seen last. Where the connection holds the whole log and has nothing more to give of the watch that the root has open, as
+/// when the root told not ready, what is stored is the server's newest state.
+///
+/// The connection's log is a beginning of the server's (`Conn::feed` asks for that). That it told the exchanges is what
+/// `api_tells_the_exchanges_of_runs` says, and that it was made by calls and copies `connections_stay_honest_in_runs`.
+pub fn connected_controllers_store_states<S: RelatedSet<DynamicObject>, B: Backoff>()
+    ensures states { (w : World DynamicObject B) (h : List (Step DynamicObject)) (c : Controlling (RootWatching (Connection DynamicObject) DynamicObject) S B DynamicObject (Arc ApiResource Global))
+        → StandsFor ⟦<WatchRoot<Conn> as RootSource>⟧ S.RelatedSet B.Backoff ⟦<DynamicObject as Resource>⟧ w h c → (settings : Settings) → settings_in c.asks.root.watcher ≡ settings
+        → (changes : List (Change DynamicObject)) (compacted : ℕ) (acts : List (Act DynamicObject)) → api_of c.asks.root.watcher ≡ fold (acted meta_of) (fresh changes compacted) acts
+        → HasTold (version_of meta_of) settings [] (exchanges_of 0 (exchanges h)) (Some (api_of c.asks.root.watcher).talk)
+        → (history : List (Change DynamicObject)) (gone : ℕ) → IsHistory meta_of history → length history < 2 ^ 64
+        → IsLater (api_of c.asks.root.watcher).changes history (api_of c.asks.root.watcher).compacted gone
+        → (n : ℕ) → StoresState w.key meta_of (selected_by meta_of) history (selection_by settings) (exchanges_of 0 (exchanges (take n h))) }
+    ensures newest { (w : World DynamicObject B) (h : List (Step DynamicObject)) (c : Controlling (RootWatching (Connection DynamicObject) DynamicObject) S B DynamicObject (Arc ApiResource Global))
+        → StandsFor ⟦<WatchRoot<Conn> as RootSource>⟧ S.RelatedSet B.Backoff ⟦<DynamicObject as Resource>⟧ w h c → (settings : Settings) → settings_in c.asks.root.watcher ≡ settings
+        → (changes : List (Change DynamicObject)) (compacted : ℕ) (acts : List (Act DynamicObject)) → api_of c.asks.root.watcher ≡ fold (acted meta_of) (fresh changes compacted) acts
+        → HasTold (version_of meta_of) settings [] (exchanges_of 0 (exchanges h)) (Some (api_of c.asks.root.watcher).talk)
+        → (history : List (Change DynamicObject)) → IsHistory meta_of history → length history < 2 ^ 64 → (api_of c.asks.root.watcher).changes ≡ history
+        → owed (Watched settings) (exchanges_of 0 (exchanges h)) ≡ Next → polled meta_of (api_of c.asks.root.watcher) ≡ Waits
+        → IsStateAt w.key meta_of (selected_by meta_of) history (selection_by settings) (length history) (store_of w.key (exchanges_of 0 (exchanges h))) }
 {}

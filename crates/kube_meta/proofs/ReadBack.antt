@@ -21,7 +21,7 @@ use Rattle.kube_meta.specs.Writing.{put_if, with_fields, text_members, texts_dat
 
 -- ---- look-ups among fields
 
-abbrev some_or : Option Data → Option Data → Option Data
+abbrev pub some_or : Option Data → Option Data → Option Data
 some_or None d = d
 some_or (Some v) d = Some v
 
@@ -30,11 +30,11 @@ some_or-none None = refl
 some_or-none (Some v) = refl
 
 -- what fields leave under a name, over what was there
-abbrev given : List ℕ → List (List ℕ × Option Data) → Option Data → Option Data
+abbrev pub given : List ℕ → List (List ℕ × Option Data) → Option Data → Option Data
 given q [] d = d
 given q (f ∷ fs) d = given q fs (cond (bytes_eq q f.0) (some_or f.1 d) d)
 
-get-put_at : (q k : List ℕ) (v : Data) (ms : Members) (b : Bool) → bytes_eq q k ≡ b → get_member q (put k v ms) ≡ cond b (Some v) (get_member q ms)
+pub get-put_at : (q k : List ℕ) (v : Data) (ms : Members) (b : Bool) → bytes_eq q k ≡ b → get_member q (put k v ms) ≡ cond b (Some v) (get_member q ms)
 get-put_at q k v ms true e = subst (λ p. get_member p (put k v ms) ≡ Some v) (sym ((bytes_eq-Decides q k).0 e)) (get_member-put k v ms)
 get-put_at q k v ms false e = get_member-put_other q k v ms (λ h. true≢false (sym ((bytes_eq-Decides q k).1 h) ∙ e))
 
@@ -108,7 +108,7 @@ numbers_back : (o : Option ℤ) → IfSome o IsSmall → IfSome o (λ z. optiona
 numbers_back None h = tt
 numbers_back (Some z) h = number_back z h
 
-under_name : (q : List ℕ) (m : ObjectMeta) (v : Option Data) → given q (meta_fields m) None ≡ some_or v None → get_member q (with_fields (meta_fields m) no_members) ≡ v
+pub under_name : (q : List ℕ) (m : ObjectMeta) (v : Option Data) → given q (meta_fields m) None ≡ some_or v None → get_member q (with_fields (meta_fields m) no_members) ≡ v
 under_name q m v e = get-with_fields q (meta_fields m) no_members ∙ e ∙ some_or-none v
 
 pub meta_back : (m : ObjectMeta) → IfSome m.generation IsSmall → meta_at (meta_data m) ≡ Ok (without_empties m)
@@ -132,10 +132,10 @@ meta_back m h =
 some_is_none : (e : Data) → Some e ≡ None → ⊥
 some_is_none e h = true≢false (ap is_some h)
 
-same_text : (k : List ℕ) → bytes_eq k k ≡ true
+pub same_text : (k : List ℕ) → bytes_eq k k ≡ true
 same_text k = (bytes_eq-Decides k k).1 refl
 
-other_text : (k l : List ℕ) (o : Ordering) → slice_cmp nat_cmp k l ≡ o → is_eq o ≡ false → bytes_eq k l ≡ false
+pub other_text : (k l : List ℕ) (o : Ordering) → slice_cmp nat_cmp k l ≡ o → is_eq o ≡ false → bytes_eq k l ≡ false
 other_text k l o e h = sym (is_eq-slice_cmp k l) ∙ ap is_eq e ∙ h
 
 without-absent_at : (k l : List ℕ) (e : Data) (ms : Members) (o : Ordering) → slice_cmp nat_cmp k l ≡ o → match_ordering o (get_member k ms) (Some e) (get_member k ms) ≡ None
@@ -162,7 +162,7 @@ without-put k d (member l e ms) h = without-put_at k l d e ms (slice_cmp nat_cmp
 other_put : (q k : List ℕ) (d : Data) (ms : Members) (o : Option Data) → bytes_eq q k ≡ false → get_member q ms ≡ o → get_member q (put k d ms) ≡ o
 other_put q k d ms o e h = get-put_at q k d ms false e ∙ h
 
-same_put : (k : List ℕ) (d : Data) (ms : Members) → get_member k (put k d ms) ≡ Some d
+pub same_put : (k : List ℕ) (d : Data) (ms : Members) → get_member k (put k d ms) ≡ Some d
 same_put k d ms = get_member-put k d ms
 
 record Absent (ms : Members) : Type 0 where
@@ -245,5 +245,53 @@ object_back o c h =
     let meta : maybe_field (codes "metadata") meta_at (object written) ≡ Ok (Some (without_empties o.metadata)) =
     metadata_back (with_fields (meta_fields o.metadata) no_members) written (without_empties o.metadata) (same_put (codes "metadata") (meta_data o.metadata) (with_fields (type_fields o.types) ms)) (meta_back o.metadata h) in
     let left : others written ≡ ms = others-put o.types (meta_data o.metadata) ms a in
+    let whole : whole_members ms ≡ Ok tt = whole_members_back ms (subst (λ d. has_float d ≡ false) c.is_object c.whole) in
+    rw (rest, types, meta, left, whole, c.is_object) refl
+
+-- ---- another list of finalizers
+
+-- a member is another one, and all others are as before
+pub record IsReplaced (k : List ℕ) (d : Data) (before after : Members) : Type 0 where
+  pub there : get_member k after ≡ Some d
+  pub others : (q : List ℕ) → bytes_eq q k ≡ false → get_member q after ≡ get_member q before
+
+read_names : (names : List (List ℕ)) (ms : Members) → get_member (codes "finalizers") ms ≡ Some (list_data string names)
+    → full_field (codes "finalizers") (list_at text_at) (object ms) ≡ Ok (unless_empty (Some names))
+unfolding full_field
+read_names names ms e =
+    ap (λ r. r >>= λ p. Ok (unless_empty p)) (read_member (codes "finalizers") (list_at text_at) (list_data string) (Some names) ms e (list_back text_at string (λ x. refl) names))
+
+pub finalizers_back : (m : ObjectMeta) (names : List (List ℕ)) (after : Members) → IfSome m.generation IsSmall
+    → IsReplaced (codes "finalizers") (list_data string names) (with_fields (meta_fields m) no_members) after → meta_at (object after) ≡ Ok (without_empties (record m { finalizers = Some names }))
+unfolding meta_at object_at meta_fields
+finalizers_back m names after h r =
+    let name = read_text (codes "name") m.name after (r.others (codes "name") refl ∙ under_name (codes "name") m _ refl) in
+    let namespace = read_text (codes "namespace") m.namespace after (r.others (codes "namespace") refl ∙ under_name (codes "namespace") m _ refl) in
+    let uid = read_text (codes "uid") m.uid after (r.others (codes "uid") refl ∙ under_name (codes "uid") m _ refl) in
+    let version = read_text (codes "resourceVersion") m.resource_version after (r.others (codes "resourceVersion") refl ∙ under_name (codes "resourceVersion") m _ refl) in
+    let deleted = read_text (codes "deletionTimestamp") m.deletion_timestamp after (r.others (codes "deletionTimestamp") refl ∙ under_name (codes "deletionTimestamp") m _ refl) in
+    let generation =
+    read_member (codes "generation") whole_at (λ z. number (of_integer z)) m.generation after (r.others (codes "generation") refl ∙ under_name (codes "generation") m _ refl) (numbers_back m.generation h) in
+    let labels = read_full (codes "labels") texts_at texts_data m.labels after (r.others (codes "labels") refl ∙ under_name (codes "labels") m _ refl) texts_back in
+    let annotations = read_full (codes "annotations") texts_at texts_data m.annotations after (r.others (codes "annotations") refl ∙ under_name (codes "annotations") m _ refl) texts_back in
+    let finalizers = read_names names after r.there in
+    let owners =
+    read_full (codes "ownerReferences") (list_at owner_at) (list_data owner_data) m.owner_references after (r.others (codes "ownerReferences") refl ∙ under_name (codes "ownerReferences") m _ refl)
+    (list_back owner_at owner_data owner_back) in
+    rw (name, namespace, uid, version, deleted, generation, labels, annotations, finalizers, owners) refl
+
+-- an object is read of its document with other metadata
+pub object_with : (o : ObjectData) (after : Members) (m : ObjectMeta) → IsContent o.content → meta_at (object after) ≡ Ok m
+    → object_data_at (object (put (codes "metadata") (object after) (with_fields (type_fields o.types) (others (content_members o.content))))) ≡ Ok (record o { metadata = m })
+unfolding object_data_at object_at content_at
+object_with o after m c h =
+    let ms = c.members in
+    let a : Absent ms = record { version = c.no_version; kind = c.no_kind; metadata = c.no_metadata } in
+    let rest : others (content_members o.content) ≡ ms = rw c.is_object (others-absent ms a) in
+    let written = put (codes "metadata") (object after) (with_fields (type_fields o.types) ms) in
+    let types : types_at (object written) ≡ Ok o.types = types_back o.types (object after) ms a in
+    let meta : maybe_field (codes "metadata") meta_at (object written) ≡ Ok (Some m) =
+    metadata_back after written m (same_put (codes "metadata") (object after) (with_fields (type_fields o.types) ms)) h in
+    let left : others written ≡ ms = others-put o.types (object after) ms a in
     let whole : whole_members ms ≡ Ok tt = whole_members_back ms (subst (λ d. has_float d ≡ false) c.is_object c.whole) in
     rw (rest, types, meta, left, whole, c.is_object) refl

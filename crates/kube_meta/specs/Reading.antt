@@ -2,7 +2,7 @@
 use Rattle.std.specs.Prelude.{ℕ, suc, ℤ, Bool, true, false, ◌||◌, List, [], ◌∷◌, Option, Some, None, Result, Ok, Err, codes, decimal, cond, unwrap_or, if◌then◌else◌}
 use Rattle.std.specs.Str.{bytes_eq}
 use Rattle.serde_json.specs.Data.{unsigned, negative, float, Data, null, boolean, number, string, array, object, Items, no_items, item, Members, no_members, member}
-use Rattle.serde_json.specs.Find.{get, as_str, as_array, as_object, as_i64}
+use Rattle.serde_json.specs.Find.{get, as_str, as_array, as_object, as_i64, as_u64}
 use Rattle.serde_json.specs.View.{view}
 use Rattle.kube_meta.specs.declared.metadata.ObjectMeta.{ObjectMeta}
 use Rattle.kube_meta.specs.declared.metadata.OwnerReference.{OwnerReference}
@@ -39,6 +39,15 @@ whole_at (boolean b) = misshapen
 whole_at (string s) = misshapen
 whole_at (array ds) = misshapen
 whole_at (object ms) = misshapen
+
+-- a whole number of 64 bits without sign
+abbrev pub unsigned_at : Data → Result ℕ ObjectFault
+unsigned_at (number n) = found (as_u64 n)
+unsigned_at null = misshapen
+unsigned_at (boolean b) = misshapen
+unsigned_at (string s) = misshapen
+unsigned_at (array ds) = misshapen
+unsigned_at (object ms) = misshapen
 
 -- texts under names
 abbrev pub pairs_at : Members → Result (List (List ℕ × List ℕ)) ObjectFault

@@ -6,7 +6,7 @@ ghost use Rattle.serde_json.specs.Find.{get};
 ghost use Rattle.serde_json.specs.View.{view, items_view, members_view};
 ghost use Rattle.kube_meta.specs.declared.object_fault.ObjectFault.{ObjectFault as fault_data};
 ghost use Rattle.kube_meta.specs.Places.{Gives};
-ghost use Rattle.kube_meta.specs.Reading.{seen_object, unless_empty, text_at, whole_at, pairs_at, texts_at, items_at, list_at, field, optional, maybe_field, full_field, object_at, owner_at, meta_at, is_value, has_types, types_at, whole_numbers, whole_items as whole_items_at, whole_members as whole_members_at, others, content_at, object_data_at};
+ghost use Rattle.kube_meta.specs.Reading.{seen_object, unless_empty, text_at, whole_at, unsigned_at, pairs_at, texts_at, items_at, list_at, field, optional, maybe_field, full_field, object_at, owner_at, meta_at, is_value, has_types, types_at, whole_numbers, whole_items as whole_items_at, whole_members as whole_members_at, others, content_at, object_data_at};
 
 use crate::dynamic::DynamicObject;
 use crate::list::List;
@@ -74,6 +74,17 @@ impl Readable for i64 {
 
     fn read(alloc: Global, value: &Value) -> Result<i64, ObjectFault> {
         match value.as_i64() {
+            Some(number) => Ok(number),
+            None => Err(ObjectFault::shape(alloc)),
+        }
+    }
+}
+
+impl Readable for u64 {
+    ghost reads = { unsigned_at };
+
+    fn read(alloc: Global, value: &Value) -> Result<u64, ObjectFault> {
+        match value.as_u64() {
             Some(number) => Ok(number),
             None => Err(ObjectFault::shape(alloc)),
         }

@@ -1,10 +1,10 @@
 -- Words of the script's tables: values of a form, numbers of a range, and members that have a default. A fault is the first one, with its place as a JSON Pointer (RFC 6901).
 use Rattle.std.specs.Prelude.{ℕ, Bool, List, [], Option, Result, Ok, nat_lt, if◌then◌else◌, unwrap_or}
-use Rattle.serde_json.specs.Data.{Data, null, boolean, number, string, array, object}
-use Rattle.serde_json.specs.Find.{as_u64, as_bool}
+use Rattle.serde_json.specs.Data.{Data}
+use Rattle.serde_json.specs.Find.{as_bool}
 use Rattle.kube_meta.specs.declared.object_fault.ObjectFault.{ObjectFault}
 use Rattle.kube_meta.specs.Places.{◌>>=◌, misshapen}
-use Rattle.kube_meta.specs.Reading.{found, list_at, maybe, maybe_field}
+use Rattle.kube_meta.specs.Reading.{found, list_at, maybe, maybe_field, unsigned_at}
 
 -- a truth value
 abbrev pub flag_at : Data → Result Bool ObjectFault
@@ -12,12 +12,7 @@ flag_at d = found (as_bool d)
 
 -- a whole number of 64 bits without sign
 abbrev pub number_at : Data → Result ℕ ObjectFault
-number_at (number n) = found (as_u64 n)
-number_at null = misshapen
-number_at (boolean b) = misshapen
-number_at (string s) = misshapen
-number_at (array ds) = misshapen
-number_at (object ms) = misshapen
+number_at d = unsigned_at d
 
 abbrev pub at_most : ℕ → ℕ → Result ℕ ObjectFault
 at_most most n = if nat_lt most n then misshapen else Ok n

@@ -11,7 +11,7 @@ pub mod WatchLemmas
 pub mod NumberLemmas
 pub mod ListLemmas
 pub mod StandingLemmas
-pub mod PlaceLemmas
+pub mod IndexLemmas
 pub mod SelectorLemmas
 pub mod LogLemmas
 pub mod ConnLemmas
@@ -23,3 +23,5 @@ pub mod TalkLemmas
 pub mod LastLemmas
 pub mod KeyLemmas
 pub mod RowLemmas
+pub mod NewestLemmas
+pub mod StateLemmas

@@ -18,7 +18,7 @@ use Rattle.kube_model.specs.Raw.{RawAnswer, ListAsked, GivesPage}
 use Rattle.kube_server.specs.History.{Key, key_of, key_cmp, same_key, State, Change, Adds, Modifies, Removes, with_object, without_object, changed, objects_of, state_at}
 use Rattle.kube_server.specs.Numbers.{NameSought, name_sought, Token, token_text, token_at}
 use Rattle.kube_server.specs.Honest.{Selection, same_selection, list_selection, ListTold, goes_on, after_page, list_after, selected_at, IsWholeList, IsHonestEnd, IsHonestList}
-use Rattle.kube_server.specs.Connections.{Connection, selects_name, selected_by, is_known, if_known, named_at, place_asked, last_page, page_within, page_of, page_at, listed_by, listed}
+use Rattle.kube_server.specs.Connections.{Connection, selects_name, selected_by, is_known, if_known, named_at, token_asked, last_page, page_within, page_of, page_at, listed_by, listed}
 use Rattle.kube_server.specs.Standing.{IsListing, ListGoesOn, ListStands}
 use Rattle.kube_server.proofs.HonestLemmas.{longer, selected_at-more, IsHonestEnd-more}
 use Rattle.kube_server.proofs.NumberLemmas.{token_at-token_text}
@@ -105,7 +105,7 @@ module _ {V : Type 0} (meta : V → ObjectMeta) (h : List (Change V)) where
     version = None;
     is = refl;
     goes_on = record {
-      place = record { revision = t.revision; offset = t.offset + n };
+      from = record { revision = t.revision; offset = t.offset + n };
       known = known;
       within = omega (arith, length-drop t.offset (selection_at s t.revision));
       token = refl;
@@ -153,17 +153,17 @@ same_text (Some x) None e = absurd (cc)
 same_text (Some x) (Some y) e = ap Some ((bytes_eq-Decides x y).0 e)
 
 module _ {V : Type 0} (meta : V → ObjectMeta) (c : Connection V) where
-  place_known : (r : ℕ) (t : Token) (p : Token) → if_known c r t ≡ Some p → t ≡ p
-  place_known r t p e =
+  token_known : (r : ℕ) (t : Token) (p : Token) → if_known c r t ≡ Some p → t ≡ p
+  token_known r t p e =
       elim (cases_Bool (is_known c r)) [
         | inl known ↦ let e' = rw known at e in (cc)
         | inr other ↦ let e' = rw other at e in absurd (cc)
       ]
 
-  place_of_token : (text : List ℕ) (p t : Token) → text ≡ token_text p → p.revision < 2 ^ 64 → p.offset < 2 ^ 64 → place_asked c (Some text) ≡ Some t → p ≡ t
-  place_of_token text p t is revision offset asked =
+  token_read : (text : List ℕ) (p t : Token) → text ≡ token_text p → p.revision < 2 ^ 64 → p.offset < 2 ^ 64 → token_asked c (Some text) ≡ Some t → p ≡ t
+  token_read text p t is revision offset asked =
       let read : token_at text ≡ Some p = rw is (token_at-token_text p revision offset) in
-      place_known p.revision p t (rw read at asked)
+      token_known p.revision p t (rw read at asked)
 
   given_on : (l : ListTold V) (params : ListParams) (text : List ℕ) (answer : RawAnswer V) → params.continue_token ≡ Some text → goes_on l params ≡ true → IsPage meta c.changes l.selection l.objects answer → ListStands meta c.changes (list_after (Some l) (ListAsked params) answer)
   given_on l params text answer by_token on page =
@@ -182,7 +182,7 @@ module _ {V : Type 0} (meta : V → ObjectMeta) (c : Connection V) where
   given_none params text answer by_token page =
       rw page.is (subst (λ o. ListStands meta c.changes (after_page None o params page.items page.token page.version)) (sym by_token) tt)
 
-  page_after : (l : ListTold V) (params : ListParams) (name : NameSought) (text : List ℕ) (t : Token) → length c.changes < 2 ^ 64 → name_sought params.label_selector params.field_selector ≡ Some name → params.continue_token ≡ Some text → place_asked c (Some text) ≡ Some t → ListStands meta c.changes (Some l) → goes_on l params ≡ true → ListStands meta c.changes (list_after (Some l) (ListAsked params) (page_at meta c name params.limit (Some t)))
+  page_after : (l : ListTold V) (params : ListParams) (name : NameSought) (text : List ℕ) (t : Token) → length c.changes < 2 ^ 64 → name_sought params.label_selector params.field_selector ≡ Some name → params.continue_token ≡ Some text → token_asked c (Some text) ≡ Some t → ListStands meta c.changes (Some l) → goes_on l params ≡ true → ListStands meta c.changes (list_after (Some l) (ListAsked params) (page_at meta c name params.limit (Some t)))
   page_after l params name text t small names by_token asked stands on =
       let both = and_both (option_eq bytes_eq l.token params.continue_token) (same_selection l.selection (list_selection params)) on in
       let token : l.token ≡ Some text = same_text l.token params.continue_token both.0 ∙ by_token in
@@ -191,9 +191,9 @@ module _ {V : Type 0} (meta : V → ObjectMeta) (c : Connection V) where
       let fields : l.selection.fields ≡ params.field_selector = same_text _ _ selectors.1 in
       let sought : name_sought l.selection.labels l.selection.fields ≡ Some name = rw (labels, fields) names in
       let listing : IsListing meta c.changes l text = subst (λ o. ListGoesOn meta c.changes l o) token stands in
-      let place : listing.place ≡ t = place_of_token text listing.place t listing.token (omega (arith, listing.known)) (omega (arith, listing.within, length-selected_at meta (selected_by meta) c.changes l.selection listing.place.revision)) asked in
-      let page = page_of-is meta c.changes l.selection l.objects listing.place listing.known listing.given listing.within params.limit in
-      let page' : IsPage meta c.changes l.selection l.objects (page_at meta c name params.limit (Some t)) = rw (← place, named_at-is meta c.changes l.selection name listing.place.revision sought) page in
+      let same : listing.from ≡ t = token_read text listing.from t listing.token (omega (arith, listing.known)) (omega (arith, listing.within, length-selected_at meta (selected_by meta) c.changes l.selection listing.from.revision)) asked in
+      let page = page_of-is meta c.changes l.selection l.objects listing.from listing.known listing.given listing.within params.limit in
+      let page' : IsPage meta c.changes l.selection l.objects (page_at meta c name params.limit (Some t)) = rw (← same, named_at-is meta c.changes l.selection name listing.from.revision sought) page in
       given_on l params text _ by_token on page'
 
   first_page : (list : Option (ListTold V)) (params : ListParams) (name : NameSought) → name_sought params.label_selector params.field_selector ≡ Some name → params.continue_token ≡ None → ListStands meta c.changes (list_after list (ListAsked params) (page_at meta c name params.limit (Some (record { revision = length c.changes; offset = 0 }))))
@@ -202,7 +202,7 @@ module _ {V : Type 0} (meta : V → ObjectMeta) (c : Connection V) where
       let page' : IsPage meta c.changes (list_selection params) [] (page_at meta c name params.limit (Some (record { revision = length c.changes; offset = 0 }))) = rw (named_at-is meta c.changes (list_selection params) name (length c.changes) names) page in
       given_first list params _ begins page'
 
-  next_page : (list : Option (ListTold V)) (params : ListParams) (name : NameSought) (text : List ℕ) (t : Token) → length c.changes < 2 ^ 64 → name_sought params.label_selector params.field_selector ≡ Some name → params.continue_token ≡ Some text → place_asked c (Some text) ≡ Some t → ListStands meta c.changes list → ListStands meta c.changes (list_after list (ListAsked params) (page_at meta c name params.limit (Some t)))
+  next_page : (list : Option (ListTold V)) (params : ListParams) (name : NameSought) (text : List ℕ) (t : Token) → length c.changes < 2 ^ 64 → name_sought params.label_selector params.field_selector ≡ Some name → params.continue_token ≡ Some text → token_asked c (Some text) ≡ Some t → ListStands meta c.changes list → ListStands meta c.changes (list_after list (ListAsked params) (page_at meta c name params.limit (Some t)))
   next_page None params name text t small names by_token asked stands = given_none params text _ by_token (page_of-gives params.limit t (drop t.offset (named_at meta name c.changes t.revision)))
   next_page (Some l) params name text t small names by_token asked stands =
       elim (cases_Bool (goes_on l params)) [
@@ -210,16 +210,16 @@ module _ {V : Type 0} (meta : V → ObjectMeta) (c : Connection V) where
         | inr off ↦ given_off l params text _ by_token off (page_of-gives params.limit t (drop t.offset (named_at meta name c.changes t.revision)))
       ]
 
-  placed : (list : Option (ListTold V)) (params : ListParams) (name : NameSought) (token : Option (List ℕ)) (place : Option Token) → length c.changes < 2 ^ 64 → name_sought params.label_selector params.field_selector ≡ Some name → params.continue_token ≡ token → place_asked c token ≡ place → ListStands meta c.changes list → ListStands meta c.changes (list_after list (ListAsked params) (page_at meta c name params.limit place))
-  placed list params name token None small names by asked stands = stands
-  placed list params name None (Some t) small names by asked stands =
+  asked_page : (list : Option (ListTold V)) (params : ListParams) (name : NameSought) (token : Option (List ℕ)) (found : Option Token) → length c.changes < 2 ^ 64 → name_sought params.label_selector params.field_selector ≡ Some name → params.continue_token ≡ token → token_asked c token ≡ found → ListStands meta c.changes list → ListStands meta c.changes (list_after list (ListAsked params) (page_at meta c name params.limit found))
+  asked_page list params name token None small names by asked stands = stands
+  asked_page list params name None (Some t) small names by asked stands =
       let first : record { revision = length c.changes; offset = 0 } ≡ t = (cc) in
       subst (λ p. ListStands meta c.changes (list_after list (ListAsked params) (page_at meta c name params.limit (Some p)))) first (first_page list params name names by)
-  placed list params name (Some text) (Some t) small names by asked stands = next_page list params name text t small names by asked stands
+  asked_page list params name (Some text) (Some t) small names by asked stands = next_page list params name text t small names by asked stands
 
   sought : (list : Option (ListTold V)) (params : ListParams) (name : Option NameSought) → length c.changes < 2 ^ 64 → name_sought params.label_selector params.field_selector ≡ name → ListStands meta c.changes list → ListStands meta c.changes (list_after list (ListAsked params) (listed_by meta c params name))
   sought list params None small names stands = stands
-  sought list params (Some name) small names stands = placed list params name params.continue_token (place_asked c params.continue_token) small names refl refl stands
+  sought list params (Some name) small names stands = asked_page list params name params.continue_token (token_asked c params.continue_token) small names refl refl stands
 
   -- a list call leaves the list under way where its pages go on
   pub ListStands-listed : (list : Option (ListTold V)) (params : ListParams) → length c.changes < 2 ^ 64 → ListStands meta c.changes list → ListStands meta c.changes (list_after list (ListAsked params) (listed meta params c))
@@ -245,10 +245,10 @@ module _ {V : Type 0} (meta : V → ObjectMeta) (h more : List (Change V)) where
   goes_on-more : (list : ListTold V) (token : Option (List ℕ)) → ListGoesOn meta h list token → ListGoesOn meta (h ++ more) list token
   goes_on-more list None x = IsHonestEnd-more meta (selected_by meta) h more list.selection list.objects None (unless_empty list.version) x
   goes_on-more list (Some text) x =
-      let same = selected_at-more meta (selected_by meta) h more list.selection x.place.revision x.known in
+      let same = selected_at-more meta (selected_by meta) h more list.selection x.from.revision x.known in
       record {
-        place = x.place;
-        known = longer meta (selected_by meta) h more x.place.revision x.known;
+        from = x.from;
+        known = longer meta (selected_by meta) h more x.from.revision x.known;
         within = rw same x.within;
         token = x.token;
         given = rw same x.given;

@@ -19,7 +19,7 @@ module _ {V : Type 0} (meta : V → ObjectMeta) (h : List (Change V)) where
   -- ---- the changes after a revision, as a watch of a name gives them
 
   -- the changes that the selectors select are those of the name
-  between_named : (s : Selection) (name : NameSought) (r n : ℕ) → name_sought s.labels s.fields ≡ Some name → selected_between meta (selected_by meta) h s r (r + n) ≡ filter (λ change. has_name name (meta (object_of change))) (take n (drop r h))
+  pub between_named : (s : Selection) (name : NameSought) (r n : ℕ) → name_sought s.labels s.fields ≡ Some name → selected_between meta (selected_by meta) h s r (r + n) ≡ filter (λ change. has_name name (meta (object_of change))) (take n (drop r h))
   between_named s name r n names =
       selected_between-after meta (selected_by meta) h s r n ∙ ap (λ sought. filter (λ change. selects_name sought (meta (object_of change))) (take n (drop r h))) names
 

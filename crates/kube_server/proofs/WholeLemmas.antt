@@ -26,10 +26,10 @@ use Rattle.kube_server.proofs.OrderLemmas.{key_total, keys_of, IsBelow, below-al
 
 -- ---- states with the same look-ups are the same
 
-same-itself : (k : Key) → same_key k k ≡ true
+pub same-itself : (k : Key) → same_key k k ≡ true
 same-itself k = ap is_eq (tied_itself key_total k)
 
-below-none : {V : Type 0} (q : Key) (es : State V) → IsBelow q (keys_of es) → object_at q es ≡ None
+pub below-none : {V : Type 0} (q : Key) (es : State V) → IsBelow q (keys_of es) → object_at q es ≡ None
 below-none q [] h = refl
 below-none q (e ∷ es) h = rw h.0 (below-none q es h.1)
 

@@ -67,9 +67,9 @@ named_at meta name changes r = filter (λ object. has_name name (meta object)) (
 -- ---- lists
 
 -- where a list goes on: from the first object of the newest revision, or where its token says
-abbrev pub place_asked : {V : Type 0} → Connection V → Option (List ℕ) → Option Token
-place_asked c None = Some (record { revision = length c.changes; offset = 0 })
-place_asked c (Some text) = option_and_then (λ t. if_known c t.revision t) (token_at text)
+abbrev pub token_asked : {V : Type 0} → Connection V → Option (List ℕ) → Option Token
+token_asked c None = Some (record { revision = length c.changes; offset = 0 })
+token_asked c (Some text) = option_and_then (λ t. if_known c t.revision t) (token_at text)
 
 abbrev pub last_page : {V : Type 0} → ℕ → List V → RawAnswer V
 last_page revision objects = GivesPage objects None (Some (decimal revision))
@@ -93,7 +93,7 @@ page_at meta c name limit (Some t) = page_of limit t (drop t.offset (named_at me
 
 abbrev pub listed_by : {V : Type 0} → (V → ObjectMeta) → Connection V → ListParams → Option NameSought → RawAnswer V
 listed_by meta c params None = unsupported
-listed_by meta c params (Some name) = page_at meta c name params.limit (place_asked c params.continue_token)
+listed_by meta c params (Some name) = page_at meta c name params.limit (token_asked c params.continue_token)
 
 -- what a list call is answered; the selectors are looked at first
 abbrev pub listed : {V : Type 0} → (V → ObjectMeta) → ListParams → Connection V → RawAnswer V
@@ -211,6 +211,10 @@ left_by meta NextAsked c = after_next meta c
 pub record IsMove {V : Type 0} (meta : V → ObjectMeta) (old : Connection V) (now : ℕ) (raw : Raw V) (new : Connection V) : Type 0 where
   pub answer : raw.answer ≡ answered meta raw.call old
   pub left : new ≡ left_by meta raw.call old
+
+-- the log is as it was, and so is up to which revision it counts as gone
+abbrev pub IsSameLog : {V : Type 0} → Connection V → Connection V → Type 0
+IsSameLog old new = (new.changes ≡ old.changes) × (new.compacted ≡ old.compacted)
 
 -- ---- whole talks
 

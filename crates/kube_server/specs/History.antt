@@ -1,5 +1,5 @@
 -- What the objects of a server went through: changes, the first of which has revision 1, and the state at a revision. V is the type of the objects; what their metadata are is handed in. (Kubernetes API concept "resource versions".)
-use Rattle.std.specs.Prelude.{◌≡◌, ℕ, ◌+◌, ◌≤◌, Bool, List, [], ◌∷◌, ◌++◌, length, take, map, fold, Option, Some, None, unwrap_or, option_map, decimal, IsSome, true}
+use Rattle.std.specs.Prelude.{◌≡◌, ℕ, ◌+◌, ◌≤◌, Bool, List, [], ◌∷◌, ◌++◌, length, take, map, fold, Option, Some, None, if◌then◌else◌, unwrap_or, option_map, decimal, IsSome, true}
 use Rattle.std.specs.declared.cmp.Ordering.{Ordering}
 use Rattle.std.specs.Ordering.{nat_cmp, ordering_then, match_ordering, is_eq}
 use Rattle.std.specs.Option.{option_cmp}
@@ -74,6 +74,12 @@ abbrev pub changed : {V : Type 0} → (V → ObjectMeta) → State V → Change 
 changed meta state (Adds object) = with_object (key_of (meta object)) object state
 changed meta state (Modifies object) = with_object (key_of (meta object)) object state
 changed meta state (Removes object) = without_object (key_of (meta object)) state
+
+-- what is then found under a key, under which this was found before
+abbrev pub found_after : {V : Type 0} → (V → ObjectMeta) → Key → Option V → Change V → Option V
+found_after meta key found (Adds object) = if same_key key (key_of (meta object)) then Some object else found
+found_after meta key found (Modifies object) = if same_key key (key_of (meta object)) then Some object else found
+found_after meta key found (Removes object) = if same_key key (key_of (meta object)) then None else found
 
 -- what changes, one after another, make of nothing
 abbrev pub state_of : {V : Type 0} → (V → ObjectMeta) → List (Change V) → State V

@@ -12,7 +12,7 @@ pub mod Talks
 pub mod Logs
 pub mod Watches
 pub mod Kept
-pub mod Places
+pub mod Indices
 pub mod Standing
 pub mod Serving
 pub mod ObjectCalls

@@ -5,17 +5,18 @@ use Rattle.kube_meta.specs.declared.metadata.ObjectMeta.{ObjectMeta}
 use Rattle.kube_meta.specs.declared.dynamic.DynamicObject.{DynamicObject}
 use Rattle.kube_meta.specs.declared.poll.Polled.TheVariants.{Ready}
 use Rattle.kube_meta.specs.Reference.{Reference}
-use Rattle.kube_meta.specs.Reading.{ObjectData}
+use Rattle.kube_meta.specs.Reading.{ObjectData, seen_object}
 use Rattle.kube_meta.specs.Writing.{object_data}
 use Rattle.kube_model.specs.declared.error.Status.{Status}
 use Rattle.kube_api.specs.declared.patch.PatchRefusal.{PatchRefusal}
 use Rattle.kube_api.specs.declared.patch.PatchRefusal.TheVariants.{NotFound}
 use Rattle.kube_api.specs.Patches.{Operation, operation_of}
-use Rattle.kube_api.specs.ObjectTalk.{PatchAsked, DeleteAsked, ObjectAnswer, AnswersLater, AnswersFault, AnswersObject, AnswersGone, AnswersNone, AnswersRefusal, ObjectRaw, patch_answer, delete_answer}
+use Rattle.kube_api.specs.ObjectTalk.{ObjectCall, PatchAsked, DeleteAsked, ObjectAnswer, AnswersLater, AnswersFault, AnswersObject, AnswersGone, AnswersNone, AnswersRefusal, ObjectRaw, patch_answer, delete_answer}
 use Rattle.kube_server.specs.History.{Change, Adds, Modifies, Removes, object_of}
 use Rattle.kube_server.specs.Servers.{ServerState, held, next_revision, deletion, patch_change, IsStep, IsAtMostStep}
 use Rattle.kube_server.specs.declared.object_told.ObjectTold.{ObjectTold}
 use Rattle.kube_server.specs.declared.object_told.ObjectTold.TheVariants.{Patch as PatchTold, Delete as DeleteTold}
+use Rattle.kube_server.specs.declared.server_objects.ServerObjects.{ServerObjects}
 
 -- the reference of a name in a namespace
 abbrev pub reference_in : ServerState → Option (List ℕ) → List ℕ → Reference
@@ -84,8 +85,27 @@ abbrev pub IsLeftByDelete : ServerState → ServerState → ℕ → Option Objec
 IsLeftByDelete old new now None = new ≡ old
 IsLeftByDelete old new now (Some o) = IsAtMostStep old new (deletion (next_revision old) now o)
 
+-- ---- calls in a namespace, at a moment
+
+abbrev pub answer_of_call : ServerState → Option (List ℕ) → ℕ → ObjectCall → ObjectAnswer ObjectData
+answer_of_call s namespace now (PatchAsked name os) = answer_of_patch (next_revision s) os (held s (reference_in s namespace name))
+answer_of_call s namespace now (DeleteAsked name) = answer_of_delete (next_revision s) now (held s (reference_in s namespace name))
+
+abbrev pub IsLeftByCall : ServerState → Option (List ℕ) → ℕ → ObjectCall → ServerState → Type 0
+IsLeftByCall old namespace now (PatchAsked name os) new = IsLeftByPatch old new os (held old (reference_in old namespace name))
+IsLeftByCall old namespace now (DeleteAsked name) new = IsLeftByDelete old new now (held old (reference_in old namespace name))
+
+-- a call is answered as the object under its name has it, and makes of the server what it then makes
+pub record IsObjectMove (old : ServerState) (namespace : Option (List ℕ)) (now : ℕ) (raw : ObjectRaw DynamicObject) (new : ServerState) : Type 0 where
+  pub answer : answer_seen seen_object raw.answer ≡ answer_of_call old namespace now raw.call
+  pub left : IsLeftByCall old namespace now raw.call new
+
 -- ---- what was told
 
 abbrev pub object_raw : ObjectTold → ObjectRaw DynamicObject
 object_raw (PatchTold name patch answer) = record { call = PatchAsked name (map operation_of patch.items); answer = patch_answer (Ready answer) }
 object_raw (DeleteTold name answer) = record { call = DeleteAsked name; answer = delete_answer (Ready answer) }
+
+-- the calls so far with their answers
+abbrev pub objects_talk : ServerObjects → List (ObjectRaw DynamicObject)
+objects_talk objects = map object_raw objects.told.items

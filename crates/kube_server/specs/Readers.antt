@@ -1,12 +1,12 @@
 -- What a reader makes of what it is told: a state of its own, in which each object stands under its key. V is the type of the objects; what their metadata are, and which objects selectors select, is handed in. (Kubernetes API concept "efficient detection of changes": a client lists, and applies what it watches from there.)
-use Rattle.std.specs.Prelude.{◌≡◌, ℕ, ◌≤◌, ◌<◌, Bool, true, List, [], ◌∷◌, ◌++◌, map, filter, fold, length, decimal, Some}
+use Rattle.std.specs.Prelude.{◌≡◌, ℕ, ◌≤◌, ◌<◌, Bool, true, false, List, [], ◌∷◌, ◌++◌, map, filter, fold, length, decimal, Some}
 use Rattle.std.specs.List.{All, IsDistinct}
 use Rattle.kube_meta.specs.declared.metadata.ObjectMeta.{ObjectMeta}
 use Rattle.kube_meta.specs.Keys.{is_named}
-use Rattle.kube_model.specs.Raw.{RawAnswer, GivesAdded, GivesModified, GivesDeleted, GivesBookmark}
+use Rattle.kube_model.specs.Raw.{RawAnswer, GivesAdded, GivesModified, GivesDeleted, GivesBookmark, Raw}
 use Rattle.kube_server.specs.History.{key_of, same_key, State, object_at, with_object, without_object, Change, state_at}
 use Rattle.kube_server.specs.Numbers.{number_at}
-use Rattle.kube_server.specs.Honest.{Selection, PutsAlone, RemovesAlone, selected_between, IsEnding}
+use Rattle.kube_server.specs.Honest.{Selection, PutsAlone, RemovesAlone, selected_between, IsEnding, FollowsVersion, IsAfterBookmark, WatchTold, watch_told}
 
 -- ---- reading
 
@@ -128,3 +128,18 @@ module _ {V : Type 0} (meta : V → ObjectMeta) (selects : Selection → V → B
     pub within : revision ≤ to
     pub quiet : selected_between meta selects history selection revision to ≡ []
     pub same : IsByKey meta (selects selection) → selected_state selection revision ≡ selected_state selection to
+
+  -- ---- a watch that has told all
+
+  -- after the revision that its events reach nothing was to be told, up to the newest
+  abbrev pub HasToldAllBy : Bool → Selection → List ℕ → List (RawAnswer V) → Type 0
+  HasToldAllBy true selection version events =
+      (told : IsAfterBookmark meta selects history selection events) × (selected_between meta selects history selection told.to (length history) ≡ [])
+  HasToldAllBy false selection version events =
+      (told : FollowsVersion meta selects history selection version events) × (selected_between meta selects history selection told.to (length history) ≡ [])
+
+  -- so it is of the watch that was opened last
+  pub record IsToldAll (talk : List (Raw V)) : Type 0 where
+    pub watch : WatchTold V
+    pub is : watch_told talk ≡ Some watch
+    pub all : HasToldAllBy watch.initial watch.selection watch.version watch.events

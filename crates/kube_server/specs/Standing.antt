@@ -8,12 +8,12 @@ use Rattle.kube_server.specs.History.{Change}
 use Rattle.kube_server.specs.Numbers.{number_at, Token, token_text, name_sought}
 use Rattle.kube_server.specs.Honest.{Selection, ListTold, list_told, WatchTold, watch_told, selected_at, selected_between, Follow, IsHonest, IsHonestEnd}
 use Rattle.kube_server.specs.Connections.{OpenWatch, Connection, expired, selected_by, ending_bookmark}
-use Rattle.kube_server.specs.Places.{IsNextPlace}
+use Rattle.kube_server.specs.Indices.{IsNextIndex}
 
--- the open watch, where there is one, goes on at this place
-abbrev pub IsCurrentPlace : Option (OpenWatch DynamicObject) → List (Change DynamicObject) → ℕ → Type 0
-IsCurrentPlace None changes place = Unit {0}
-IsCurrentPlace (Some w) changes place = IsNextPlace w changes place
+-- the open watch, where there is one, goes on at this index
+abbrev pub IsCurrentIndex : Option (OpenWatch DynamicObject) → List (Change DynamicObject) → ℕ → Type 0
+IsCurrentIndex None changes index = Unit {0}
+IsCurrentIndex (Some w) changes index = IsNextIndex w changes index
 
 module _ {V : Type 0} (meta : V → ObjectMeta) (history : List (Change V)) where
   -- events after one revision, and from the last change that they tell up to where a watch stands there was none
@@ -81,11 +81,11 @@ module _ {V : Type 0} (meta : V → ObjectMeta) (history : List (Change V)) wher
 
   -- a list under way: its token says how many objects of which revision were given
   pub record IsListing (list : ListTold V) (text : List ℕ) : Type 0 where
-    pub place : Token
-    pub known : place.revision ≤ length history
-    pub within : place.offset ≤ length (selected_at meta (selected_by meta) history list.selection place.revision)
-    pub token : text ≡ token_text place
-    pub given : list.objects ≡ take place.offset (selected_at meta (selected_by meta) history list.selection place.revision)
+    pub from : Token
+    pub known : from.revision ≤ length history
+    pub within : from.offset ≤ length (selected_at meta (selected_by meta) history list.selection from.revision)
+    pub token : text ≡ token_text from
+    pub given : list.objects ≡ take from.offset (selected_at meta (selected_by meta) history list.selection from.revision)
     pub goes_on : list.version ≡ None
 
   abbrev pub ListGoesOn : ListTold V → Option (List ℕ) → Type 0

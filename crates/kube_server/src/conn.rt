@@ -10,12 +10,12 @@ ghost use Rattle.kube_server.specs.History.{Change, state_at, objects_of, IsLate
 ghost use Rattle.kube_server.specs.Numbers.{name_sought, number_at};
 ghost use Rattle.kube_server.specs.Tokens.{token_of};
 ghost use Rattle.kube_server.specs.Honest.{IsHonest};
-ghost use Rattle.kube_server.specs.Connections.{fresh, selected_by, place_asked, version_known, named_at, last_page, page_within, page_of, listed, after_list, watched, opening, opened, after_watch, poll_current, left_current, polled, after_next, IsMove};
+ghost use Rattle.kube_server.specs.Connections.{fresh, selected_by, token_asked, version_known, named_at, last_page, page_within, page_of, listed, after_list, watched, opening, opened, after_watch, poll_current, left_current, polled, after_next, IsMove};
 ghost use Rattle.kube_server.specs.Servers.{meta_of};
 ghost use Rattle.kube_server.specs.Stored.{change_of, name_of};
 ghost use Rattle.kube_server.specs.Watches.{watch_of};
-ghost use Rattle.kube_server.specs.Places.{IsNextPlace};
-ghost use Rattle.kube_server.specs.Standing.{IsCurrentPlace};
+ghost use Rattle.kube_server.specs.Indices.{IsNextIndex};
+ghost use Rattle.kube_server.specs.Standing.{IsCurrentIndex};
 
 use crate::entry::Entry;
 use crate::log::Log;
@@ -25,7 +25,7 @@ use crate::status::{expired, unsupported};
 use crate::talk::{Talk, Told};
 use crate::token::{Token, decimal, number, read_token};
 use crate::watching::Watching;
-use kube_api::copies::{copy_list_params, copy_listed, copy_watch_params, share_all};
+use kube_api::copies::{copy_given, copy_list_params, copy_listed, copy_watch_params, share_all};
 use kube_api::{ApiError, ApiMode, ListParams, Page, WatchEvent, WatchParams};
 use kube_meta::{DynamicObject, Moment, NoMemory, Polled, Text};
 use std::alloc::Global;
@@ -137,7 +137,7 @@ fn within(
     })
 }
 
-/// A page of what is left of a list at a place; a limit of 0 is none.
+/// A page of what is left of a list from a token on; a limit of 0 is none.
 fn page(
     alloc: Global,
     objects: &[Arc<DynamicObject>],
@@ -161,10 +161,10 @@ fn is_known(revision: u64, compacted: u64, newest: usize) -> bool
     compacted <= revision && revision <= newest as u64
 }
 
-/// Where a list goes on; none where its token says no such place.
-fn place(asked: &Option<Text>, compacted: u64, newest: usize) -> Option<Token>
+/// The token from which a list goes on; none where that names no revision that is known.
+fn asked_token(asked: &Option<Text>, compacted: u64, newest: usize) -> Option<Token>
     ensures known { IfSome result (λ t. t.revision ≤ newest) }
-    ensures place { (changes : List (Change DynamicObject)) → length changes ≡ newest → option_map token_of result ≡ place_asked (fresh changes compacted) asked.now }
+    ensures token { (changes : List (Change DynamicObject)) → length changes ≡ newest → option_map token_of result ≡ token_asked (fresh changes compacted) asked.now }
 {
     let Some(text) = asked else {
         return Some(Token {
@@ -180,7 +180,7 @@ fn place(asked: &Option<Text>, compacted: u64, newest: usize) -> Option<Token>
     }
 }
 
-/// The page of a list at a place.
+/// The page of a list from a token on.
 fn page_at(
     alloc: Global,
     log: &mut Log,
@@ -215,7 +215,7 @@ fn list_answered(
     let Some(name) = name_asked(alloc, &params.label_selector, &params.field_selector)? else {
         return Ok(Err(unsupported(alloc)?));
     };
-    let Some(token) = place(&params.continue_token, compacted, newest) else {
+    let Some(token) = asked_token(&params.continue_token, compacted, newest) else {
         return Ok(Err(ApiError::Api(expired(alloc)?)));
     };
     Ok(Ok(page_at(alloc, log, &name, token, params.limit)?))
@@ -274,9 +274,9 @@ fn asked_watch(
     Ok(Some(opened_watch(alloc, log, compacted, name, initial, version)?))
 }
 
-/// The place of the next entry that the open watch gives.
-fn current_place(watch: &Option<Watching>, log: &[Entry]) -> usize
-    ensures { IsCurrentPlace (option_map watch_of watch.now) (map change_of log.now) result }
+/// The index of the next entry that the open watch gives.
+fn current_index(watch: &Option<Watching>, log: &[Entry]) -> usize
+    ensures { IsCurrentIndex (option_map watch_of watch.now) (map change_of log.now) result }
 {
     match watch {
         Some(watch) => watch.seek(log),
@@ -289,24 +289,38 @@ fn next_event(
     alloc: Global,
     watch: &Option<Watching>,
     log: &[Entry],
-    place: usize,
+    index: usize,
 ) -> Result<Polled<Option<Result<WatchEvent<DynamicObject>, ApiError>>>, NoMemory>
-    requires { IsCurrentPlace (option_map watch_of watch.now) (map change_of log.now) place }
+    requires { IsCurrentIndex (option_map watch_of watch.now) (map change_of log.now) index }
     ensures { IfOk result (λ a. next_answer a ≡ poll_current meta_of (map change_of log.now) (option_map watch_of watch.now)) }
 {
     match watch {
-        Some(watch) => watch.answer(alloc, log, place),
+        Some(watch) => watch.answer(alloc, log, index),
         None => Ok(Polled::Ready(None)),
     }
 }
 
+/// The same answer; its object is shared.
+fn copy_next(
+    alloc: Global,
+    answer: &Polled<Option<Result<WatchEvent<DynamicObject>, ApiError>>>,
+) -> Result<Polled<Option<Result<WatchEvent<DynamicObject>, ApiError>>>, NoMemory>
+    ensures { IfOk result (λ a. next_answer a ≡ next_answer answer.now) }
+{
+    Ok(match answer {
+        Polled::NotReady => Polled::NotReady,
+        Polled::Ready(None) => Polled::Ready(None),
+        Polled::Ready(Some(given)) => Polled::Ready(Some(copy_given(alloc, given)?)),
+    })
+}
+
 /// Goes past what the open watch was polled.
-fn advance(watch: &mut Option<Watching>, log: &[Entry], place: usize)
-    requires { IsCurrentPlace (option_map watch_of watch.old) (map change_of log.now) place }
+fn advance(watch: &mut Option<Watching>, log: &[Entry], index: usize)
+    requires { IsCurrentIndex (option_map watch_of watch.old) (map change_of log.now) index }
     ensures { option_map watch_of watch.new ≡ left_current meta_of (map change_of log.now) (option_map watch_of watch.old) }
 {
     if let Some(watch) = watch {
-        watch.advance(log, place);
+        watch.advance(log, index);
     }
 }
 
@@ -436,11 +450,11 @@ impl ApiMode for Conn {
         ensures rises { self.old.failures ≤ self.new.failures }
     {
         let log = self.log.entries();
-        let place = current_place(&self.watch, log);
-        let answer = next_event(alloc, &self.watch, log, place)?;
-        let kept = next_event(alloc, &self.watch, log, place)?;
+        let index = current_index(&self.watch, log);
+        let answer = next_event(alloc, &self.watch, log, index)?;
+        let kept = copy_next(alloc, &answer)?;
         self.talk.tell(Told::Next(kept))?;
-        advance(&mut self.watch, self.log.entries(), place);
+        advance(&mut self.watch, self.log.entries(), index);
         Ok(answer)
     }
 }

@@ -12,7 +12,7 @@ use kube_api::WatchEvent;
 use kube_meta::{DynamicObject, NoMemory};
 use std::sync::Arc;
 
-/// One change of a server's objects. Its revision is its place in the log, from 1.
+/// One change of a server's objects. Its revision is its number in the log, from 1.
 #[derive(Drop)]
 pub(crate) enum Entry {
     Added(Arc<DynamicObject>),

@@ -2,16 +2,20 @@
 //!
 //! `V` is any type of objects, `meta` says what their metadata are, and `selects` which of them selectors select.
 
-ghost use Rattle.std.specs.Prelude.{◌≡◌, ◌≤◌, ◌<◌, ◌^◌, ◌⊎◌, ◌++◌, ◌∷◌, [], ℕ, Bool, true, false, List, Some, None, IsPermutation, fold, length, map};
+ghost use Rattle.std.specs.Prelude.{◌≡◌, ◌≤◌, ◌<◌, ◌^◌, ◌⊎◌, ◌++◌, ◌∷◌, [], ℕ, Bool, true, false, List, Option, Some, None, IsPermutation, fold, length, map};
 ghost use Rattle.std.specs.List.Sorted.{IsStrictlySortedBy};
 ghost use Rattle.kube_meta.specs.declared.dynamic.DynamicObject.{DynamicObject};
 ghost use Rattle.kube_meta.specs.declared.metadata.ObjectMeta.{ObjectMeta};
 ghost use Rattle.kube_meta.specs.Reading.{unless_empty};
-ghost use Rattle.kube_model.specs.Raw.{Raw, RawAnswer};
-ghost use Rattle.kube_server.specs.History.{Change, key_cmp, changed, state_of, IsNextChange, IsHistory};
+ghost use Rattle.kube_meta.specs.Reading.{ObjectData};
+ghost use Rattle.kube_model.specs.Raw.{Raw, RawAnswer, Waits};
+ghost use Rattle.kube_api.specs.ObjectTalk.{ObjectRaw};
+ghost use Rattle.kube_server.specs.History.{Change, Key, key_cmp, same_key, changed, object_at, found_after, state_of, state_at, IsNextChange, IsHistory, IsLater};
+ghost use Rattle.kube_server.specs.Servers.{ServerState, data_meta, held_under, IsStep};
+ghost use Rattle.kube_server.specs.ObjectCalls.{IsObjectMove};
 ghost use Rattle.kube_server.specs.Honest.{Selection, ListTold, list_told, WatchTold, watch_told, selected_between, Follow, FollowsVersion, IsWholeList, IsHonest};
-ghost use Rattle.kube_server.specs.Connections.{Act, acted, fresh, selected_by};
-ghost use Rattle.kube_server.specs.Readers.{IsTold, GoesOnFrom, IsByKey, BringsTo, TellBetween, TellsAfter, TellsSome, TellsAll, AreState, objects_told, selected_state};
+ghost use Rattle.kube_server.specs.Connections.{Act, acted, after_next, fresh, polled, selected_by};
+ghost use Rattle.kube_server.specs.Readers.{IsTold, GoesOnFrom, IsByKey, BringsTo, TellBetween, TellsAfter, TellsSome, TellsAll, IsToldAll, AreState, objects_told, selected_state};
 
 /// Whatever is asked of a connection, and whenever its log grows, what it told is honest to the log that it holds.
 pub fn talks_are_honest()
@@ -19,6 +23,42 @@ pub fn talks_are_honest()
         → length (fold (acted meta) (fresh changes compacted) acts).changes < 2 ^ 64
         → IsHonest meta (selected_by meta) (fold (acted meta) (fresh changes compacted) acts).changes
         (fold (acted meta) (fresh changes compacted) acts).talk }
+{}
+
+/// Where the open watch of a connection has nothing to give, it has told all: after what it told last, no selected change
+/// stands in the log up to its newest revision. Asked again it has nothing to give either.
+pub fn watches_that_wait_have_told_all()
+    ensures all { (meta : DynamicObject → ObjectMeta) (changes : List (Change DynamicObject)) (compacted : ℕ) (acts : List (Act DynamicObject))
+        → length (fold (acted meta) (fresh changes compacted) acts).changes < 2 ^ 64 → polled meta (fold (acted meta) (fresh changes compacted) acts) ≡ Waits
+        → IsToldAll meta (selected_by meta) (fold (acted meta) (fresh changes compacted) acts).changes (fold (acted meta) (fresh changes compacted) acts).talk }
+    ensures again { (meta : DynamicObject → ObjectMeta) (changes : List (Change DynamicObject)) (compacted : ℕ) (acts : List (Act DynamicObject))
+        → length (fold (acted meta) (fresh changes compacted) acts).changes < 2 ^ 64 → polled meta (fold (acted meta) (fresh changes compacted) acts) ≡ Waits
+        → polled meta (after_next meta (fold (acted meta) (fresh changes compacted) acts)) ≡ Waits }
+{}
+
+/// After a put the object is found under its key, after a removal none is, and under every other key what was found before.
+/// So it is of the state of a history, and of what a server holds. Keys that are the same are equal.
+pub fn changes_are_found<V>()
+    ensures state { (meta : V → ObjectMeta) (changes : List (Change V)) (change : Change V) (key : Key)
+        → object_at key (state_of meta (changes ++ change ∷ [])) ≡ found_after meta key (object_at key (state_of meta changes)) change }
+    ensures held { (old new : ServerState) (change : Change ObjectData) (key : Key) → IsStep old new change
+        → held_under new key ≡ found_after data_meta key (held_under old key) change }
+    ensures same { (key : Key) → same_key key key ≡ true }
+    ensures equal { (a b : Key) → same_key a b ≡ true → a ≡ b }
+{}
+
+/// A log goes on from itself, and where it goes on twice it goes on. Up to the newest revision of the earlier one the states are
+/// the same.
+pub fn logs_go_on<V>()
+    ensures same { (changes : List (Change V)) (compacted : ℕ) → IsLater changes changes compacted compacted }
+    ensures twice { (a b c : List (Change V)) (m n p : ℕ) → IsLater a b m n → IsLater b c n p → IsLater a c m p }
+    ensures states { (meta : V → ObjectMeta) (a b : List (Change V)) (m n revision : ℕ) → IsLater a b m n → revision ≤ length a → state_at meta b revision ≡ state_at meta a revision }
+{}
+
+/// Whatever a server's objects are asked, its log goes on.
+pub fn object_calls_go_on()
+    ensures { (old new : ServerState) (namespace : Option (List ℕ)) (now : ℕ) (raw : ObjectRaw DynamicObject) → IsObjectMove old namespace now raw new
+        → IsLater old.changes new.changes old.compacted new.compacted }
 {}
 
 /// A state has each key once, by namespace, none first, and then by name, both by bytes.

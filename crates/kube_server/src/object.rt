@@ -86,7 +86,7 @@ fn uid_for(
 }
 
 /// The object as a put at a revision keeps it.
-fn placed(
+fn as_put(
     alloc: Global,
     object: DynamicObject,
     stored: Option<&Arc<DynamicObject>>,
@@ -125,7 +125,7 @@ pub(crate) fn put_entry(
     ensures { IfOk result (λ e. change_seen seen_object (change_of e)
         ≡ put_over revision (option_map (λ a. seen_object (arc_value a)) (option_copied stored.entry)) (seen_object object)) }
 {
-    let object = Arc::new(alloc, placed(alloc, object, stored, revision)?)?;
+    let object = Arc::new(alloc, as_put(alloc, object, stored, revision)?)?;
     Ok(match stored {
         Some(_) => Entry::Modified(object),
         None => Entry::Added(object),

@@ -2,9 +2,9 @@
 
 ghost use Rattle.std.specs.Prelude.{◌≡◌, ◌↔◌, ◌≤◌, ◌+◌, ◌<◌, ◌^◌, ◌++◌, ◌∷◌, [], map, length, true, false, IfOk, IfErr, IfSome, IsErrOf, OnOk, OnErr, Some, None, Ok, Err, option_map, option_copied};
 ghost use Rattle.std.specs.Arc.{arc_value};
-ghost use Rattle.kube_meta.specs.Keys.{is_named, key_of as reference_of_meta, reference_of};
+ghost use Rattle.kube_meta.specs.Keys.{is_named, key_of as reference_of_meta};
 ghost use Rattle.kube_meta.specs.Reference.{same_type};
-ghost use Rattle.kube_meta.specs.Resources.{resource_type};
+ghost use Rattle.kube_meta.specs.Resources.{dynamic_reference, resource_type};
 ghost use Rattle.kube_meta.specs.Reading.{seen_object};
 ghost use Rattle.kube_api.specs.Patches.{operation_of};
 ghost use Rattle.kube_api.specs.declared.patch.PatchRefusal.TheVariants.{NoMemory as patch_memory, NotFound as patch_missing};
@@ -200,8 +200,8 @@ impl Server {
         key: &ObjectRef<DynamicObject>,
     ) -> Result<u64, ServerRefusal>
         ensures revision { IfOk result (λ r. r ≡ newest self.new) }
-        ensures step { OnOk result (IsMade self.old self.new (remove_change self.old (reference_of (λ t. resource_type t.value) key.now))) }
-        ensures missing { IsErrOf result ServerRefusal.NotFound → held self.old (reference_of (λ t. resource_type t.value) key.now) ≡ None }
+        ensures step { OnOk result (IsMade self.old self.new (remove_change self.old (dynamic_reference key.now))) }
+        ensures missing { IsErrOf result ServerRefusal.NotFound → held self.old (dynamic_reference key.now) ≡ None }
         ensures named { ¬ (result ≡ Err ServerRefusal.Unnamed) }
         ensures err { OnErr result (self.new ≡ self.old) }
         ensures history { IsHistory meta_of self.new.changes }
@@ -223,9 +223,9 @@ impl Server {
         now: Moment,
     ) -> Result<u64, ServerRefusal>
         ensures revision { IfOk result (λ r. r ≡ newest self.new) }
-        ensures step { OnOk result (IsHeldAnd (held self.old (reference_of (λ t. resource_type t.value) key.now))
+        ensures step { OnOk result (IsHeldAnd (held self.old (dynamic_reference key.now))
             (λ o. IsAtMostStep self.old self.new (deletion (next_revision self.old) now.0 o))) }
-        ensures missing { IsErrOf result ServerRefusal.NotFound → held self.old (reference_of (λ t. resource_type t.value) key.now) ≡ None }
+        ensures missing { IsErrOf result ServerRefusal.NotFound → held self.old (dynamic_reference key.now) ≡ None }
         ensures named { ¬ (result ≡ Err ServerRefusal.Unnamed) }
         ensures err { OnErr result (self.new ≡ self.old) }
         ensures history { IsHistory meta_of self.new.changes }
@@ -249,9 +249,9 @@ impl Server {
     ) -> Result<u64, PatchRefusal>
         requires { length patch.now < 2 ^ 32 }
         ensures revision { IfOk result (λ r. r ≡ newest self.new) }
-        ensures step { OnOk result (IsHeldAnd (held self.old (reference_of (λ t. resource_type t.value) key.now))
+        ensures step { OnOk result (IsHeldAnd (held self.old (dynamic_reference key.now))
             (λ o. IsPatched self.old self.new (patch_change (next_revision self.old) (map operation_of patch.now) o))) }
-        ensures refused { IfErr result (λ e. IsPatchRefusal (held self.old (reference_of (λ t. resource_type t.value) key.now))
+        ensures refused { IfErr result (λ e. IsPatchRefusal (held self.old (dynamic_reference key.now))
             (patch_change (next_revision self.old) (map operation_of patch.now)) e) }
         ensures err { OnErr result (self.new ≡ self.old) }
         ensures history { IsHistory meta_of self.new.changes }
@@ -278,8 +278,8 @@ impl Server {
         alloc: Global,
         key: &ObjectRef<DynamicObject>,
     ) -> Result<Option<&Arc<DynamicObject>>, NoMemory>
-        ensures object { IfOk result (λ o. option_map arc_value (option_copied o) ≡ held_object self.now (reference_of (λ t. resource_type t.value) key.now)) }
-        ensures held { IfOk result (λ o. option_map (λ a. seen_object (arc_value a)) (option_copied o) ≡ held self.now (reference_of (λ t. resource_type t.value) key.now)) }
+        ensures object { IfOk result (λ o. option_map arc_value (option_copied o) ≡ held_object self.now (dynamic_reference key.now)) }
+        ensures held { IfOk result (λ o. option_map (λ a. seen_object (arc_value a)) (option_copied o) ≡ held self.now (dynamic_reference key.now)) }
     {
         let place = place_named(alloc, key)?;
         Ok(self.stored(key, &place))
@@ -309,15 +309,16 @@ impl Server {
         self.compacted
     }
 
-    // The type of its objects.
-    pub(crate) fn resource(&self) -> &Arc<ApiResource>
-        ensures { resource_type (arc_value result.now) ≡ self.now.kind }
+    /// The type of its objects.
+    pub fn resource(&self) -> &Arc<ApiResource>
+        ensures kind { resource_type (arc_value result.now) ≡ self.now.kind }
+        ensures history { IsHistory meta_of self.now.changes }
     {
         &self.resource
     }
 
-    // The newest revision of a history.
-    pub(crate) fn revision(&self) -> u64
+    /// The newest revision, 0 before the first change.
+    pub fn revision(&self) -> u64
         ensures value { result ≡ newest self.now }
         ensures small { result < 2 ^ 63 }
         ensures history { IsHistory meta_of self.now.changes }
@@ -339,9 +340,9 @@ impl Server {
         key: &ObjectRef<DynamicObject>,
         place: &Place,
     ) -> Option<&Arc<DynamicObject>>
-        requires { key_at place.now ≡ reference_key (reference_of (λ t. resource_type t.value) key.now) }
-        ensures held { option_map (λ a. seen_object (arc_value a)) (option_copied result) ≡ held self.now (reference_of (λ t. resource_type t.value) key.now) }
-        ensures object { option_map arc_value (option_copied result) ≡ held_object self.now (reference_of (λ t. resource_type t.value) key.now) }
+        requires { key_at place.now ≡ reference_key (dynamic_reference key.now) }
+        ensures held { option_map (λ a. seen_object (arc_value a)) (option_copied result) ≡ held self.now (dynamic_reference key.now) }
+        ensures object { option_map arc_value (option_copied result) ≡ held_object self.now (dynamic_reference key.now) }
     {
         if !is_same_type(&key.dyntype, &self.resource) {
             return None;
@@ -355,7 +356,7 @@ impl Server {
         alloc: Global,
         key: &ObjectRef<DynamicObject>,
     ) -> Result<Option<Arc<DynamicObject>>, NoMemory>
-        ensures { IfOk result (λ o. option_map (λ a. seen_object (arc_value a)) o ≡ held self.now (reference_of (λ t. resource_type t.value) key.now)) }
+        ensures { IfOk result (λ o. option_map (λ a. seen_object (arc_value a)) o ≡ held self.now (dynamic_reference key.now)) }
     {
         let place = place_named(alloc, key)?;
         match self.stored(key, &place) {
@@ -386,10 +387,10 @@ impl Server {
         alloc: Global,
         key: &ObjectRef<DynamicObject>,
     ) -> Result<Entry, ServerRefusal>
-        ensures ok { IfOk result (λ e. IsHeldAnd (held self.now (reference_of (λ t. resource_type t.value) key.now)) (λ o. change_seen seen_object (change_of e) ≡ removal (next_revision self.now) o)) }
+        ensures ok { IfOk result (λ e. IsHeldAnd (held self.now (dynamic_reference key.now)) (λ o. change_seen seen_object (change_of e) ≡ removal (next_revision self.now) o)) }
         ensures fits { IfOk result (λ e. IsNextChange meta_of self.now.changes (change_of e)) }
         ensures history { IsHistory meta_of self.now.changes }
-        ensures missing { IsErrOf result ServerRefusal.NotFound → held self.now (reference_of (λ t. resource_type t.value) key.now) ≡ None }
+        ensures missing { IsErrOf result ServerRefusal.NotFound → held self.now (dynamic_reference key.now) ≡ None }
         ensures named { ¬ (result ≡ Err ServerRefusal.Unnamed) }
     {
         let revision = self.next_revision();
@@ -407,11 +408,11 @@ impl Server {
         key: &ObjectRef<DynamicObject>,
         now: Moment,
     ) -> Result<Option<Entry>, ServerRefusal>
-        ensures ok { IfOk result (λ e. IsHeldAnd (held self.now (reference_of (λ t. resource_type t.value) key.now))
+        ensures ok { IfOk result (λ e. IsHeldAnd (held self.now (dynamic_reference key.now))
             (λ o. option_map (λ x. change_seen seen_object (change_of x)) e ≡ deletion (next_revision self.now) now.0 o)) }
         ensures fits { IfOk result (λ e. IfSome e (λ x. IsNextChange meta_of self.now.changes (change_of x))) }
         ensures history { IsHistory meta_of self.now.changes }
-        ensures missing { IsErrOf result ServerRefusal.NotFound → held self.now (reference_of (λ t. resource_type t.value) key.now) ≡ None }
+        ensures missing { IsErrOf result ServerRefusal.NotFound → held self.now (dynamic_reference key.now) ≡ None }
         ensures named { ¬ (result ≡ Err ServerRefusal.Unnamed) }
     {
         let revision = self.next_revision();
@@ -430,11 +431,11 @@ impl Server {
         patch: &[Patch],
     ) -> Result<Entry, PatchRefusal>
         requires { length patch.now < 2 ^ 32 }
-        ensures ok { IfOk result (λ e. IsHeldAnd (held self.now (reference_of (λ t. resource_type t.value) key.now))
+        ensures ok { IfOk result (λ e. IsHeldAnd (held self.now (dynamic_reference key.now))
             (λ o. patch_change (next_revision self.now) (map operation_of patch.now) o ≡ Ok (change_seen seen_object (change_of e)))) }
         ensures fits { IfOk result (λ e. IsNextChange meta_of self.now.changes (change_of e)) }
         ensures history { IsHistory meta_of self.now.changes }
-        ensures refused { IfErr result (λ e. IsPatchRefusal (held self.now (reference_of (λ t. resource_type t.value) key.now))
+        ensures refused { IfErr result (λ e. IsPatchRefusal (held self.now (dynamic_reference key.now))
             (patch_change (next_revision self.now) (map operation_of patch.now)) e) }
     {
         let revision = self.next_revision();

@@ -2,20 +2,20 @@
 
 ghost use Rattle.std.specs.Prelude.{◌≡◌, ◌<◌, ◌≤◌, ◌^◌, [], length, map, IfOk, OnOk, OnErr, Some, option_copied, option_map};
 ghost use Rattle.std.specs.Arc.{arc_value};
-ghost use Rattle.kube_meta.specs.Keys.{reference_of};
-ghost use Rattle.kube_meta.specs.Resources.{resource_type};
+ghost use Rattle.kube_meta.specs.Resources.{dynamic_reference};
 ghost use Rattle.kube_meta.specs.Reading.{seen_object};
 ghost use Rattle.kube_model.specs.Raw.{grown, FaultRose};
 ghost use Rattle.kube_api.specs.Patches.{operation_of};
 ghost use Rattle.kube_api.specs.ObjectTalk.{PatchAsked, DeleteAsked, patch_answer, delete_answer, is_object_fault, RefusedAs, MissingAs, IsKept, IsNotMemory};
-ghost use Rattle.kube_server.specs.Servers.{held, next_revision, deletion, IsAtMostStep};
+ghost use Rattle.kube_server.specs.History.{IsHistory, IsLater};
+ghost use Rattle.kube_server.specs.Servers.{held, meta_of, next_revision, deletion, IsAtMostStep};
 ghost use Rattle.kube_server.specs.Stored.{change_of};
-ghost use Rattle.kube_server.specs.Servers.{meta_of};
-ghost use Rattle.kube_server.specs.ObjectCalls.{reference_in, held_document, answer_seen, answer_of_patch, IsLeftByPatch, IsKeptServer, gone_status, change_answer, deleted_answer, answer_of_delete, IsLeftByDelete, object_raw};
+ghost use Rattle.kube_server.specs.ObjectCalls.{reference_in, held_document, answer_seen, answer_of_patch, IsLeftByPatch, IsKeptServer, gone_status, change_answer, deleted_answer, answer_of_delete, IsLeftByDelete, IsObjectMove, objects_talk};
 
 use crate::entry::Entry;
-use crate::object_told::{ObjectTold, copy_patch};
+use crate::object_told::ObjectTold;
 use crate::server::Server;
+use kube_api::copies::copy_patch;
 use kube_api::{DeleteAnswer, ObjectApi, Patch, PatchAnswer, PatchRefusal, Status};
 use kube_meta::text::copy_option;
 use kube_meta::{DynamicObject, Extra, Moment, NoMemory, ObjectRef, Polled, Text};
@@ -72,7 +72,7 @@ impl<'a> ServerObjects<'a> {
         ensures same_reference { result.server.ghost_name ≡ server.entry.ghost_name }
         ensures server { result.server.now ≡ server.old }
         ensures namespace { result.namespace ≡ namespace }
-        ensures told { map object_raw result.told.items ≡ [] }
+        ensures told { objects_talk result ≡ [] }
     {
         ServerObjects {
             server,
@@ -100,7 +100,7 @@ impl Server {
         ensures same_reference { IfOk result (λ o. o.server.ghost_name ≡ self.entry.ghost_name) }
         ensures server { IfOk result (λ o. o.server.now ≡ self.old) }
         ensures namespace { IfOk result (λ o. o.namespace ≡ option_copied namespace.entry) }
-        ensures told { IfOk result (λ o. map object_raw o.told.items ≡ []) }
+        ensures told { IfOk result (λ o. objects_talk o ≡ []) }
     {
         let namespace = owned(alloc, namespace)?;
         Ok(ServerObjects::over(alloc, self, namespace))
@@ -114,7 +114,8 @@ fn reference(
     namespace: &Option<Text>,
     name: &str,
 ) -> Result<ObjectRef<DynamicObject>, NoMemory>
-    ensures { IfOk result (λ r. reference_of (λ t. resource_type t.value) r ≡ reference_in server.now namespace.now name.now) }
+    ensures names { IfOk result (λ r. dynamic_reference r ≡ reference_in server.now namespace.now name.now) }
+    ensures history { IsHistory meta_of server.now.changes }
 {
     Ok(ObjectRef {
         dyntype: server.resource().clone()?,
@@ -147,12 +148,14 @@ fn patch_server(
 ) -> Result<(PatchAnswer<DynamicObject>, PatchAnswer<DynamicObject>), NoMemory>
     requires { length patch.now < 2 ^ 32 }
     ensures answer { IfOk result (λ p. answer_seen seen_object (patch_answer (Polled.Ready p.0))
-        ≡ answer_of_patch (next_revision server.old) (map operation_of patch.now) (held server.old (reference_of (λ t. resource_type t.value) key.now))) }
+        ≡ answer_of_patch (next_revision server.old) (map operation_of patch.now) (held server.old (dynamic_reference key.now))) }
     ensures twice { IfOk result (λ p. patch_answer (Polled.Ready p.1) ≡ patch_answer (Polled.Ready p.0)) }
-    ensures left { OnOk result (IsLeftByPatch server.old server.new (map operation_of patch.now) (held server.old (reference_of (λ t. resource_type t.value) key.now))) }
+    ensures left { OnOk result (IsLeftByPatch server.old server.new (map operation_of patch.now) (held server.old (dynamic_reference key.now))) }
     ensures not_memory { IfOk result (λ p. IsNotMemory (patch_answer (Polled.Ready p.0))) }
     ensures stays { IfOk result (λ p. IsKeptServer (patch_answer (Polled.Ready p.0)) server.old server.new) }
     ensures err { OnErr result (server.new ≡ server.old) }
+    ensures history { IsHistory meta_of server.new.changes }
+    ensures later { IsLater server.old.changes server.new.changes server.old.compacted server.new.compacted }
 {
     match server.patch_of(alloc, key, patch) {
         Ok(entry) => {
@@ -176,12 +179,14 @@ fn delete_stored(
     stored: Arc<DynamicObject>,
     now: Moment,
 ) -> Result<(DeleteAnswer<DynamicObject>, DeleteAnswer<DynamicObject>), NoMemory>
-    requires { held server.old (reference_of (λ t. resource_type t.value) key.now) ≡ Some (seen_object (arc_value stored)) }
+    requires { held server.old (dynamic_reference key.now) ≡ Some (seen_object (arc_value stored)) }
     ensures answer { IfOk result (λ p. answer_seen seen_object (delete_answer (Polled.Ready p.0))
         ≡ deleted_answer (seen_object (arc_value stored)) (deletion (next_revision server.old) now.0 (seen_object (arc_value stored)))) }
     ensures twice { IfOk result (λ p. delete_answer (Polled.Ready p.1) ≡ delete_answer (Polled.Ready p.0)) }
     ensures left { OnOk result (IsAtMostStep server.old server.new (deletion (next_revision server.old) now.0 (seen_object (arc_value stored)))) }
     ensures err { OnErr result (server.new ≡ server.old) }
+    ensures history { IsHistory meta_of server.new.changes }
+    ensures later { IsLater server.old.changes server.new.changes server.old.compacted server.new.compacted }
 {
     let Ok(entry) = server.deletion_of(alloc, key, now) else {
         return Err(NoMemory);
@@ -208,10 +213,12 @@ fn delete_in_server(
     now: Moment,
 ) -> Result<(DeleteAnswer<DynamicObject>, DeleteAnswer<DynamicObject>), NoMemory>
     ensures answer { IfOk result (λ p. answer_seen seen_object (delete_answer (Polled.Ready p.0))
-        ≡ answer_of_delete (next_revision server.old) now.0 (held server.old (reference_of (λ t. resource_type t.value) key.now))) }
+        ≡ answer_of_delete (next_revision server.old) now.0 (held server.old (dynamic_reference key.now))) }
     ensures twice { IfOk result (λ p. delete_answer (Polled.Ready p.1) ≡ delete_answer (Polled.Ready p.0)) }
-    ensures left { OnOk result (IsLeftByDelete server.old server.new now.0 (held server.old (reference_of (λ t. resource_type t.value) key.now))) }
+    ensures left { OnOk result (IsLeftByDelete server.old server.new now.0 (held server.old (dynamic_reference key.now))) }
     ensures err { OnErr result (server.new ≡ server.old) }
+    ensures history { IsHistory meta_of server.old.changes → IsHistory meta_of server.new.changes }
+    ensures later { IsLater server.old.changes server.new.changes server.old.compacted server.new.compacted }
 {
     match server.object(alloc, key)? {
         Some(stored) => delete_stored(alloc, server, key, stored, now),
@@ -224,9 +231,14 @@ impl<'a> ObjectApi for ServerObjects<'a> {
 
     ghost held = { λ s. Some (held_document s.server.now s.namespace) };
 
-    ghost talk = { λ s. Some (map object_raw s.told.items) };
+    ghost talk = { λ s. Some (objects_talk s) };
 
     ghost faults = { λ _. 0 };
+
+    ghost moves = { λ old now raw new. IsObjectMove old.server.now old.namespace now raw new.server.now
+        × (new.namespace ≡ old.namespace) × (new.server.ghost_name ≡ old.server.ghost_name) };
+
+    ghost rests = { λ old new. (new.server.now ≡ old.server.now) × (new.namespace ≡ old.namespace) × (new.server.ghost_name ≡ old.server.ghost_name) };
 
     fn patch(
         &mut self,
@@ -243,12 +255,18 @@ impl<'a> ObjectApi for ServerObjects<'a> {
         ensures err { OnErr result (self.new.server.now ≡ self.old.server.now) }
         ensures namespace { self.new.namespace ≡ self.old.namespace }
         ensures same_reference { self.new.server.ghost_name ≡ self.old.server.ghost_name }
+        ensures history { IsHistory meta_of self.new.server.now.changes }
+        ensures later { IsLater self.old.server.now.changes self.new.server.now.changes self.old.server.now.compacted self.new.server.now.compacted }
 
         // those of the trait
-        ensures grows { IfOk result (λ a. Some (map object_raw self.new.told.items)
-            ≡ grown (Some (map object_raw self.old.told.items)) (record { call = PatchAsked name.now (map operation_of patch.now); answer = patch_answer a })) }
-        ensures unchanged { OnErr result (Some (map object_raw self.new.told.items) ≡ Some (map object_raw self.old.told.items)) }
+        ensures grows { IfOk result (λ a. Some (objects_talk self.new)
+            ≡ grown (Some (objects_talk self.old)) (record { call = PatchAsked name.now (map operation_of patch.now); answer = patch_answer a })) }
+        ensures unchanged { OnErr result (Some (objects_talk self.new) ≡ Some (objects_talk self.old)) }
         ensures kept { OnErr result (Some (held_document self.new.server.now self.new.namespace) ≡ Some (held_document self.old.server.now self.old.namespace)) }
+        ensures rests { OnErr result ((self.new.server.now ≡ self.old.server.now) × (self.new.namespace ≡ self.old.namespace)
+            × (self.new.server.ghost_name ≡ self.old.server.ghost_name)) }
+        ensures moves { IfOk result (λ a. IsObjectMove self.old.server.now self.old.namespace _now.0 (record { call = PatchAsked name.now (map operation_of patch.now); answer = patch_answer a }) self.new.server.now
+            × (self.new.namespace ≡ self.old.namespace) × (self.new.server.ghost_name ≡ self.old.server.ghost_name)) }
         ensures refused { IfOk result (λ a. RefusedAs (Some (held_document self.old.server.now self.old.namespace)) name.now (map operation_of patch.now) (patch_answer a)) }
         ensures no_memory { IfOk result (λ a. IsNotMemory (patch_answer a)) }
         ensures stays { IfOk result (λ a. IsKept (patch_answer a) (Some (held_document self.old.server.now self.old.namespace)) (Some (held_document self.new.server.now self.new.namespace))) }
@@ -278,12 +296,18 @@ impl<'a> ObjectApi for ServerObjects<'a> {
         ensures err { OnErr result (self.new.server.now ≡ self.old.server.now) }
         ensures namespace { self.new.namespace ≡ self.old.namespace }
         ensures same_reference { self.new.server.ghost_name ≡ self.old.server.ghost_name }
+        ensures history { IsHistory meta_of self.new.server.now.changes }
+        ensures later { IsLater self.old.server.now.changes self.new.server.now.changes self.old.server.now.compacted self.new.server.now.compacted }
 
         // those of the trait
-        ensures grows { IfOk result (λ a. Some (map object_raw self.new.told.items)
-            ≡ grown (Some (map object_raw self.old.told.items)) (record { call = DeleteAsked name.now; answer = delete_answer a })) }
-        ensures unchanged { OnErr result (Some (map object_raw self.new.told.items) ≡ Some (map object_raw self.old.told.items)) }
+        ensures grows { IfOk result (λ a. Some (objects_talk self.new)
+            ≡ grown (Some (objects_talk self.old)) (record { call = DeleteAsked name.now; answer = delete_answer a })) }
+        ensures unchanged { OnErr result (Some (objects_talk self.new) ≡ Some (objects_talk self.old)) }
         ensures kept { OnErr result (Some (held_document self.new.server.now self.new.namespace) ≡ Some (held_document self.old.server.now self.old.namespace)) }
+        ensures rests { OnErr result ((self.new.server.now ≡ self.old.server.now) × (self.new.namespace ≡ self.old.namespace)
+            × (self.new.server.ghost_name ≡ self.old.server.ghost_name)) }
+        ensures moves { IfOk result (λ a. IsObjectMove self.old.server.now self.old.namespace now.0 (record { call = DeleteAsked name.now; answer = delete_answer a }) self.new.server.now
+            × (self.new.namespace ≡ self.old.namespace) × (self.new.server.ghost_name ≡ self.old.server.ghost_name)) }
         ensures missing { IfOk result (λ a. MissingAs (Some (held_document self.old.server.now self.old.namespace)) name.now (delete_answer a)) }
         ensures stays { IfOk result (λ a. IsKept (delete_answer a) (Some (held_document self.old.server.now self.old.namespace)) (Some (held_document self.new.server.now self.new.namespace))) }
         ensures faults { IfOk result (λ a. FaultRose (is_object_fault (delete_answer a)) 0 0) }

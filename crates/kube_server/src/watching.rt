@@ -8,7 +8,7 @@ ghost use Rattle.kube_server.specs.Servers.{meta_of};
 ghost use Rattle.kube_server.specs.Connections.{first_named, poll_watch, ending_bookmark, later_watch, expired};
 ghost use Rattle.kube_server.specs.Stored.{change_of, name_of};
 ghost use Rattle.kube_server.specs.Watches.{watch_of};
-ghost use Rattle.kube_server.specs.Places.{IsFirstNamed, IsNextPlace};
+ghost use Rattle.kube_server.specs.Indices.{IsFirstNamed, IsNextIndex};
 
 use crate::entry::Entry;
 use crate::selector::Sought;
@@ -30,15 +30,15 @@ pub(crate) struct Watching {
     pub(crate) follows: Option<usize>,
 }
 
-/// The place of the first entry of a name, from a place on; the log's length where there is none.
+/// The index of the first entry of a name, from an index on; the log's length where there is none.
 fn first_named_from(name: &Sought, log: &[Entry], from: usize) -> usize
     ensures { IsFirstNamed (name_of name.now) (map change_of log.now) from result }
 {
-    let mut place = from;
-    while place < log.len() && !name.is_of(&log[place].object().metadata) {
-        place += 1;
+    let mut index = from;
+    while index < log.len() && !name.is_of(&log[index].object().metadata) {
+        index += 1;
     }
-    place
+    index
 }
 
 /// The bookmark that ends the initial events.
@@ -114,9 +114,9 @@ impl Watching {
         })
     }
 
-    /// The place of the next entry that it gives.
+    /// The index of the next entry that it gives.
     pub(crate) fn seek(&self, log: &[Entry]) -> usize
-        ensures { IsNextPlace (watch_of self.now) (map change_of log.now) result }
+        ensures { IsNextIndex (watch_of self.now) (map change_of log.now) result }
     {
         match self.follows {
             Some(revision) if self.pending.is_empty() => {
@@ -126,16 +126,16 @@ impl Watching {
         }
     }
 
-    /// What it is polled, where this is the next place.
+    /// What it is polled, where this is the next index.
     ///
     /// Errors: `NoMemory`.
     pub(crate) fn answer(
         &self,
         alloc: Global,
         log: &[Entry],
-        place: usize,
+        index: usize,
     ) -> Result<Polled<Option<Result<WatchEvent<DynamicObject>, ApiError>>>, NoMemory>
-        requires { IsNextPlace (watch_of self.now) (map change_of log.now) place }
+        requires { IsNextIndex (watch_of self.now) (map change_of log.now) index }
         ensures { IfOk result (λ a. next_answer a ≡ (poll_watch meta_of (map change_of log.now) (watch_of self.now)).answer) }
     {
         if let Some(event) = self.pending.front() {
@@ -144,31 +144,31 @@ impl Watching {
         if self.follows.is_none() {
             return Ok(Polled::Ready(None));
         }
-        if place >= log.len() {
+        if index >= log.len() {
             return Ok(Polled::NotReady);
         }
-        Ok(Polled::Ready(Some(Ok(log[place].event()?))))
+        Ok(Polled::Ready(Some(Ok(log[index].event()?))))
     }
 
     /// Goes past what it was polled.
-    pub(crate) fn advance(&mut self, log: &[Entry], place: usize)
-        requires { IsNextPlace (watch_of self.old) (map change_of log.now) place }
+    pub(crate) fn advance(&mut self, log: &[Entry], index: usize)
+        requires { IsNextIndex (watch_of self.old) (map change_of log.now) index }
         ensures { watch_of self.new ≡ (poll_watch meta_of (map change_of log.now) (watch_of self.old)).left }
     {
         match self.pending.pop_front() {
             Some(_told) => {}
             None => {
                 if self.follows.is_some() {
-                    self.follows = Some(past(log, place));
+                    self.follows = Some(past(log, index));
                 }
             }
         }
     }
 }
 
-/// The place behind the entry that is there, if there is one.
-fn past(log: &[Entry], place: usize) -> usize
-    ensures { result ≡ (if nat_lt place (length log.now) then place + 1 else place) }
+/// The index behind the entry that is there, if there is one.
+fn past(log: &[Entry], index: usize) -> usize
+    ensures { result ≡ (if nat_lt index (length log.now) then index + 1 else index) }
 {
-    if place < log.len() { place + 1 } else { place }
+    if index < log.len() { index + 1 } else { index }
 }

@@ -2,6 +2,7 @@
 use Rattle.std.specs.Prelude.{◌≡◌, ◌⊎◌, ◌<◌, ℕ, zero, suc, Bool, not, List, [], ◌∷◌, ◌++◌, map, length, replicate, Option, Some, None, Ok, Err, IsTrue, true, false, if◌then◌else◌}
 use Rattle.std.specs.declared.sync.Arc.{Arc}
 use Rattle.std.specs.declared.alloc.Global.{Global}
+use Rattle.kube_meta.specs.declared.metadata.ObjectMeta.{ObjectMeta}
 use Rattle.kube_meta.specs.declared.poll.Next.{Next}
 use Rattle.kube_meta.specs.declared.poll.Next.TheVariants.{Item, NotReady, Spent}
 use Rattle.kube_model.specs.declared.call.Answer.{Answer as CallAnswer}
@@ -12,7 +13,8 @@ use Rattle.kube_model.specs.Owed.{owed, is_next, is_not_ready}
 use Rattle.kube_model.specs.Fits.{answers, idle_fits, is_window_over, silent_since, TextsFit}
 use Rattle.kube_model.specs.Raw.{Raw, grown, FaultRose}
 use Rattle.kube_model.specs.Recorded.{IsRecorded}
-use Rattle.kube_watch.specs.Calls.{IsAskedOnce, is_fault_answer}
+use Rattle.kube_api.specs.declared.api.ApiMode as api_mode
+use Rattle.kube_watch.specs.Calls.{IsAskedOnce, is_fault_answer, version_of}
 use Rattle.kube_watch.specs.Stands.{StandsFor, exchanges_in, row_of, settings_in}
 use Rattle.kube_watch.specs.Table.{Row}
 use Rattle.kube_watch.specs.declared.event.Event.{Event}
@@ -78,6 +80,10 @@ pub record Api (A V : Type 0) : Type 1 where
   pub talk : A → Option (List (Raw V))
   pub faults : A → ℕ
   pub version : V → Option (List ℕ)
+
+-- what is asked of one that says so of itself, with objects of which this are the metadata
+abbrev pub api_in : {A V D : Type 0} → api_mode.Ghosts A V D → (V → ObjectMeta) → Api A V
+api_in api meta_of = record { moves = api.moves; talk = api.talk; faults = api.faults; version = version_of meta_of }
 
 module _ {A V : Type 0} (api : Api A V) (settings : Settings) (now : ℕ) where
   -- an exchange was made by one call of the API, from which it is recorded

@@ -1,10 +1,9 @@
 //! Watching one object.
 
-ghost use Rattle.std.specs.Prelude.{◌≡◌, ◌++◌, [], true, Some, None, IfOk, IfSome, OnErr, IsErr, codes};
+ghost use Rattle.std.specs.Prelude.{◌≡◌, ◌++◌, List, [], true, Some, None, IfOk, IfSome, OnErr, IsErr, codes};
 ghost use Rattle.std.specs.Option.{option_map};
 ghost use Rattle.kube_model.specs.World.{default_settings};
-ghost use Rattle.kube_watch.specs.Calls.{version_of};
-ghost use Rattle.kube_watch.specs.Polls.{LostAfter};
+ghost use Rattle.kube_watch.specs.Polls.{LostAfter, api_in};
 ghost use Rattle.kube_watch.specs.Objects.{GiveNothing, IsOpened, LostObject, PolledObject, TakesAnswer, answer_to, found_of, held_after, is_held, next_found};
 ghost use Rattle.kube_watch.specs.Stands.{is_spent, settings_in};
 ghost use Rattle.kube_watch.specs.Watching.{told_of};
@@ -82,6 +81,11 @@ fn answer_to<K: Drop>(
 }
 
 impl<A: ApiMode> WatchObject<A> {
+    ghost use Rattle.std.specs.Borrow.{sem};
+    ghost use Rattle.kube_model.specs.History.{Dated};
+    ghost use Rattle.kube_watch.specs.Lending.{LendsObservedApi, with_observed_api};
+    ghost use Rattle.kube_watch.specs.Stands.{StandsFor, api_of};
+
     // Takes the first answer to what waits.
     fn take_answer(&mut self) -> Option<Result<Option<Arc<A::Value>>, Error>>
         ensures { TakesAnswer self.old result self.new }
@@ -101,9 +105,9 @@ impl<A: ApiMode> WatchObject<A> {
         now: Moment,
         fuel: u32,
     ) -> Result<Next<Result<Option<Arc<A::Value>>, Error>>, NoMemory>
-        ensures asked { self.old.watcher.waiting ≡ [] → IfOk result (λ a. PolledObject (record { moves = A.moves; talk = A.talk; faults = A.faults; version = version_of A.Value.meta_of }) now.0 fuel self.old (next_found a) self.new) }
+        ensures asked { self.old.watcher.waiting ≡ [] → IfOk result (λ a. PolledObject (api_in A.ApiMode A.Value.meta_of) now.0 fuel self.old (next_found a) self.new) }
         ensures err { OnErr result (is_spent self.new.watcher ≡ true) }
-        ensures lost { self.old.watcher.waiting ≡ [] → OnErr result (LostAfter (record { moves = A.moves; talk = A.talk; faults = A.faults; version = version_of A.Value.meta_of }) now.0 fuel (GiveNothing (settings_in self.old.watcher) (is_held self.old)) self.old.watcher self.new.watcher) }
+        ensures lost { self.old.watcher.waiting ≡ [] → OnErr result (LostAfter (api_in A.ApiMode A.Value.meta_of) now.0 fuel (GiveNothing (settings_in self.old.watcher) (is_held self.old)) self.old.watcher self.new.watcher) }
     {
         for _asked in 0..fuel {
             let ready = self.watcher.fill(alloc, now)?;
@@ -129,9 +133,9 @@ impl<A: ApiMode> WatchObject<A> {
         now: Moment,
         fuel: u32,
     ) -> Result<Next<Result<Option<Arc<A::Value>>, Error>>, NoMemory>
-        ensures polled { IfOk result (λ a. PolledObject (record { moves = A.moves; talk = A.talk; faults = A.faults; version = version_of A.Value.meta_of }) now.0 fuel self.old (next_found a) self.new) }
+        ensures polled { IfOk result (λ a. PolledObject (api_in A.ApiMode A.Value.meta_of) now.0 fuel self.old (next_found a) self.new) }
         ensures err { OnErr result (is_spent self.new.watcher ≡ true) }
-        ensures lost { OnErr result (LostObject (record { moves = A.moves; talk = A.talk; faults = A.faults; version = version_of A.Value.meta_of }) now.0 fuel self.old self.new) }
+        ensures lost { OnErr result (LostObject (api_in A.ApiMode A.Value.meta_of) now.0 fuel self.old self.new) }
         ensures spent { is_spent self.old.watcher ≡ true → IsErr result × (self.new ≡ self.old) }
     {
         if self.watcher.is_spent() {
@@ -141,5 +145,14 @@ impl<A: ApiMode> WatchObject<A> {
             Some(answer) => Ok(Next::Item(answer)),
             None => self.ask(alloc, now, fuel),
         }
+    }
+
+    /// The API. All else is as before, and so is what the watch stands for.
+    pub fn api_mut(&mut self) -> &mut A
+        ensures* lends { sem 𝓛 (LendsObservedApi A.row A.Value.row A.Value.DynamicType.row A.ApiMode A.Value.Resource A.Value.DynamicType.Hash self.entry result) }
+        ensures value { result.now ≡ api_of self.old.watcher }
+        ensures stands { (ds : List (Dated A.Value)) (api : A) → StandsFor ds self.old.watcher → StandsFor ds (with_observed_api self.old api).watcher }
+    {
+        self.watcher.api_mut()
     }
 }

@@ -32,8 +32,8 @@ impl<A: ApiMode> Watcher<A> {
     ghost use Rattle.kube_model.specs.History.{Dated};
     ghost use Rattle.kube_model.specs.Owed.{owed};
     ghost use Rattle.kube_watch.specs.Stands.{StandsFor, api_of, exchanges_in, is_spent, settings_in};
-    ghost use Rattle.kube_watch.specs.Polls.{Filled, Lost, Polled};
-    ghost use Rattle.kube_watch.specs.Calls.{IsAskedOnce, version_of};
+    ghost use Rattle.kube_watch.specs.Polls.{Filled, Lost, Polled, api_in};
+    ghost use Rattle.kube_watch.specs.Calls.{IsAskedOnce};
 
     // Takes the first of what waits.
     pub(crate) fn take_told(&mut self) -> Option<Result<Event<Arc<A::Value>>, Error>>
@@ -58,7 +58,7 @@ impl<A: ApiMode> Watcher<A> {
     // Makes the owed call, and keeps what it tells in place of what waits. Whether it was ready.
     pub(crate) fn fill(&mut self, alloc: Global, now: Moment) -> Result<bool, NoMemory>
         ensures unspent { OnOk result (is_spent self.new ≡ false) }
-        ensures filled { IfOk result (λ ready. Filled (record { moves = A.moves; talk = A.talk; faults = A.faults; version = version_of A.Value.meta_of }) now.0 self.old ready self.new) }
+        ensures filled { IfOk result (λ ready. Filled (api_in A.ApiMode A.Value.meta_of) now.0 self.old ready self.new) }
         ensures err { OnErr result (is_spent self.new ≡ true) }
         ensures lost { OnErr result ((ds : List (Dated A.Value)) → StandsFor ds self.old
             → IsAskedOnce (settings_in self.old) (owed (Watched (settings_in self.old)) (exchanges_in ds)) (A.talk (api_of self.old)) (A.talk (api_of self.new))) }
@@ -83,9 +83,9 @@ impl<A: ApiMode> Watcher<A> {
         fuel: u32,
     ) -> Result<Next<Result<Event<Arc<A::Value>>, Error>>, NoMemory>
         ensures unspent { is_spent self.old ≡ false → OnOk result (is_spent self.new ≡ false) }
-        ensures asked { self.old.waiting ≡ [] → IfOk result (λ a. Polled (record { moves = A.moves; talk = A.talk; faults = A.faults; version = version_of A.Value.meta_of }) now.0 fuel self.old (next_told a) self.new) }
+        ensures asked { self.old.waiting ≡ [] → IfOk result (λ a. Polled (api_in A.ApiMode A.Value.meta_of) now.0 fuel self.old (next_told a) self.new) }
         ensures err { OnErr result (is_spent self.new ≡ true) }
-        ensures lost { self.old.waiting ≡ [] → OnErr result (Lost (record { moves = A.moves; talk = A.talk; faults = A.faults; version = version_of A.Value.meta_of }) now.0 fuel self.old self.new) }
+        ensures lost { self.old.waiting ≡ [] → OnErr result (Lost (api_in A.ApiMode A.Value.meta_of) now.0 fuel self.old self.new) }
     {
         for _asked in 0..fuel {
             let ready = self.fill(alloc, now)?;
@@ -111,9 +111,9 @@ impl<A: ApiMode> Watcher<A> {
         now: Moment,
         fuel: u32,
     ) -> Result<Next<Result<Event<Arc<A::Value>>, Error>>, NoMemory>
-        ensures polled { IfOk result (λ a. Polled (record { moves = A.moves; talk = A.talk; faults = A.faults; version = version_of A.Value.meta_of }) now.0 fuel self.old (next_told a) self.new) }
+        ensures polled { IfOk result (λ a. Polled (api_in A.ApiMode A.Value.meta_of) now.0 fuel self.old (next_told a) self.new) }
         ensures err { OnErr result (is_spent self.new ≡ true) }
-        ensures lost { OnErr result (Lost (record { moves = A.moves; talk = A.talk; faults = A.faults; version = version_of A.Value.meta_of }) now.0 fuel self.old self.new) }
+        ensures lost { OnErr result (Lost (api_in A.ApiMode A.Value.meta_of) now.0 fuel self.old self.new) }
         ensures spent { is_spent self.old ≡ true → IsErr result × (self.new ≡ self.old) }
         ensures unspent { OnOk result ((is_spent self.old ≡ false) × (is_spent self.new ≡ false)) }
     {
@@ -130,8 +130,7 @@ impl<A: ApiMode> Watcher<A> {
 /// The events and errors of the watcher, one by one.
 impl<A: ApiMode> EventStream for Watcher<A> {
     ghost use Rattle.std.specs.Prelude.{None};
-    ghost use Rattle.kube_watch.specs.Polls.{IsPolled, fault_of};
-    ghost use Rattle.kube_watch.specs.Calls.{version_of};
+    ghost use Rattle.kube_watch.specs.Polls.{IsPolled, api_in, fault_of};
 
     type Item = Event<Arc<A::Value>>;
 
@@ -139,7 +138,7 @@ impl<A: ApiMode> EventStream for Watcher<A> {
 
     ghost fault = { fault_of };
 
-    ghost polls = { λ old now fuel answer new. IsPolled (record { moves = A.moves; talk = A.talk; faults = A.faults; version = version_of A.Value.meta_of }) now fuel old answer new };
+    ghost polls = { λ old now fuel answer new. IsPolled (api_in A.ApiMode A.Value.meta_of) now fuel old answer new };
 
     fn poll_next(
         &mut self,

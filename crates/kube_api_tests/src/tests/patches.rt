@@ -1,5 +1,7 @@
 //! Patches of documents, as RFC 6902 has them, with a test for null that passes where nothing is.
 
+use kube_api::copies::copy_patch;
+use kube_api::patch::is_equal;
 use kube_api::{Patch, PatchRefusal, apply_patch};
 use kube_meta::Text;
 use serde_json::Value;
@@ -316,11 +318,12 @@ fn patched(rt: &impl Abort, alloc: Global, value: &mut Value, patch: &[Patch]) -
     }
 }
 
-/// The same of a document and a patch as texts.
+/// The same of a document and a patch as texts, of which a copy is applied.
 fn answer(rt: &impl Abort, alloc: Global, document: &str, patch: &str) -> String {
     let mut value = Value::from_str(alloc, document).expect(rt, "JSON");
     let patch = operations(rt, alloc, patch);
-    patched(rt, alloc, &mut value, &patch)
+    let copy = copy_patch(alloc, &patch).expect(rt, "memory");
+    patched(rt, alloc, &mut value, &copy)
 }
 
 /// Each document becomes what it is to.
@@ -364,5 +367,28 @@ fn tests_of_values(rt: HostRuntime) -> Result<(), Fail> {
 #[test]
 fn the_object_stays_that_object(rt: HostRuntime) -> Result<(), Fail> {
     check(&rt, &IDENTITIES);
+    Ok(())
+}
+
+/// Two values, and whether they are equal.
+const VALUES: [(&str, &str, bool); 4] = [
+    ("1", "1", true),
+    ("1.5", "1.5", false),
+    (r#"{"a":[1],"b":null}"#, r#"{ "b": null, "a": [1] }"#, true),
+    (r#"{"a":1}"#, r#"{"a":"1"}"#, false),
+];
+
+fn are_equal(rt: &impl Abort, alloc: Global, left: &str, right: &str) -> bool {
+    let left = Value::from_str(alloc, left).expect(rt, "JSON");
+    let right = Value::from_str(alloc, right).expect(rt, "JSON");
+    is_equal(alloc, &left, &right).expect(rt, "memory")
+}
+
+#[test]
+fn values_are_equal(rt: HostRuntime) -> Result<(), Fail> {
+    for (left, right, equal) in &VALUES {
+        let answer = are_equal(&rt, rt.alloc(), left, right);
+        assert_eq!(rt; answer, *equal);
+    }
     Ok(())
 }

@@ -1,7 +1,7 @@
 //! Lives: which lists of steps are one, and what they come to on a server.
 
 use super::{halves, is_text, owned, text};
-use kube_final::laws::{LifeState, LifeStep, guarded, play, valid};
+use kube_final::laws::{LifeState, LifeStep, PlayedLife, guarded, play, valid};
 use kube_meta::{List, Text};
 use std::alloc::Global;
 use std::panic::Expect;
@@ -78,14 +78,18 @@ fn shown(rt: &impl Abort, alloc: Global, state: &LifeState) -> String {
     format!(in alloc; "{:?}{end}", state.finalizers).expect(rt, "memory")
 }
 
+/// The same of a life that was played, which ends with it.
+fn played_text(rt: &impl Abort, alloc: Global, played: PlayedLife) -> String {
+    shown(rt, alloc, &played.state)
+}
+
 /// How an object stands at the end of a life, of which the laws hold. (No row has so many steps as the first test is of.)
 fn come_of(rt: &impl Abort, alloc: Global, life: &[LifeStep]) -> String {
     if life.len() > 99 || !valid(alloc, life, "f").expect(rt, "memory") {
         return owned(rt, alloc, "no life");
     }
     guarded(life, "f");
-    let state = play(alloc, life, "f").expect(rt, "memory");
-    shown(rt, alloc, &state)
+    played_text(rt, alloc, play(alloc, life, "f").expect(rt, "memory"))
 }
 
 fn outcome(rt: &impl Abort, alloc: Global, words: &str) -> String {

@@ -1,6 +1,9 @@
 //! Finalizers and deletions over the objects of a server.
 
-ghost use Rattle.std.specs.Prelude.{◌≡◌, false};
+ghost use Rattle.std.specs.Prelude.{◌≡◌, false, true, IfOk};
+ghost use Rattle.kube_watch.specs.Stands.{api_of};
+ghost use Rattle.kube_server.specs.Connections.{IsSameLog};
+ghost use Rattle.kube_server.specs.History.{IsLater};
 
 use super::waits::api;
 use super::{Torn, halves, is_text, owned, with_metadata};
@@ -8,8 +11,8 @@ use kube_api::TestMode;
 use kube_final::delete;
 use kube_final::delete::DeleteAndFinalize;
 use kube_final::finalizer::{Error, Event, Finalizer};
-use kube_meta::{Action, ApiResource, DynamicObject, Moment, Next, ObjectRef, Polled};
-use kube_server::{Server, ServerObjects};
+use kube_meta::{Action, ApiResource, DynamicObject, Moment, Next, NoMemory, ObjectRef, Polled};
+use kube_server::{Conn, Server, ServerObjects};
 use std::alloc::Global;
 use std::panic::Expect;
 use std::process::Abort;
@@ -26,7 +29,9 @@ fn key(rt: &impl Abort, alloc: Global) -> ObjectRef<DynamicObject> {
     ObjectRef::new_with(alloc, "x", resource).expect(rt, "memory")
 }
 
-fn remove(rt: &impl Abort, alloc: Global, server: &mut Server) {
+fn remove(rt: &impl Abort, alloc: Global, server: &mut Server)
+    ensures { IsLater server.old.changes server.new.changes server.old.compacted server.new.compacted }
+{
     let key = key(rt, alloc);
     server.remove(alloc, &key).expect(rt, "it is there");
 }
@@ -175,7 +180,7 @@ fn deleted(
     requires unready { deletion.old.is_over ≡ false }
 {
     let answer = deletion
-        .poll(objects, alloc, Moment(5), 9)
+        .poll(alloc, objects, Moment(5), 9)
         .expect(rt, "memory");
     ended(rt, alloc, &answer)
 }
@@ -231,4 +236,51 @@ fn deletions_over_a_server(rt: HostRuntime) {
     for line in DELETIONS.split('\n') {
         holds(&rt, rt.alloc(), line);
     }
+}
+
+/// Polls a deletion that watches a connection to the server. Whether the object is not known to be gone yet.
+///
+/// Errors: `NoMemory`.
+fn waits(
+    alloc: Global,
+    deletion: &mut DeleteAndFinalize<Conn>,
+    objects: &mut ServerObjects<'_>,
+) -> Result<bool, NoMemory>
+    requires unready { deletion.old.is_over ≡ false }
+    ensures unready { IfOk result (λ waits. waits ≡ true → deletion.new.is_over ≡ false) }
+    ensures log { IfOk result (λ _. IsSameLog (api_of deletion.old.watch.watcher) (api_of deletion.new.watch.watcher)) }
+    ensures later { IfOk result (λ _. IsLater objects.old.server.now.changes objects.new.server.now.changes objects.old.server.now.compacted objects.new.server.now.compacted) }
+{
+    let answer = deletion.poll(alloc, objects, Moment(5), 9)?;
+    Ok(matches!(answer, Next::NotReady))
+}
+
+/// Whether a wait ends once its connection has heard that the object went, and not before.
+///
+/// Errors: `NoMemory`.
+fn hears_of_the_end(rt: &impl Abort, alloc: Global) -> Result<bool, NoMemory> {
+    let mut server = Server::new(alloc, resource(rt, alloc));
+    put(rt, alloc, &mut server, r#"{"name":"x","finalizers":["a"]}"#);
+    let conn = Conn::new(alloc, &server)?;
+    let mut deletion = DeleteAndFinalize::new(alloc, conn, "x")?;
+    let mut objects = server.objects_in(alloc, None)?;
+    let there = waits(alloc, &mut deletion, &mut objects)?;
+    if !there {
+        return Ok(false);
+    }
+    remove(rt, alloc, objects.server);
+    let unheard = waits(alloc, &mut deletion, &mut objects)?;
+    if !unheard {
+        return Ok(false);
+    }
+    let watched = deletion.api_mut();
+    watched.feed(alloc, objects.server)?;
+    let waits = waits(alloc, &mut deletion, &mut objects)?;
+    Ok(!waits)
+}
+
+#[test]
+fn waits_over_a_fed_connection(rt: HostRuntime) {
+    let hears = hears_of_the_end(&rt, rt.alloc()).expect(&rt, "memory");
+    assert!(rt; hears);
 }

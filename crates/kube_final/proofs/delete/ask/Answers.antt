@@ -1,4 +1,4 @@
-use Rattle.std.proofs.Common.{inr}
+use Rattle.std.proofs.Common.{inl, inr}
 use Rattle.kube_api.specs.ObjectTalk.{delete_answer}
 use Rattle.kube_final.proofs.DeleteLosses.{comes_to}
 use Rattle.kube_final.proofs.WaitLosses.{whatever_came}
@@ -13,6 +13,7 @@ returns-clause-lost g c =
       d.0,
       record {
         answer = delete_answer c.in_ok-answer.answer;
+        moved = rw c.as_str.ensures at e.moves;
         told = rw c.as_str.ensures at e.grows;
         comes_to = d.1;
         missing = rw c.as_str.ensures at e.missing;
@@ -20,3 +21,8 @@ returns-clause-lost g c =
         rose = e.faults;
       },
     ))
+
+pub returns-in_err-answer-clause-lost : goal.returns-in_err-answer-clause-lost
+returns-in_err-answer-clause-lost g c =
+    let e = c.in_err-answer.ensures in
+    whatever_came c.from_residual.result _ (inl (e.unchanged, e.kept, inr e.rests))

@@ -17,7 +17,7 @@ use Rattle.kube_server.proofs.conn.ConnApiMode.next.Goals as goal
 -- what the call leaves, from the parts that it began with
 left : (c : goal.After-advance) → after_next meta_of (the_view c.self.inside) ≡ the_view (record { log = c.self.inside.log; compacted = c.self.inside.compacted; watch = c.advance.new.watch; talk = c.tell.new.self })
 left c =
-    next_left meta_of (the_view c.self.inside) (raw_of (NextTold c.in_ok-kept.kept)) (option_map watch_of c.advance.new.watch) c.tell.new.self.raws c.tell.new.self.failures refl (c.in_ok-kept.ensures ∙ ap (λ (cs : List (Change DynamicObject)). poll_current meta_of cs (option_map watch_of c.self.inside.watch)) c.entries-log.ensures) (c.advance.ensures ∙ ap (λ (cs : List (Change DynamicObject)). left_current meta_of cs (option_map watch_of c.self.inside.watch)) c.entries.ensures) c.in_ok-tell.ensures.raws c.in_ok-tell.ensures.failures
+    next_left meta_of (the_view c.self.inside) (raw_of (NextTold c.in_ok-kept.kept)) (option_map watch_of c.advance.new.watch) c.tell.new.self.raws c.tell.new.self.failures refl (c.in_ok-kept.ensures ∙ (c.in_ok-answer.ensures ∙ ap (λ (cs : List (Change DynamicObject)). poll_current meta_of cs (option_map watch_of c.self.inside.watch)) c.entries-log.ensures)) (c.advance.ensures ∙ ap (λ (cs : List (Change DynamicObject)). left_current meta_of cs (option_map watch_of c.self.inside.watch)) c.entries.ensures) c.in_ok-tell.ensures.raws c.in_ok-tell.ensures.failures
 
 stands : (c : goal.After-advance) → Stands meta_of (the_view (record { log = c.self.inside.log; compacted = c.self.inside.compacted; watch = c.advance.new.watch; talk = c.tell.new.self }))
 stands c = subst (λ (d : Connection DynamicObject). Stands meta_of d) (left c) (Stands-polled meta_of (the_view c.self.inside) c.self.invariant)

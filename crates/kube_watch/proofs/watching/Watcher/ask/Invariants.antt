@@ -1,5 +1,5 @@
 use Rattle.std.proofs.Common.{◌≡◌, [], false}
-use Rattle.kube_watch.specs.Calls.{version_of}
+use Rattle.kube_watch.specs.Polls.{api_in}
 use Rattle.kube_watch.specs.Stands.{is_spent}
 use Rattle.kube_watch.proofs.Polls.{AllQuiet}
 use Rattle.kube_watch.proofs.watching.Watcher.ask.Given as goal
@@ -8,6 +8,6 @@ use Rattle.kube_watch.proofs.watching.Watcher.ask.Given as goal
 abbrev pub invariant-loop-asked : goal.invariant-loop-asked
 invariant-loop-asked g l =
     record {
-      quiet : l.fn.self.waiting ≡ [] → AllQuiet (record { moves = g.A.ApiMode.moves; talk = g.A.ApiMode.talk; faults = g.A.ApiMode.faults; version = version_of g.A.Value.Resource.meta_of }) l.now.0 l._asked l.fn.self l.self;
+      quiet : l.fn.self.waiting ≡ [] → AllQuiet (api_in g.A.ApiMode g.A.Value.Resource.meta_of) l.now.0 l._asked l.fn.self l.self;
       unspent : is_spent l.fn.self ≡ false → is_spent l.self ≡ false;
     }

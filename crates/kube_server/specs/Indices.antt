@@ -13,15 +13,15 @@ HeadIsNamed name [] = Unit {0}
 HeadIsNamed name (change ∷ changes) = has_name name (meta_of (object_of change)) ≡ true
 
 -- from here on the same is found first as from there, and the change here is it, if there is one
-pub record IsFirstNamed (name : NameSought) (changes : List (Change DynamicObject)) (from place : ℕ) : Type 0 where
-  pub same : first_named meta_of name place (drop place changes) ≡ first_named meta_of name from (drop from changes)
-  pub named : HeadIsNamed name (drop place changes)
+pub record IsFirstNamed (name : NameSought) (changes : List (Change DynamicObject)) (from index : ℕ) : Type 0 where
+  pub same : first_named meta_of name index (drop index changes) ≡ first_named meta_of name from (drop from changes)
+  pub named : HeadIsNamed name (drop index changes)
 
-abbrev pub IsPlaceAfter : NameSought → List (Change DynamicObject) → List (RawAnswer DynamicObject) → Option ℕ → ℕ → Type 0
-IsPlaceAfter name changes [] (Some from) place = IsFirstNamed name changes from place
-IsPlaceAfter name changes [] None place = Unit {0}
-IsPlaceAfter name changes (answer ∷ rest) follows place = Unit {0}
+abbrev pub IsIndexAfter : NameSought → List (Change DynamicObject) → List (RawAnswer DynamicObject) → Option ℕ → ℕ → Type 0
+IsIndexAfter name changes [] (Some from) index = IsFirstNamed name changes from index
+IsIndexAfter name changes [] None index = Unit {0}
+IsIndexAfter name changes (answer ∷ rest) follows index = Unit {0}
 
 -- where a watch goes on, once nothing is pending
-abbrev pub IsNextPlace : OpenWatch DynamicObject → List (Change DynamicObject) → ℕ → Type 0
-IsNextPlace w changes place = IsPlaceAfter w.name changes w.pending w.follows place
+abbrev pub IsNextIndex : OpenWatch DynamicObject → List (Change DynamicObject) → ℕ → Type 0
+IsNextIndex w changes index = IsIndexAfter w.name changes w.pending w.follows index

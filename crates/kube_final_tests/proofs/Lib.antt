@@ -1,0 +1,2 @@
+-- lemmas of the tests
+pub mod Fed
