@@ -1,13 +1,6 @@
 //! Objects, read from JSON and written.
 
-<<<<<<< crates/kube_meta_tests/src/tests/objects.rt
 use kube_meta::{DynamicObject, ObjectFault, read_object, write_object};
-=======
-use kube_meta::reading::member;
-use kube_meta::{
-    DynamicObject, List, ObjectFault, ObjectMeta, Text, TextMap, read_object, write_object,
-};
->>>>>>> /tmp/w/o.1238
 use serde_json::Value;
 use std::alloc::Global;
 use std::panic::Expect;
@@ -150,62 +143,3 @@ fn the_first_fault_is_told_by_its_place(rt: HostRuntime) {
         answers(&rt, rt.alloc(), text, wanted);
     }
 }
-<<<<<<< crates/kube_meta_tests/src/tests/objects.rt
-=======
-
-/// What is written of an object of this content, with no metadata, is so.
-fn leaves_out(rt: &impl Abort, alloc: Global, content: &str, wanted: &str) {
-    let object = DynamicObject {
-        types: None,
-        metadata: ObjectMeta::empty(),
-        content: Value::from_str(alloc, content).expect(rt, "JSON"),
-    };
-    let written = written(rt, alloc, &object);
-    assert_eq!(rt; written.as_str(), wanted);
-}
-
-/// Metadata with an empty name, the generation 0, and empty lists and maps.
-fn empty_metadata(rt: &impl Abort, alloc: Global) -> ObjectMeta {
-    ObjectMeta {
-        name: Some(Text::new(alloc, "").expect(rt, "memory")),
-        generation: Some(0),
-        labels: Some(TextMap::new(alloc)),
-        annotations: Some(TextMap::new(alloc)),
-        finalizers: Some(List::new(alloc)),
-        owner_references: Some(List::new(alloc)),
-        ..ObjectMeta::empty()
-    }
-}
-
-/// What is written of an object of that metadata alone.
-fn of_empty_metadata(rt: &impl Abort, alloc: Global) -> String {
-    let object = DynamicObject::bare(empty_metadata(rt, alloc));
-    written(rt, alloc, &object)
-}
-
-/// Content that names types and metadata, content that is a list, and empty metadata.
-#[test]
-fn what_is_no_content_and_what_is_empty_is_left_out(rt: HostRuntime) {
-    let alloc = rt.alloc();
-    leaves_out(
-        &rt,
-        alloc,
-        r#"{"apiVersion":1,"kind":2,"metadata":3,"spec":4}"#,
-        r#"{"metadata":{},"spec":4}"#,
-    );
-    leaves_out(&rt, alloc, "[1]", r#"{"metadata":{}}"#);
-    let empty = of_empty_metadata(&rt, alloc);
-    assert_eq!(rt;
-        empty.as_str(),
-        r#"{"metadata":{"generation":0,"name":""}}"#
-    );
-}
-
-#[test]
-fn greatest_number_is_read(rt: HostRuntime) {
-    let text = r#"{"term":18446744073709551615}"#;
-    let value = Value::from_str(rt.alloc(), text).expect(&rt, "JSON");
-    let term: u64 = member(rt.alloc(), &value, "term").expect(&rt, "a number");
-    assert_eq!(rt; term, u64::MAX);
-}
->>>>>>> /tmp/w/o.1238
