@@ -1,5 +1,6 @@
 //! Objects, read from JSON and written.
 
+use kube_meta::reading::member;
 use kube_meta::{DynamicObject, ObjectFault, read_object, write_object};
 use serde_json::Value;
 use std::alloc::Global;
@@ -142,4 +143,12 @@ fn the_first_fault_is_told_by_its_place(rt: HostRuntime) {
         let (text, wanted) = halves(line);
         answers(&rt, rt.alloc(), text, wanted);
     }
+}
+
+#[test]
+fn greatest_number_is_read(rt: HostRuntime) {
+    let text = r#"{"term":18446744073709551615}"#;
+    let value = Value::from_str(rt.alloc(), text).expect(&rt, "JSON");
+    let term: u64 = member(rt.alloc(), &value, "term").expect(&rt, "a number");
+    assert_eq!(rt; term, u64::MAX);
 }
