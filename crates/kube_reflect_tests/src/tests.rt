@@ -6,6 +6,5 @@ mod node;
 mod objects;
 mod readers;
 mod reflect;
-mod rows;
 mod shown;
 mod steps;

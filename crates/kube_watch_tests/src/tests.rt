@@ -4,7 +4,5 @@ mod cases;
 mod config;
 mod event;
 mod object;
-mod params;
 mod polls;
 mod script;
-mod slow;

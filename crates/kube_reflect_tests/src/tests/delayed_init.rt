@@ -1,9 +1,7 @@
 //! A value that is set once.
 
-ghost use Rattle.std.specs.Prelude.{◌≡◌};
-
 use kube_meta::Polled;
-use kube_reflect::{DelayedInit, InitDropped, Initializer};
+use kube_reflect::{DelayedInit, InitDropped};
 use std::alloc::Global;
 use std::panic::Expect;
 use std::process::Abort;
@@ -13,9 +11,7 @@ use std::thread;
 type Delayed = DelayedInit<u32>;
 
 /// Checks what a poll gives.
-fn check_poll<R: Abort + Wait>(rt: &R, delayed: &mut Delayed, wanted: &str)
-    ensures { delayed.new.book ≡ delayed.old.book }
-{
+fn check_poll<R: Abort + Wait>(rt: &R, delayed: &mut Delayed, wanted: &str) {
     let word = match delayed.poll_get(rt) {
         Polled::NotReady => "not ready",
         Polled::Ready(Err(InitDropped)) => "dropped",
@@ -25,59 +21,23 @@ fn check_poll<R: Abort + Wait>(rt: &R, delayed: &mut Delayed, wanted: &str)
     assert_eq!(rt; word, wanted);
 }
 
-/// What comes of an initializer.
-enum How {
-    Value,
-    /// The value, whose note is learnt before a look.
-    Noted,
-    /// The value, whose note is learnt after a look.
-    NotedLate,
-    Abandoned,
-    Dropped,
-}
-
-fn set<R: Abort + Wait>(rt: &R, initializer: Initializer<u32>, delayed: &mut Delayed, how: &How)
-    requires { initializer.book ≡ delayed.old.book }
-{
-    match how {
-        How::Value => drop(initializer.init(rt, 1)),
-        How::Noted => {
-            let note = initializer.init(rt, 1);
-            delayed.learn(&note);
-            delayed.agrees(&note);
-        }
-        How::NotedLate => {
-            let note = initializer.init(rt, 1);
-            check_poll(rt, delayed, "1");
-            delayed.learn(&note);
-        }
-        How::Abandoned => drop(initializer.abandon(rt)),
-        How::Dropped => drop(initializer),
-    }
-}
-
-/// What polls give after it.
-const ROWS: &[(How, &str)] = &[
-    (How::Value, "1"),
-    (How::Noted, "1"),
-    (How::NotedLate, "1"),
-    (How::Abandoned, "dropped"),
-    (How::Dropped, "not ready"),
-];
-
-fn check_row<R: Abort + Wait>(rt: &R, alloc: Global, how: &How, wanted: &str) {
+/// What polls give once an initializer has set the value 1, or has abandoned.
+fn check_set<R: Abort + Wait>(rt: &R, alloc: Global, sets: bool, wanted: &str) {
     let (initializer, mut delayed) = DelayedInit::new(alloc).expect(rt, "memory");
     check_poll(rt, &mut delayed, "not ready");
-    set(rt, initializer, &mut delayed, how);
+    let _note = if sets {
+        initializer.init(rt, 1)
+    } else {
+        initializer.abandon(rt)
+    };
     check_poll(rt, &mut delayed, wanted);
     check_poll(rt, &mut delayed, wanted);
 }
 
 #[test]
 fn what_was_set_stays(rt: HostRuntime) {
-    for (how, wanted) in ROWS {
-        check_row(&rt, rt.alloc(), how, wanted);
-    }
+    check_set(&rt, rt.alloc(), true, "1");
+    check_set(&rt, rt.alloc(), false, "dropped");
 }
 
 /// Polls until there is an outcome, or so many turns are over.

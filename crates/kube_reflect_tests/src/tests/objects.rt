@@ -1,4 +1,4 @@
-//! Objects, references and events for the tests, and what is compared of them.
+//! Objects, references and events that are said by words, and the words for what was found.
 
 use kube_meta::{ApiResource, DynamicObject, ObjectMeta, ObjectRef, Text, TextMap};
 use kube_reflect::Writer;
@@ -12,171 +12,76 @@ pub type Object = Arc<DynamicObject>;
 
 pub type Maps = Writer<DynamicObject>;
 
-/// An object of a table.
-#[derive(Clone, Copy)]
-pub enum Shape<'a> {
-    Named(&'a str),
-    /// Of a namespace.
-    Within(&'a str, &'a str),
-    /// With a resource version.
-    Versioned(&'a str, &'a str),
-    /// With the label `app`.
-    Labelled(&'a str, &'a str),
-    /// With a generation.
-    Generated(&'a str, i64),
-}
-
-/// Its name; here and below the empty text stands for none.
-fn name_in<'a>(shape: &Shape<'a>) -> &'a str {
-    match shape {
-        Shape::Named(name) => name,
-        Shape::Within(name, _) => name,
-        Shape::Versioned(name, _) => name,
-        Shape::Labelled(name, _) => name,
-        Shape::Generated(name, _) => name,
-    }
-}
-
-fn namespace_in<'a>(shape: &Shape<'a>) -> &'a str {
-    match shape {
-        Shape::Within(_, namespace) => namespace,
-        _ => "",
-    }
-}
-
-fn version_in<'a>(shape: &Shape<'a>) -> &'a str {
-    match shape {
-        Shape::Versioned(_, version) => version,
-        _ => "",
-    }
-}
-
-fn app_in<'a>(shape: &Shape<'a>) -> &'a str {
-    match shape {
-        Shape::Labelled(_, app) => app,
-        _ => "",
-    }
-}
-
-fn generation_in(shape: &Shape<'_>) -> Option<i64> {
-    match shape {
-        Shape::Generated(_, generation) => Some(*generation),
-        _ => None,
-    }
-}
-
-fn text_of(rt: &impl Abort, alloc: Global, text: &str) -> Text {
-    Text::new(alloc, text).expect(rt, "memory")
+/// What stands before the first of this sign, and what behind it.
+pub fn halves(text: &str, sign: char) -> (&str, &str) {
+    text.split_once(sign).unwrap_or((text, ""))
 }
 
 fn some_text(rt: &impl Abort, alloc: Global, text: &str) -> Option<Text> {
     if text.is_empty() {
         return None;
     }
-    Some(text_of(rt, alloc, text))
+    Some(Text::new(alloc, text).expect(rt, "memory"))
 }
 
 fn some_labels(rt: &impl Abort, alloc: Global, app: &str) -> Option<TextMap> {
-    if app.is_empty() {
-        return None;
-    }
+    let app = some_text(rt, alloc, app)?;
     let mut labels = TextMap::new(alloc);
-    let app = text_of(rt, alloc, app);
     labels.insert(alloc, "app", app).expect(rt, "memory");
     Some(labels)
 }
 
-fn metadata_of(rt: &impl Abort, alloc: Global, shape: &Shape<'_>) -> ObjectMeta {
-    ObjectMeta {
-        name: some_text(rt, alloc, name_in(shape)),
-        namespace: some_text(rt, alloc, namespace_in(shape)),
-        resource_version: some_text(rt, alloc, version_in(shape)),
-        generation: generation_in(shape),
-        labels: some_labels(rt, alloc, app_in(shape)),
+/// An object of this name.
+pub fn named(rt: &impl Abort, alloc: Global, name: &str) -> Object {
+    let object = DynamicObject::bare(ObjectMeta {
+        name: Some(Text::new(alloc, name).expect(rt, "memory")),
         ..ObjectMeta::empty()
-    }
+    });
+    Arc::new(alloc, object).expect(rt, "memory")
 }
 
-/// The object of a table.
-pub fn object_of(rt: &impl Abort, alloc: Global, shape: &Shape<'_>) -> Object {
-    let metadata = metadata_of(rt, alloc, shape);
-    Arc::new(alloc, DynamicObject::bare(metadata)).expect(rt, "memory")
+/// The object of a word: its name, its namespace, its label `app` and its generation, with a stroke between them. What is empty isn't
+/// there.
+pub fn object_of(rt: &impl Abort, alloc: Global, word: &str) -> Object {
+    let (name, rest) = halves(word, '/');
+    let (namespace, rest) = halves(rest, '/');
+    let (app, generation) = halves(rest, '/');
+    let object = DynamicObject::bare(ObjectMeta {
+        name: some_text(rt, alloc, name),
+        namespace: some_text(rt, alloc, namespace),
+        labels: some_labels(rt, alloc, app),
+        generation: generation.parse().ok(),
+        ..ObjectMeta::empty()
+    });
+    Arc::new(alloc, object).expect(rt, "memory")
 }
 
-/// An event of a table.
-#[derive(Clone, Copy)]
-pub enum Told<'a> {
-    Apply(Shape<'a>),
-    Delete(Shape<'a>),
-    Init,
-    InitApply(Shape<'a>),
-    InitDone,
-}
-
-/// The event of a table.
-pub fn event_of(rt: &impl Abort, alloc: Global, told: &Told<'_>) -> Event<Object> {
-    match told {
-        Told::Apply(shape) => Event::Apply(object_of(rt, alloc, shape)),
-        Told::Delete(shape) => Event::Delete(object_of(rt, alloc, shape)),
-        Told::Init => Event::Init,
-        Told::InitApply(shape) => Event::InitApply(object_of(rt, alloc, shape)),
-        Told::InitDone => Event::InitDone,
-    }
-}
-
-/// A type of the core group in the version `v1`.
-pub enum Kind {
-    ConfigMap,
-    Pod,
-}
-
-/// Its name, for one object.
-fn word_of(kind: &Kind) -> &'static str {
+/// The event of a word and that of its object.
+pub fn event_of(rt: &impl Abort, alloc: Global, said: &str) -> Event<Object> {
+    let (kind, word) = halves(said, ' ');
     match kind {
-        Kind::ConfigMap => "ConfigMap",
-        Kind::Pod => "Pod",
+        "Init" => Event::Init,
+        "InitDone" => Event::InitDone,
+        "Apply" => Event::Apply(object_of(rt, alloc, word)),
+        "Delete" => Event::Delete(object_of(rt, alloc, word)),
+        _ => Event::InitApply(object_of(rt, alloc, word)),
     }
 }
 
-/// Its name, for many objects.
-fn plural_of(kind: &Kind) -> &'static str {
-    match kind {
-        Kind::ConfigMap => "configmaps",
-        Kind::Pod => "pods",
-    }
+/// The type of config maps.
+pub fn type_of(rt: &impl Abort, alloc: Global) -> Arc<ApiResource> {
+    let kind = ApiResource::new(alloc, "", "v1", "ConfigMap", "configmaps").expect(rt, "memory");
+    Arc::new(alloc, kind).expect(rt, "memory")
 }
 
-/// The type of objects of a kind.
-pub fn type_of(rt: &impl Abort, alloc: Global, kind: &Kind) -> Arc<ApiResource> {
-    let resource = ApiResource {
-        group: text_of(rt, alloc, ""),
-        version: text_of(rt, alloc, "v1"),
-        api_version: text_of(rt, alloc, "v1"),
-        kind: text_of(rt, alloc, word_of(kind)),
-        plural: text_of(rt, alloc, plural_of(kind)),
-    };
-    Arc::new(alloc, resource).expect(rt, "memory")
-}
-
-/// A reference of this kind, name and namespace, where that is not empty.
-pub fn reference_of(
-    rt: &impl Abort,
-    alloc: Global,
-    kind: &Kind,
-    name: &str,
-    namespace: &str,
-) -> ObjectRef<DynamicObject> {
-    let kind = type_of(rt, alloc, kind);
-    let reference = ObjectRef::new_with(alloc, name, kind).expect(rt, "memory");
+/// The reference of a config map of this name, and of this namespace behind a stroke.
+pub fn key_of(rt: &impl Abort, alloc: Global, word: &str) -> ObjectRef<DynamicObject> {
+    let (name, namespace) = halves(word, '/');
+    let reference = ObjectRef::new_with(alloc, name, type_of(rt, alloc)).expect(rt, "memory");
     if namespace.is_empty() {
         return reference;
     }
     reference.within(alloc, namespace).expect(rt, "memory")
-}
-
-/// A reference to a config map.
-pub fn key_of(rt: &impl Abort, alloc: Global, name: &str) -> ObjectRef<DynamicObject> {
-    reference_of(rt, alloc, &Kind::ConfigMap, name, "")
 }
 
 /// The name of an object, or the empty text.
@@ -187,36 +92,37 @@ pub fn name_of(object: &DynamicObject) -> &str {
     }
 }
 
-/// The version of an object, or the empty text.
-pub fn version_of(object: &DynamicObject) -> &str {
-    match &object.metadata.resource_version {
-        Some(version) => version.as_str(),
-        None => "",
-    }
+pub fn text_of(rt: &impl Abort, alloc: Global, text: &str) -> String {
+    String::from_str(alloc, text).expect(rt, "memory")
 }
 
-/// Whether objects have these names, in order.
-pub fn are_named(objects: &[Object], names: &[&str]) -> bool {
-    if objects.len() != names.len() {
-        return false;
-    }
-    for (object, name) in objects.iter().zip(names.iter()) {
-        if name_of(&**object) != *name {
-            return false;
-        }
-    }
-    true
+fn push_name(rt: &impl Abort, names: &mut String, name: &str) {
+    names.push_str(" ").expect(rt, "memory");
+    names.push_str(name).expect(rt, "memory");
 }
 
-/// Whether references have these names, in order.
-pub fn are_keys(keys: &[ObjectRef<DynamicObject>], names: &[&str]) -> bool {
-    if keys.len() != names.len() {
-        return false;
+/// The names of objects, in order, each with a space before it.
+pub fn names_of(rt: &impl Abort, alloc: Global, objects: Vec<Object>) -> String {
+    let mut names = String::new(alloc);
+    for object in &objects {
+        push_name(rt, &mut names, name_of(&**object));
     }
-    for (key, name) in keys.iter().zip(names.iter()) {
-        if key.name.as_str() != *name {
-            return false;
-        }
+    names
+}
+
+/// The same of references.
+pub fn names_in(rt: &impl Abort, alloc: Global, keys: Vec<ObjectRef<DynamicObject>>) -> String {
+    let mut names = String::new(alloc);
+    for key in &keys {
+        push_name(rt, &mut names, key.name.as_str());
     }
-    true
+    names
+}
+
+/// The name of an object that was found.
+pub fn found_name(rt: &impl Abort, alloc: Global, found: Option<&Object>) -> String {
+    match found {
+        Some(object) => text_of(rt, alloc, name_of(&**object)),
+        None => text_of(rt, alloc, "none"),
+    }
 }

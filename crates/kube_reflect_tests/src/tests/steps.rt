@@ -1,12 +1,13 @@
 //! Steps of a writer, and of a handle that reads what it published.
 
-ghost use Rattle.std.specs.Prelude.{◌≡◌, ◌≤◌};
+ghost use Rattle.std.specs.Prelude.{◌≤◌};
+ghost use Rattle.kube_reflect.specs.Writers.{AllStay};
 
 use super::objects::{
-    Kind, Maps, Object, Told, are_keys, are_named, event_of, name_of, reference_of, type_of,
+    Maps, Object, event_of, found_name, halves, key_of, names_in, names_of, text_of, type_of,
 };
 use kube_meta::{DynamicObject, Expression, Polled, Selector, Text};
-use kube_reflect::{Cache, Store, WriteError, Writer, WriterDropped};
+use kube_reflect::{Cache, Ended, Store, WriteError, Writer, WriterDropped};
 use kube_watch::Event;
 use std::alloc::Global;
 use std::panic::Expect;
@@ -15,28 +16,9 @@ use std::sync::Wait;
 
 pub type Reads = Store<DynamicObject>;
 
-/// What is to be found among stored objects; the empty name stands for none.
-pub enum Look {
-    /// The names of all objects, in order.
-    All(&'static [&'static str]),
-    /// The names in all references, in order.
-    Keys(&'static [&'static str]),
-    /// The object under the reference of this kind, name and namespace.
-    Get(Kind, &'static str, &'static str, &'static str),
-    /// The first object of this generation.
-    Find(i64, &'static str),
-    /// All objects but those of this name.
-    Without(&'static str, &'static [&'static str]),
-    /// The objects whose label `app` is this.
-    Selected(&'static str, &'static [&'static str]),
-}
-
-/// Whether an object of this name was found, or none where that is empty.
-fn is_found(found: Option<&Object>, name: &str) -> bool {
-    match found {
-        Some(object) => name_of(&**object) == name,
-        None => name.is_empty(),
-    }
+/// Whether an object has the generation 1234.
+fn is_marked(object: &DynamicObject) -> bool {
+    object.metadata.generation == Some(1234)
 }
 
 /// The selector of objects whose label `app` is this.
@@ -44,202 +26,92 @@ fn selector_of(rt: &impl Abort, alloc: Global, app: &str) -> Selector {
     let key = Text::new(alloc, "app").expect(rt, "memory");
     let value = Text::new(alloc, app).expect(rt, "memory");
     let mut selector = Selector::new(alloc);
+    let expression = Expression::Equal(key, value);
+    selector.push(expression).expect(rt, "memory");
     selector
-        .push(Expression::Equal(key, value))
-        .expect(rt, "memory");
-    selector
 }
 
-/// Whether the objects that a writer stores have these names, in order.
-fn stores_all(
-    rt: &impl Abort,
-    alloc: Global,
-    cache: &Cache<DynamicObject>,
-    names: &[&str],
-) -> bool {
-    let is_so = cache.len() == names.len() && cache.is_empty() == names.is_empty();
-    let objects = cache.state(alloc).expect(rt, "memory");
-    is_so && are_named(objects.as_slice(), names)
+/// The object that a writer stores under a reference.
+fn stored_one(rt: &impl Abort, alloc: Global, cache: &Cache<DynamicObject>, word: &str) -> String {
+    let key = key_of(rt, alloc, word);
+    found_name(rt, alloc, cache.get(&key))
 }
 
-/// Whether the references under which a writer stores have these names, in order.
-fn stores_keys(
-    rt: &impl Abort,
-    alloc: Global,
-    cache: &Cache<DynamicObject>,
-    names: &[&str],
-) -> bool {
-    let keys = cache.keys(alloc).expect(rt, "memory");
-    are_keys(keys.as_slice(), names)
-}
-
-/// Whether the first object of this generation that a writer stores has this name.
-fn stores_first(cache: &Cache<DynamicObject>, generation: i64, wanted: &str) -> bool {
-    let wished = Some(generation);
-    is_found(
-        cache.find(|object| object.metadata.generation == wished),
-        wanted,
-    )
-}
-
-/// Whether what a writer stores but the objects of this name has these names, in order.
-fn stores_others(
-    rt: &impl Abort,
-    alloc: Global,
-    cache: &Cache<DynamicObject>,
-    name: &str,
-    names: &[&str],
-) -> bool {
-    let objects = cache
-        .state_filter(alloc, |object| name_of(object) != name)
-        .expect(rt, "memory");
-    are_named(objects.as_slice(), names)
-}
-
-/// Whether the objects of this label that a writer stores have these names, in order.
-fn stores_selected(
-    rt: &impl Abort,
-    alloc: Global,
-    cache: &Cache<DynamicObject>,
-    app: &str,
-    names: &[&str],
-) -> bool {
+/// The objects of this label that a writer stores.
+fn stored_of(rt: &impl Abort, alloc: Global, cache: &Cache<DynamicObject>, app: &str) -> String {
     let selector = selector_of(rt, alloc, app);
-    let objects = cache
-        .state_filter_selector(alloc, &selector)
-        .expect(rt, "memory");
-    are_named(objects.as_slice(), names)
+    let objects = cache.state_filter_selector(alloc, &selector);
+    names_of(rt, alloc, objects.expect(rt, "memory"))
 }
 
-/// Whether that is found in what a writer stores.
-fn is_stored(rt: &impl Abort, alloc: Global, cache: &Cache<DynamicObject>, look: &Look) -> bool {
-    match look {
-        Look::All(names) => stores_all(rt, alloc, cache, names),
-        Look::Keys(names) => stores_keys(rt, alloc, cache, names),
-        Look::Get(kind, name, namespace, wanted) => {
-            let key = reference_of(rt, alloc, kind, name, namespace);
-            is_found(cache.get(&key), wanted)
+/// What is found among what a writer stores: all objects, all references, the object under one, the first one and all those of the
+/// generation 1234, or those of a label.
+pub fn stored(rt: &impl Abort, alloc: Global, cache: &Cache<DynamicObject>, look: &str) -> String {
+    let (kind, word) = halves(look, ' ');
+    match kind {
+        "all" => names_of(rt, alloc, cache.state(alloc).expect(rt, "memory")),
+        "keys" => names_in(rt, alloc, cache.keys(alloc).expect(rt, "memory")),
+        "get" => stored_one(rt, alloc, cache, word),
+        "find" => found_name(rt, alloc, cache.find(is_marked)),
+        "filter" => {
+            let objects = cache.state_filter(alloc, is_marked);
+            names_of(rt, alloc, objects.expect(rt, "memory"))
         }
-        Look::Find(generation, wanted) => stores_first(cache, *generation, wanted),
-        Look::Without(name, names) => stores_others(rt, alloc, cache, name, names),
-        Look::Selected(app, names) => stores_selected(rt, alloc, cache, app, names),
+        _ => stored_of(rt, alloc, cache, word),
     }
 }
 
-/// How many objects a handle reads.
-pub fn len_of<R: Wait>(rt: &R, reads: &mut Reads) -> usize
-    ensures { reads.new.book ≡ reads.old.book }
-{
-    reads.len(rt)
+/// The name of an object that was read.
+fn read_name(rt: &impl Abort, alloc: Global, found: Option<Object>) -> String {
+    found_name(rt, alloc, found.as_ref())
 }
 
-fn has_none<R: Wait>(rt: &R, reads: &mut Reads) -> bool {
-    reads.is_empty(rt)
-}
-
-/// Whether the objects that a handle reads have these names, in order.
-pub fn reads_all<R: Abort + Wait>(
-    rt: &R,
-    alloc: Global,
-    reads: &mut Reads,
-    names: &[&str],
-) -> bool {
-    let is_so = len_of(rt, reads) == names.len() && has_none(rt, reads) == names.is_empty();
-    let objects = reads.state(rt, alloc).expect(rt, "memory");
-    is_so && are_named(objects.as_slice(), names)
-}
-
-/// Whether the references that a handle reads have these names, in order.
-fn reads_keys<R: Abort + Wait>(rt: &R, alloc: Global, reads: &mut Reads, names: &[&str]) -> bool {
-    let keys = reads.keys(rt, alloc).expect(rt, "memory");
-    are_keys(keys.as_slice(), names)
-}
-
-/// Whether the object that a handle reads under a reference has this name.
-fn reads_one<R: Abort + Wait>(
-    rt: &R,
-    alloc: Global,
-    reads: &mut Reads,
-    kind: &Kind,
-    name: &str,
-    namespace: &str,
-    wanted: &str,
-) -> bool {
-    let key = reference_of(rt, alloc, kind, name, namespace);
+/// The object that a handle reads under a reference.
+fn read_one<R: Abort + Wait>(rt: &R, alloc: Global, reads: &mut Reads, word: &str) -> String {
+    let key = key_of(rt, alloc, word);
     let found = reads.get(rt, alloc, &key).expect(rt, "memory");
-    is_found(found.as_ref(), wanted)
+    read_name(rt, alloc, found)
 }
 
-/// Whether the first object of this generation that a handle reads has this name.
-fn reads_first<R: Abort + Wait>(
-    rt: &R,
-    alloc: Global,
-    reads: &mut Reads,
-    generation: i64,
-    wanted: &str,
-) -> bool {
-    let wished = Some(generation);
-    let found = reads
-        .find(rt, alloc, |object| object.metadata.generation == wished)
-        .expect(rt, "memory");
-    is_found(found.as_ref(), wanted)
-}
-
-/// Whether what a handle reads but the objects of this name has these names, in order.
-fn reads_others<R: Abort + Wait>(
-    rt: &R,
-    alloc: Global,
-    reads: &mut Reads,
-    name: &str,
-    names: &[&str],
-) -> bool {
-    let objects = reads
-        .state_filter(rt, alloc, |object| name_of(object) != name)
-        .expect(rt, "memory");
-    are_named(objects.as_slice(), names)
-}
-
-/// Whether the objects of this label that a handle reads have these names, in order.
-fn reads_selected<R: Abort + Wait>(
-    rt: &R,
-    alloc: Global,
-    reads: &mut Reads,
-    app: &str,
-    names: &[&str],
-) -> bool {
+/// The objects of this label that a handle reads.
+fn read_of<R: Abort + Wait>(rt: &R, alloc: Global, reads: &mut Reads, app: &str) -> String {
     let selector = selector_of(rt, alloc, app);
-    let objects = reads
-        .state_filter_selector(rt, alloc, &selector)
-        .expect(rt, "memory");
-    are_named(objects.as_slice(), names)
+    let objects = reads.state_filter_selector(rt, alloc, &selector);
+    names_of(rt, alloc, objects.expect(rt, "memory"))
 }
 
-/// Whether that is found in what a handle reads.
-fn is_read<R: Abort + Wait>(rt: &R, alloc: Global, reads: &mut Reads, look: &Look) -> bool {
-    match look {
-        Look::All(names) => reads_all(rt, alloc, reads, names),
-        Look::Keys(names) => reads_keys(rt, alloc, reads, names),
-        Look::Get(kind, name, namespace, wanted) => {
-            reads_one(rt, alloc, reads, kind, name, namespace, wanted)
-        }
-        Look::Find(generation, wanted) => reads_first(rt, alloc, reads, *generation, wanted),
-        Look::Without(name, names) => reads_others(rt, alloc, reads, name, names),
-        Look::Selected(app, names) => reads_selected(rt, alloc, reads, app, names),
-    }
-}
-
-/// A word for what a handle tells of its writer.
-pub fn word(answer: Polled<Result<(), WriterDropped>>) -> &'static str {
-    match answer {
+/// What a handle tells of its writer.
+fn told<R: Wait>(rt: &R, reads: &mut Reads) -> &'static str {
+    match reads.poll_ready(rt) {
         Polled::Ready(Ok(())) => "ready",
         Polled::Ready(Err(WriterDropped)) => "dropped",
         Polled::NotReady => "not ready",
     }
 }
 
-/// What a handle tells of its writer.
-pub fn told<R: Wait>(rt: &R, reads: &mut Reads) -> &'static str {
-    word(reads.poll_ready(rt))
+/// The same of what a handle reads, and what it tells of its writer.
+fn read<R: Abort + Wait>(rt: &R, alloc: Global, reads: &mut Reads, look: &str) -> String {
+    let (kind, word) = halves(look, ' ');
+    match kind {
+        "all" => names_of(rt, alloc, reads.state(rt, alloc).expect(rt, "memory")),
+        "keys" => names_in(rt, alloc, reads.keys(rt, alloc).expect(rt, "memory")),
+        "get" => read_one(rt, alloc, reads, word),
+        "find" => {
+            let found = reads.find(rt, alloc, is_marked);
+            read_name(rt, alloc, found.expect(rt, "memory"))
+        }
+        "filter" => {
+            let objects = reads.state_filter(rt, alloc, is_marked);
+            names_of(rt, alloc, objects.expect(rt, "memory"))
+        }
+        "of" => read_of(rt, alloc, reads, word),
+        _ => text_of(rt, alloc, told(rt, reads)),
+    }
+}
+
+/// How many objects a handle reads.
+pub fn len_of<R: Wait>(rt: &R, reads: &mut Reads) -> usize {
+    reads.len(rt)
 }
 
 /// Applies an event.
@@ -247,18 +119,18 @@ pub fn apply(
     rt: &impl Abort,
     alloc: Global,
     writer: &mut Maps,
-    told: &Told<'_>,
+    said: &str,
 ) -> Result<(), WriteError>
-    ensures { writer.new.book ≡ writer.old.book }
+    ensures live { AllStay writer.old writer.new }
 {
-    let event = event_of(rt, alloc, told);
+    let event = event_of(rt, alloc, said);
     writer.apply_watcher_event(alloc, &event)
 }
 
-fn events_of(rt: &impl Abort, alloc: Global, all: &[Told<'_>]) -> Vec<Event<Object>> {
+fn events_of(rt: &impl Abort, alloc: Global, all: &str) -> Vec<Event<Object>> {
     let mut events = Vec::new(alloc);
-    for told in all {
-        let event = event_of(rt, alloc, told);
+    for said in all.split("; ") {
+        let event = event_of(rt, alloc, said);
         events.push(event).expect(rt, "memory");
     }
     events
@@ -269,73 +141,70 @@ fn apply_all(
     rt: &impl Abort,
     alloc: Global,
     writer: &mut Maps,
-    all: &[Told<'_>],
+    all: &str,
 ) -> Result<(), WriteError> {
     let events = events_of(rt, alloc, all);
     writer.apply_watcher_events(alloc, events.as_slice())
 }
 
-pub const APPLIED: Result<(), WriteError> = Ok(());
-
-pub const REFUSED: Result<(), WriteError> = Err(WriteError::Unnamed);
+/// Nothing for events that were applied.
+fn outcome(answer: Result<(), WriteError>) -> &'static str {
+    match answer {
+        Ok(()) => "",
+        Err(WriteError::Unnamed) => "unnamed",
+        Err(WriteError::NoMemory) => "no memory",
+    }
+}
 
 /// Publishes, and drops the note.
-pub fn publish<R: Wait>(rt: &R, alloc: Global, writer: &mut Maps) -> bool
-    ensures { writer.new.book ≡ writer.old.book }
-{
+pub fn publish<R: Wait>(rt: &R, alloc: Global, writer: &mut Maps) -> bool {
     writer.publish(rt, alloc).is_ok()
 }
 
-/// A step, with what is to come of it.
-pub enum Step {
-    /// An event is applied.
-    Event(Told<'static>, Result<(), WriteError>),
-    /// Events are applied at once.
-    Events(&'static [Told<'static>], Result<(), WriteError>),
-    /// A look into what the writer stores.
-    Stored(Look),
-    /// Whether a list was complete for the writer.
-    IsReady(bool),
-    /// The writer publishes.
-    Publish,
-    /// A look into what the handle reads.
-    Read(Look),
-    /// What the handle tells of its writer.
-    Tells(&'static str),
-}
-
-/// Whether a step comes out so.
-fn is_so<R: Abort + Wait>(
+/// What comes of a step: a look into what is stored or read, a publish, events at once, or one.
+fn answered<R: Abort + Wait>(
     rt: &R,
     alloc: Global,
     handle: &mut Reads,
     writer: &mut Maps,
-    step: &Step,
-) -> bool {
-    match step {
-        Step::Event(told, wanted) => apply(rt, alloc, writer, told) == *wanted,
-        Step::Events(all, wanted) => apply_all(rt, alloc, writer, all) == *wanted,
-        Step::Stored(look) => is_stored(rt, alloc, writer.cache(), look),
-        Step::IsReady(wanted) => writer.is_ready() == *wanted,
-        Step::Publish => publish(rt, alloc, writer),
-        Step::Read(look) => is_read(rt, alloc, handle, look),
-        Step::Tells(wanted) => told(rt, handle) == *wanted,
+    step: &str,
+) -> String {
+    let (kind, rest) = halves(step, ' ');
+    let word = match kind {
+        "stored" => return stored(rt, alloc, writer.cache(), rest),
+        "read" => return read(rt, alloc, handle, rest),
+        "publish" if publish(rt, alloc, writer) => "",
+        "publish" => "no memory",
+        "all" => outcome(apply_all(rt, alloc, writer, rest)),
+        _ => outcome(apply(rt, alloc, writer, step)),
+    };
+    text_of(rt, alloc, word)
+}
+
+/// Each step comes out as it is to.
+fn check_steps<R: Abort + Wait>(
+    rt: &R,
+    alloc: Global,
+    handle: &mut Reads,
+    writer: &mut Maps,
+    steps: &str,
+) {
+    for step in steps.split(", ") {
+        let (step, wanted) = halves(step, '=');
+        let text = answered(rt, alloc, handle, writer, step);
+        assert_eq!(rt; text.as_str(), wanted, "{step} in {steps}");
     }
 }
 
-/// A writer of this kind with so many reader places.
-pub fn with_places(rt: &impl Abort, alloc: Global, kind: &Kind, readers: u32) -> Maps
+/// A writer of config maps with so many reader places.
+pub fn with_places(rt: &impl Abort, alloc: Global, readers: u32) -> Maps
     requires { 1 ≤ readers }
 {
-    let kind = type_of(rt, alloc, kind);
-    Writer::new(alloc, kind, readers).expect(rt, "memory")
+    Writer::new(alloc, type_of(rt, alloc), readers).expect(rt, "memory")
 }
 
 /// The handle that takes a reader place.
-pub fn place(rt: &impl Abort, writer: &mut Maps) -> Reads
-    ensures handle { result.book ≡ writer.old.book }
-    ensures writer { writer.new.book ≡ writer.old.book }
-{
+pub fn place(rt: &impl Abort, writer: &mut Maps) -> Reads {
     writer.as_reader().expect(rt, "a place is left")
 }
 
@@ -345,28 +214,84 @@ pub fn drop_writer(_writer: Maps) {}
 /// The end of a handle, for the same reason.
 pub fn drop_handle(_handle: Reads) {}
 
-/// Whether a reader place is left, which is then handed out.
-pub fn has_place(writer: &mut Maps) -> bool {
-    match writer.as_reader() {
-        Some(handle) => {
-            drop_handle(handle);
-            true
-        }
-        None => false,
+/// A handle reads objects of these names.
+fn check_read<R: Abort + Wait>(rt: &R, alloc: Global, handle: &mut Reads, names: &str) {
+    let text = read(rt, alloc, handle, "all");
+    assert_eq!(rt; text.as_str(), names);
+}
+
+/// What a writer leaves that ends.
+fn ended<R: Abort + Wait>(rt: &R, alloc: Global, writer: Maps) -> Ended<DynamicObject> {
+    match writer.end(rt, alloc) {
+        Ok(ended) => ended,
+        Err(_) => panic!(rt; "memory"),
     }
 }
 
-/// Each step comes out as it is to.
-pub fn check_steps<R: Abort + Wait>(
-    rt: &R,
-    alloc: Global,
-    handle: &mut Reads,
-    writer: &mut Maps,
-    case: &str,
-    steps: &[Step],
-) {
-    for (place, step) in steps.iter().enumerate() {
-        let is_so = is_so(rt, alloc, handle, writer, step);
-        assert!(rt; is_so, "{case}: step {place}");
+fn drop_left(_left: Ended<DynamicObject>) {}
+
+/// The steps of a row come out, and once the writer has ended the handle tells and reads what stands behind them, also when what the writer
+/// left is gone.
+fn check_row<R: Abort + Wait>(rt: &R, alloc: Global, line: &str) {
+    let (steps, end) = halves(line, '|');
+    let (tells, names) = halves(end, '=');
+    let mut writer = with_places(rt, alloc, 1);
+    let mut handle = place(rt, &mut writer);
+    check_steps(rt, alloc, &mut handle, &mut writer, steps);
+    let left = ended(rt, alloc, writer);
+    assert_eq!(rt; told(rt, &mut handle), tells, "{line}");
+    drop_left(left);
+    check_read(rt, alloc, &mut handle, names);
+    drop_handle(handle);
+}
+
+/// Each row comes out.
+fn check_rows<R: Abort + Wait>(rt: &R, alloc: Global, rows: &str) {
+    for line in rows.split('\n') {
+        check_row(rt, alloc, line);
     }
+}
+
+/// Steps of a writer, each with what comes of it.
+///
+/// A list is applied at once or not at all, replaces the store once it is complete, is stored in the order in which it came, and may end
+/// without a beginning. An object that it brings again keeps its place. A namespace is part of the reference, and an object without one is
+/// found within any. An object is found by what it has.
+const STORED: &str = "\
+Apply c, all Init; InitApply a; InitApply ; InitDone=unnamed, stored all= c, all Init; InitApply a; InitApply b; InitDone, stored all= a b, stored keys= a b|ready= a b
+Apply a, Init, InitApply b, stored get a=a, stored get b=none, InitDone, stored get a=none, stored get b=b|ready= b
+all Init; InitApply c; InitApply a; InitApply a/ns; InitApply b; InitDone, stored all= c a a b, stored get a/ns=a, Delete a, stored all= c a b, stored get a=none, stored get a/ns=a|ready= c a b
+all Init; InitApply b; InitApply a///1; InitApply c; InitApply a///1234; InitDone, stored all= b a c, stored find=a|ready= b a c
+InitDone, stored all=|ready=
+Apply a/ns, stored get a=none, stored get a/ns=a|dropped= a
+Apply a, stored get a/ns=a|dropped= a
+Apply =unnamed, stored all=|dropped=
+Apply cm1//nginx/1234, Apply cm2//postgres, stored of nginx= cm1, stored filter= cm1|dropped= cm1 cm2
+stored all=, Apply a, stored find=none, Apply b///1234, stored find=b, stored all= a b|dropped= a b";
+
+#[test]
+fn a_writer_stores_what_its_events_say(rt: HostRuntime) {
+    check_rows(&rt, rt.alloc(), STORED);
+}
+
+/// A handle reads what was published, by each call, and is ready once a list is.
+const READ: &str = "\
+read tells=not ready, InitDone, read tells=not ready, publish, read tells=ready|ready=
+Apply a, read all=, publish, read tells=not ready, read all= a, Apply b///1234, read all= a, publish, read all= a b, read filter= b, read find=b|dropped= a b
+Apply a, Apply b, publish, Delete a, read get a=a, publish, read keys= b, publish, read get b/ns=b, Delete b, read all= b, publish, read all=|dropped=
+Apply a, Apply b//web, publish, read of web= b, read get b=b, read get c=none|dropped= a b";
+
+#[test]
+fn a_handle_reads_what_was_published(rt: HostRuntime) {
+    check_rows(&rt, rt.alloc(), READ);
+}
+
+/// Nothing that was published, and a list with an object behind it.
+const ENDED: &str = "\
+stored all=|dropped=
+InitDone, Apply a|ready= a";
+
+#[test]
+fn a_writer_that_ends_leaves_what_it_had(rt: HostRuntime) {
+    check_rows(&rt, rt.alloc(), ENDED);
 }

@@ -1,7 +1,7 @@
 //! Configurations.
 
 use kube_meta::{Expression, Selector, Text};
-use kube_watch::{Config, InitialListStrategy, ListSemantic};
+use kube_watch::Config;
 use std::alloc::Global;
 use std::panic::Expect;
 use std::process::Abort;
@@ -11,8 +11,10 @@ fn shown(rt: &impl Abort, alloc: Global, config: &Config) -> String {
     format!(in alloc; "{config:?}").expect(rt, "memory")
 }
 
-fn shown_once(rt: &impl Abort, alloc: Global, config: Config) -> String {
-    shown(rt, alloc, &config)
+/// How the copy of a configuration is shown that ends with it.
+fn shown_copy(rt: &impl Abort, alloc: Global, config: Config) -> String {
+    let copy = config.copy(alloc).expect(rt, "memory");
+    shown(rt, alloc, &copy)
 }
 
 fn set_one_by_one(rt: &impl Abort, alloc: Global) -> Config {
@@ -31,32 +33,10 @@ fn set_one_by_one(rt: &impl Abort, alloc: Global) -> Config {
 #[test]
 fn settings_are_made_one_by_one(rt: HostRuntime) -> Result<(), Fail> {
     let alloc = rt.alloc();
-    let shown = shown_once(&rt, alloc, set_one_by_one(&rt, alloc));
+    let shown = shown_copy(&rt, alloc, set_one_by_one(&rt, alloc));
     let wanted =
         "Config { label_selector: Some(\"app=b\"), field_selector: Some(\"metadata.name=a\"), timeout: Some(30), list_semantic: Any, initial_list_strategy: StreamingList, page_size: Some(7), bookmarks: false }";
     assert_eq!(rt; shown.as_str(), wanted);
-    Ok(())
-}
-
-/// Whether a copy is equal, and whether one with another semantic is.
-fn are_equal(rt: &impl Abort, alloc: Global, config: &Config) -> (bool, bool) {
-    let copy = config.copy(alloc).expect(rt, "memory");
-    let is_equal = copy == *config;
-    let other = copy.list_semantic(ListSemantic::Any);
-    (is_equal, other == *config)
-}
-
-#[test]
-fn copies_are_equal(rt: HostRuntime) -> Result<(), Fail> {
-    let alloc = rt.alloc();
-    let config = Config::default()
-        .labels(alloc, "app=b")
-        .expect(&rt, "memory");
-    let (is_copy, is_other) = are_equal(&rt, alloc, &config);
-    assert!(rt; is_copy);
-    assert!(rt; !is_other);
-    assert!(rt; ListSemantic::default() == ListSemantic::MostRecent);
-    assert!(rt; InitialListStrategy::default() == InitialListStrategy::ListWatch);
     Ok(())
 }
 
@@ -82,7 +62,7 @@ fn with_labels(rt: &impl Abort, alloc: Global) -> Config {
 #[test]
 fn a_selector_gives_its_text(rt: HostRuntime) -> Result<(), Fail> {
     let alloc = rt.alloc();
-    let shown = shown_once(&rt, alloc, with_labels(&rt, alloc));
+    let shown = shown_copy(&rt, alloc, with_labels(&rt, alloc));
     let wanted =
         "Config { label_selector: Some(\"app,!canary\"), field_selector: None, timeout: None, list_semantic: MostRecent, initial_list_strategy: ListWatch, page_size: Some(500), bookmarks: true }";
     assert_eq!(rt; shown.as_str(), wanted);

@@ -1,7 +1,7 @@
 //! Scripts of an API, short to write, and units, short to read.
 
-use kube_api::{ApiMode, Bookmark, Page, ResultPage, Sequence, SequenceStep, TestMode, WatchEvent};
-use kube_meta::{DynamicObject, Moment, ObjectMeta, Resource, Text, TextMap};
+use kube_api::{Bookmark, Page, ResultPage, Sequence, SequenceStep, TestMode, WatchEvent};
+use kube_meta::{DynamicObject, Moment, ObjectMeta, Text, TextMap};
 use kube_watch::watcher::watcher;
 use kube_watch::watching::Watcher;
 use kube_watch::{
@@ -58,18 +58,11 @@ fn text_of(rt: &impl Abort, alloc: Global, text: &str) -> Option<Text> {
     Some(Text::new(alloc, text).expect(rt, "memory"))
 }
 
-pub fn metadata(rt: &impl Abort, alloc: Global, name: &str, version: &str) -> ObjectMeta {
+fn metadata(rt: &impl Abort, alloc: Global, name: &str, version: &str) -> ObjectMeta {
     ObjectMeta {
         name: text_of(rt, alloc, name),
-        namespace: None,
-        uid: None,
         resource_version: text_of(rt, alloc, version),
-        deletion_timestamp: None,
-        generation: None,
-        labels: None,
-        annotations: None,
-        finalizers: None,
-        owner_references: None,
+        ..ObjectMeta::empty()
     }
 }
 
@@ -92,20 +85,6 @@ fn objects(rt: &impl Abort, alloc: Global, names: &[&str]) -> Vec<Arc<DynamicObj
     objects
 }
 
-/// A page of no objects.
-pub fn empty_page<K: Drop>(
-    rt: &impl Abort,
-    alloc: Global,
-    token: &str,
-    version: &str,
-) -> ResultPage<K> {
-    ResultPage::empty(alloc)
-        .continue_token(alloc, Some(token))
-        .expect(rt, "memory")
-        .resource_version(alloc, Some(version))
-        .expect(rt, "memory")
-}
-
 fn page(
     rt: &impl Abort,
     alloc: Global,
@@ -114,7 +93,11 @@ fn page(
     version: &str,
 ) -> Page<DynamicObject> {
     let objects = objects(rt, alloc, names);
-    empty_page(rt, alloc, token, version)
+    ResultPage::empty(alloc)
+        .continue_token(alloc, Some(token))
+        .expect(rt, "memory")
+        .resource_version(alloc, Some(version))
+        .expect(rt, "memory")
         .items(objects)
         .into_page()
 }
@@ -152,7 +135,7 @@ fn bookmark(
     })
 }
 
-pub fn status(rt: &impl Abort, alloc: Global, code: u16) -> Status {
+fn status(rt: &impl Abort, alloc: Global, code: u16) -> Status {
     Status {
         code,
         reason: Text::new(alloc, "Expired").expect(rt, "memory"),
@@ -252,13 +235,6 @@ pub fn api(rt: &impl Abort, alloc: Global, lists: &[Listing], watches: &[&[Given
     TestMode::new(alloc, pages, sequences)
 }
 
-pub fn str_of(text: &Option<Text>) -> &str {
-    match text {
-        Some(text) => text.as_str(),
-        None => "none",
-    }
-}
-
 /// A text of its own.
 pub fn owned(rt: &impl Abort, alloc: Global, text: &str) -> String {
     String::from_str(alloc, text).expect(rt, "memory")
@@ -336,7 +312,7 @@ fn shown_answer(rt: &impl Abort, alloc: Global, answer: &Answer) -> String {
     }
 }
 
-fn shown_events<K: Resource>(rt: &impl Abort, alloc: Global, events: &[Event<Arc<K>>]) -> String {
+fn shown_events(rt: &impl Abort, alloc: Global, events: &[Event<Arc<DynamicObject>>]) -> String {
     let mut shown = String::new(alloc);
     for event in events {
         let one = format!(in alloc; " {event}").expect(rt, "memory");
@@ -372,7 +348,7 @@ fn shown_failure(rt: &impl Abort, alloc: Global, error: &Option<Error>) -> Strin
 }
 
 /// The call, the answer, the events and the error of a unit.
-fn shown<K: Resource>(rt: &impl Abort, alloc: Global, unit: &Unit<K>) -> String {
+fn shown(rt: &impl Abort, alloc: Global, unit: &Unit<DynamicObject>) -> String {
     let call = shown_call(rt, alloc, &unit.call);
     let answer = shown_answer(rt, alloc, &unit.answer);
     let events = shown_events(rt, alloc, unit.events.as_slice());
@@ -381,23 +357,13 @@ fn shown<K: Resource>(rt: &impl Abort, alloc: Global, unit: &Unit<K>) -> String 
 }
 
 /// What a call of a watcher makes.
-pub fn unit<A: ApiMode>(
-    rt: &impl Abort,
-    alloc: Global,
-    watcher: &mut Watcher<A>,
-    at: u64,
-) -> String {
+fn unit(rt: &impl Abort, alloc: Global, watcher: &mut Watcher<Api>, at: u64) -> String {
     let unit = watcher.poll_unit(alloc, Moment(at)).expect(rt, "memory");
     shown(rt, alloc, &unit)
 }
 
 /// What calls of a watcher at these moments make, a line each.
-pub fn units<A: ApiMode>(
-    rt: &impl Abort,
-    alloc: Global,
-    watcher: &mut Watcher<A>,
-    moments: &[u64],
-) -> String {
+fn units(rt: &impl Abort, alloc: Global, watcher: &mut Watcher<Api>, moments: &[u64]) -> String {
     let mut lines = String::new(alloc);
     for at in moments {
         let line = unit(rt, alloc, watcher, *at);
