@@ -16,7 +16,7 @@ use Rattle.kube_final.specs.Lives.{is_at, is_empty, same_names}
 abbrev pub with_finalizers : List (List ℕ) → ObjectData → ObjectData
 with_finalizers names o = record o { metadata = record o.metadata { finalizers = Some names } }
 
--- whether the test of the patch passes: the finalizer still stands at its place, there is still none, or all are still those that were seen
+-- whether the test of the patch passes: the finalizer still stands at its index, there is still none, or all are still those that were seen
 abbrev pub is_as_seen : List ℕ → Decision → List (List ℕ) → List (List ℕ) → Bool
 is_as_seen name (Cleanup i) seen names = is_at name (slice_get names i)
 is_as_seen name AddFirst seen names = is_empty names

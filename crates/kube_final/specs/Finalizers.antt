@@ -66,7 +66,7 @@ end_path = codes "/metadata/finalizers/-"
 abbrev pub names_data : List (List ℕ) → Data
 names_data names = array (items_of (map string names))
 
--- the finalizer is taken out at this place, if it is still there
+-- the finalizer is taken out at this index, if it is still there
 abbrev pub removal : List ℕ → ℕ → List Operation
 removal name i = Tests (item_path i) (string name) ∷ Changes (item_path i) Takes ∷ []
 

@@ -109,7 +109,7 @@ fn is_at(name: &str, at: usize, names: &[Text]) -> bool
     }
 }
 
-/// Without the one at a place, if the name is there.
+/// Without the one at an index, if the name is there.
 fn without(alloc: Global, name: &str, index: u64, names: &[Text]) -> Result<List<Text>, NoMemory>
     ensures { IfOk result (λ l. l ≡ patched_by name.now (Decision.Cleanup index) [] names.now) }
 {

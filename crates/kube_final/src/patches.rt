@@ -30,7 +30,7 @@ fn names_value(alloc: Global, names: &[Text]) -> Result<Value, NoMemory>
     Ok(Value::Array(values))
 }
 
-/// Tests for the finalizer at a place, and takes it out.
+/// Tests for the finalizer at an index, and takes it out.
 fn removal(alloc: Global, name: &str, index: u64) -> Result<Vec<Patch>, NoMemory>
     ensures operations { IfOk result (λ p. map operation_of p.items ≡ removal_of name.now index) }
     ensures small { index < 2 ^ 64 }
