@@ -1,6 +1,6 @@
 //! The patches of finalizers.
 
-ghost use Rattle.std.specs.Prelude.{◌≡◌, ◌<◌, ◌^◌, map, length, IfOk, vec_len, [], ◌∷◌, codes};
+ghost use Rattle.std.specs.Prelude.{◌≡◌, map, length, IfOk};
 ghost use Rattle.serde_json.specs.Data.{string};
 ghost use Rattle.serde_json.specs.View.{view};
 ghost use Rattle.kube_api.specs.Patches.{operation_of};
@@ -32,8 +32,7 @@ fn names_value(alloc: Global, names: &[Text]) -> Result<Value, NoMemory>
 
 /// Tests for the finalizer at an index, and takes it out.
 fn removal(alloc: Global, name: &str, index: u64) -> Result<Vec<Patch>, NoMemory>
-    ensures operations { IfOk result (λ p. map operation_of p.items ≡ removal_of name.now index) }
-    ensures small { index < 2 ^ 64 }
+    ensures { IfOk result (λ p. map operation_of p.items ≡ removal_of name.now index) }
 {
     let value = text_value(alloc, name)?;
     let tested = Text::from(format!(in alloc; "/metadata/finalizers/{index}")?);
