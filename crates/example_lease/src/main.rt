@@ -1,0 +1,69 @@
+//! Two candidates for one lease, on a server in memory. From 10 s on, until 30 s, nothing that the server says is heard by `blue`.
+#![tactic(auto)]
+
+use anyhow::Result;
+use kube_api::{DeleteAnswer, ObjectApi, Patch, PatchAnswer};
+use kube_lease::{Candidate, LeaseAnswer, new_lease};
+use kube_meta::{ApiResource, DynamicObject, Moment, NoMemory, Polled};
+use kube_server::{Server, ServerObjects};
+use std::alloc::Global;
+use std::sync::Arc;
+
+const SECOND: u64 = 1_000_000_000;
+
+type Patched = Result<Polled<PatchAnswer<DynamicObject>>, NoMemory>;
+
+type Deleted = Result<Polled<DeleteAnswer<DynamicObject>>, NoMemory>;
+
+/// The server's objects: each patch is done, and where the line is down nothing is heard of it.
+#[derive(Drop)]
+struct Line<'a>(ServerObjects<'a>, bool);
+
+impl<'a> ObjectApi for Line<'a> {
+    type Value = DynamicObject;
+
+    fn patch(&mut self, alloc: Global, name: &str, patch: &[Patch], now: Moment) -> Patched {
+        let answer = self.0.patch(alloc, name, patch, now)?;
+        Ok(if self.1 { Polled::NotReady } else { answer })
+    }
+
+    fn delete(&mut self, alloc: Global, name: &str, now: Moment) -> Deleted {
+        self.0.delete(alloc, name, now)
+    }
+}
+
+/// A candidate observes the lease, unless the line is down, and is polled.
+fn campaign(
+    alloc: Global,
+    server: &mut Server,
+    who: &mut Candidate,
+    down: bool,
+    now: Moment,
+) -> Result<Polled<LeaseAnswer>> {
+    for lease in server.objects(alloc)? {
+        if !down {
+            who.observe(alloc, &lease)?;
+        }
+    }
+    let mut line = Line(server.objects_in(alloc, None)?, down);
+    Ok(who.poll(alloc, &mut line, now)?)
+}
+
+fn main(rt: HostRuntime) -> Result<()> {
+    let alloc = rt.alloc();
+    let kind = ApiResource::new(alloc, "example.dev", "v1", "Lease", "leases")?;
+    let mut server = Server::new(alloc, Arc::new(alloc, kind)?);
+    server.put(alloc, new_lease(alloc, "leader")?)?;
+    let mut blue = Candidate::new(alloc, "blue", "leader", 15 * SECOND)?;
+    let mut green = Candidate::new(alloc, "green", "leader", 15 * SECOND)?;
+    for step in 0..8 {
+        let now = Moment(5 * step * SECOND);
+        let down = step >= 2 && step < 6;
+        println!(rt; "{} s", 5 * step)?;
+        let answer = campaign(alloc, &mut server, &mut blue, down, now)?;
+        println!(rt; "  blue: {answer:?}, may act: {}", blue.may_act(now))?;
+        let answer = campaign(alloc, &mut server, &mut green, false, now)?;
+        println!(rt; "  green: {answer:?}, may act: {}", green.may_act(now))?;
+    }
+    Ok(())
+}
