@@ -8,7 +8,7 @@ ghost use Rattle.kube_lease.specs.Played.{IsHeldBy, IsPlayedOn, IsSeenAs, candid
 ghost use Rattle.kube_lease.specs.declared.election.LeaseStep.{LeaseStep as Step};
 
 pub use crate::election::{Entrant, LeaseStep};
-pub use crate::play::Played;
+pub use crate::play::PlayedElection;
 use crate::play::played;
 use kube_meta::NoMemory;
 use std::alloc::Global;
@@ -39,7 +39,7 @@ pub fn play(
     alloc: Global,
     candidates: &[Entrant],
     election: &[LeaseStep],
-) -> Result<Played, NoMemory>
+) -> Result<PlayedElection, NoMemory>
     requires entrants { AreEntrants candidates.now }
     requires valid { is_election candidates.now election.now ≡ true }
     ensures lease { IfOk result (λ p. IsSeenAs (seen_object p.lease) (past_of candidates.now election.now).current) }

@@ -27,7 +27,7 @@ use std::sync::Arc;
 
 /// An election that was played.
 #[derive(Drop)]
-pub struct Played {
+pub struct PlayedElection {
     /// The lease's object at its end.
     pub lease: DynamicObject,
     pub server: Server,
@@ -403,7 +403,7 @@ pub(crate) fn played(
     alloc: Global,
     candidates: &[Entrant],
     election: &[LeaseStep],
-) -> Result<Played, NoMemory>
+) -> Result<PlayedElection, NoMemory>
     requires entrants { AreEntrants candidates.now }
     requires valid { is_election candidates.now election.now ≡ true }
     ensures lease { IfOk result (λ p. IsSeenAs (seen_object p.lease) (past_of candidates.now election.now).current) }
@@ -418,7 +418,7 @@ pub(crate) fn played(
     let lease = stage.lease(alloc)?;
     let server = stage.server;
     let all = List::from(stage.candidates);
-    Ok(Played {
+    Ok(PlayedElection {
         lease,
         server,
         candidates: all,

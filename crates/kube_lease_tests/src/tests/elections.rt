@@ -4,7 +4,7 @@ ghost use Rattle.std.specs.Prelude.{◌≡◌, ◌++◌};
 ghost use Rattle.kube_lease.specs.Rows.{both as both_of, lost_reply, observed_at_3, renewed_at_5, taken_at_15, tried_at_10};
 
 use super::{is_text, text};
-use kube_lease::laws::{Entrant, LeaseStep, Played, one_holder, play};
+use kube_lease::laws::{Entrant, LeaseStep, PlayedElection, one_holder, play};
 use kube_lease::read_lease;
 use kube_lease::rows::{
     candidates_are_entrants, lost_reply_gives_no_claim, renewal_keeps_the_lease,
@@ -92,7 +92,7 @@ fn loss(rt: &impl Abort, alloc: Global) -> Vec<LeaseStep>
 }
 
 /// An election in which the second candidate takes the lease once it has observed the renewal.
-fn renewed(rt: &impl Abort, alloc: Global) -> Played {
+fn renewed(rt: &impl Abort, alloc: Global) -> PlayedElection {
     let entrants = both(rt, alloc);
     let election = renewal(rt, alloc);
     candidates_are_entrants();
@@ -102,7 +102,7 @@ fn renewed(rt: &impl Abort, alloc: Global) -> Played {
 }
 
 /// An election in which the first candidate observes that it holds the lease, since its reply is lost.
-fn lost(rt: &impl Abort, alloc: Global) -> Played {
+fn lost(rt: &impl Abort, alloc: Global) -> PlayedElection {
     let entrants = both(rt, alloc);
     let election = loss(rt, alloc);
     candidates_are_entrants();
@@ -111,7 +111,7 @@ fn lost(rt: &impl Abort, alloc: Global) -> Played {
 }
 
 /// Whether the candidate of a number may act at a moment.
-fn acts(played: &Played, number: usize, now: u64) -> bool {
+fn acts(played: &PlayedElection, number: usize, now: u64) -> bool {
     match played.candidates.as_slice().get(number) {
         Some(candidate) => candidate.may_act(Moment(now)),
         None => false,
@@ -119,7 +119,7 @@ fn acts(played: &Played, number: usize, now: u64) -> bool {
 }
 
 /// The lease, and who may act at a moment.
-fn shown(rt: &impl Abort, alloc: Global, played: &Played, now: u64) -> String {
+fn shown(rt: &impl Abort, alloc: Global, played: &PlayedElection, now: u64) -> String {
     let lease = read_lease(alloc, &played.lease).expect(rt, "a lease");
     let (x, y) = (acts(played, 0, now), acts(played, 1, now));
     let (term, until) = (lease.term, lease.until.0);

@@ -63,7 +63,7 @@ fn server(rt: &impl Abort, alloc: Global) -> Server {
     server
 }
 
-fn scene(rt: &impl Abort, alloc: Global) -> Scene {
+fn new_scene(rt: &impl Abort, alloc: Global) -> Scene {
     let key = ObjectRef::new_with(alloc, "lease", resource(rt, alloc));
     Scene {
         server: server(rt, alloc),
@@ -195,7 +195,7 @@ x polls 3 | held 1 13
 x acts 12 | true";
 
 fn plays(rt: &impl Abort, alloc: Global, lines: &str) {
-    let mut scene = scene(rt, alloc);
+    let mut scene = new_scene(rt, alloc);
     for line in lines.split('\n') {
         let (words, wanted) = halves(line);
         let outcome = one_done(rt, alloc, &mut scene, words);
@@ -213,7 +213,7 @@ fn candidates_over_a_server(rt: HostRuntime) {
 #[test]
 fn lease_that_is_missing(rt: HostRuntime) {
     let alloc = rt.alloc();
-    let mut scene = scene(&rt, alloc);
+    let mut scene = new_scene(&rt, alloc);
     let _seen = observe(&rt, alloc, &scene.server, &scene.key, &mut scene.x);
     let mut empty = Server::new(alloc, resource(&rt, alloc));
     let answer = poll(&rt, alloc, &mut empty, &mut scene.x, Moment(0));
