@@ -1,5 +1,4 @@
 pub mod ElectionLaws
-pub mod Polling
 pub mod RegularPasts
 pub mod LeaseDocuments
 pub mod Serving

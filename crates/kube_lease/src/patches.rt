@@ -1,6 +1,6 @@
 //! The patches of a candidate.
 
-ghost use Rattle.std.specs.Prelude.{◌≡◌, ◌<◌, ◌-◌, ◌^◌, length, map, IfOk};
+ghost use Rattle.std.specs.Prelude.{◌≡◌, ◌<◌, ◌+◌, ◌^◌, length, map, IfOk};
 ghost use Rattle.serde_json.specs.Data.{string};
 ghost use Rattle.serde_json.specs.View.{view};
 ghost use Rattle.kube_api.specs.Patches.{operation_of, Tests, Changes, Puts};
@@ -60,15 +60,16 @@ pub(crate) fn taking(
     alloc: Global,
     id: &str,
     seen: &LeaseView,
+    next: u64,
     until: Moment,
 ) -> Result<Vec<Patch>, NoMemory>
-    requires { seen.now.term < 2 ^ 64 - 1 }
+    requires { next ≡ seen.now.term + 1 }
     ensures operations { IfOk result (λ p. map operation_of p.items ≡ taking_of id.now (lease_of seen.now) until.0) }
     ensures few { IfOk result (λ p. length p.items < 2 ^ 32) }
 {
     let term = test(alloc, "/spec/term", number(seen.term))?;
     let end = test(alloc, "/spec/until", number(seen.until.0))?;
-    let next = add(alloc, "/spec/term", number(seen.term + 1))?;
+    let next = add(alloc, "/spec/term", number(next))?;
     let holder = add(alloc, "/spec/holder", text(alloc, id)?)?;
     let longer = add(alloc, "/spec/until", number(until.0))?;
     Ok(vec![in alloc; term, end, next, holder, longer]?)

@@ -65,7 +65,10 @@ impl Candidate {
         let until = now.plus(self.duration);
         match self.decide(now) {
             LeaseDecision::Renew => Ok(Some(renewal(alloc, seen, until)?)),
-            LeaseDecision::Take => Ok(Some(taking(alloc, self.id.as_str(), seen, until)?)),
+            LeaseDecision::Take => {
+                let next = seen.term + 1;
+                Ok(Some(taking(alloc, self.id.as_str(), seen, next, until)?))
+            }
             LeaseDecision::Unseen | LeaseDecision::Wait { .. } | LeaseDecision::LastTerm => {
                 Ok(None)
             }

@@ -1,4 +1,5 @@
 use Rattle.std.proofs.Common.{inr}
+use Rattle.kube_model.proofs.Results.{on_err}
 use Rattle.kube_lease.proofs.poll.send.Goals as goal
 
 pub returns-clause-sent : goal.returns-clause-sent
@@ -16,4 +17,4 @@ returns-clause-sent g c =
 pub returns-in_err-answer-clause-unasked : goal.returns-in_err-answer-clause-unasked
 returns-in_err-answer-clause-unasked g c =
     let e = c.in_err-answer.ensures in
-    (e.unchanged, e.kept, inr e.rests)
+    on_err c.from_residual.result _ (e.unchanged, e.kept, inr e.rests)
