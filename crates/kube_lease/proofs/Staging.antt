@@ -105,18 +105,21 @@ found_by : (b : Bool) (m k : Made) (rest : Option Made) → cond b (Some k) rest
 found_by true m k rest e = inl (refl, some-same k m e)
 found_by false m k rest e = inr (refl, e)
 
-made_there : (ms : List Made) (xs : List (ℕ × Lease)) (n : ℕ) (m : Made) → AreMade ms xs → find (λ (k : Made). k.send == n) ms ≡ Some m
-    → (l : Lease) × (under n xs ≡ Some l) × IsSeenAs (seen_object (arc_value m.object)) l
+-- what is under a number is the lease of this object
+abbrev IsMadeBy : ℕ → Made → List (ℕ × Lease) → Type 0
+IsMadeBy n m xs = (l : Lease) × (under n xs ≡ Some l) × IsSeenAs (seen_object (arc_value m.object)) l
+
+made_there : (ms : List Made) (xs : List (ℕ × Lease)) (n : ℕ) (m : Made) → AreMade ms xs → find (λ (k : Made). k.send == n) ms ≡ Some m → IsMadeBy n m xs
 made_there [] xs n m h e = absurd (some-no m (sym e))
 made_there (k ∷ ms) [] n m h e = absurd h
-made_there (k ∷ ms) (x ∷ xs) n m h e = by (found_by (k.send == n) m k (find (λ (j : Made). j.send == n) ms) e) where
-  by : (((k.send == n) ≡ true) × (k ≡ m)) ⊎ (((k.send == n) ≡ false) × (find (λ (j : Made). j.send == n) ms ≡ Some m)) → (l : Lease) × (under n (x ∷ xs) ≡ Some l) × IsSeenAs (seen_object (arc_value m.object)) l
-  by (inl here) =
+made_there (k ∷ ms) (x ∷ xs) n m h e = by (found_by (k.send == n) m k (find (λ (j : Made). j.send == n) ms) e) (λ t. made_there ms xs n m h.2 t) where
+  by : (((k.send == n) ≡ true) × (k ≡ m)) ⊎ (((k.send == n) ≡ false) × (find (λ (j : Made). j.send == n) ms ≡ Some m)) → (find (λ (j : Made). j.send == n) ms ≡ Some m → IsMadeBy n m xs) → IsMadeBy n m (x ∷ xs)
+  by (inl here) further =
       let numbered : (x.0 == n) ≡ true = sym (ap (λ i. i == n) h.0) ∙ here.0 in
       (x.1, ap (λ b. cond b (Some x.1) (under n xs)) numbered, subst (λ (j : Made). IsSeenAs (seen_object (arc_value j.object)) x.1) here.1 h.1)
-  by (inr later) =
+  by (inr later) further =
       let numbered : (x.0 == n) ≡ false = sym (ap (λ i. i == n) h.0) ∙ later.0 in
-      let w = made_there ms xs n m h.2 later.1 in
+      let w = further later.1 in
       (w.0, ap (λ b. cond b (Some x.1) (under n xs)) numbered ∙ w.1, w.2)
 
 not_found : (b : Bool) (k : Made) (rest : Option Made) → cond b (Some k) rest ≡ None → (b ≡ false) × (rest ≡ None)

@@ -21,7 +21,7 @@ use crate::lease::new_lease;
 use kube_api::copies::copy_patch;
 use kube_api::{DeleteAnswer, ObjectApi, Patch, PatchAnswer};
 use kube_meta::{ApiResource, DynamicObject, List, Moment, NoMemory, ObjectRef, Polled};
-use kube_server::Server;
+use kube_server::{Server, ServerObjects};
 use std::alloc::Global;
 use std::sync::Arc;
 
@@ -132,6 +132,14 @@ fn object_of(answer: Polled<PatchAnswer<DynamicObject>>) -> Option<Arc<DynamicOb
     }
 }
 
+/// The server whose objects they were.
+fn given_back<'a>(objects: ServerObjects<'a>) -> &'a mut Server
+    ensures same_reference { result.ghost_name ≡ objects.entry.server.ghost_name }
+    ensures server { result.now ≡ objects.entry.server.now }
+{
+    objects.server
+}
+
 /// A patch arrives. The object that it makes, if its tests pass.
 fn arrive(
     alloc: Global,
@@ -144,6 +152,8 @@ fn arrive(
 {
     let mut objects = server.objects_in(alloc, None)?;
     let answer = objects.patch(alloc, "lease", patch, now)?;
+    // (so it is known what the server is in the end)
+    let _server = given_back(objects);
     Ok(object_of(answer))
 }
 
@@ -387,7 +397,7 @@ impl Stage {
 
     // How the lease stands.
     fn lease(&self, alloc: Global) -> Result<DynamicObject, NoMemory>
-        ensures { IfOk result (λ o. (l : Lease) → Serves self.now.server (stage_reference self.now) l → IsSeenAs (seen_object o) l) }
+        ensures { IfOk result (λ o. (l : Lease) → Serves self.entry.now.server (stage_reference self.entry.now) l → IsSeenAs (seen_object o) l) }
     {
         let object = held(alloc, &self.server, &self.key)?;
         let object: &DynamicObject = &object;

@@ -1,4 +1,5 @@
-use Rattle.std.proofs.Common.{◌≡◌, suc, ◌<◌, ◌∷◌, length, drop, ap, sym, refl, ◌∙◌, arith, drop-cons}
+use Rattle.std.proofs.Common.{◌<◌, length, get_or, refl, ◌∙◌, arith, drop-cons}
+use Rattle.kube_lease.specs.declared.election.LeaseStep.TheVariants.{Tick}
 use Rattle.kube_lease.specs.Elections.{beginning, past_of}
 use Rattle.kube_lease.proofs.Staging.{played_end, played_next, played_on, sent_short}
 use Rattle.kube_lease.proofs.play.played.Goals as goal
@@ -10,10 +11,9 @@ pub loop-step-preserved : goal.loop-step-preserved
 loop-step-preserved c =
     let election = c.args.election.now in
     let i = c.loop-step.step-index in
-    let step = c.step-item.result in
     let l : i < length election = omega arith in
-    let here : drop i election ≡ step ∷ drop (suc i) election = drop-cons election i step l ∙ ap (λ s. s ∷ drop (suc i) election) (sym c.step-item.is) in
-    played_next c.args.candidates.now election i _ c.loop-step.stage c.take.new.self step (omega arith) c.loop-step.invariant here c.in_ok-take.ensures.stage c.in_ok-take.ensures.asked
+    played_next c.args.candidates.now election i _ c.loop-step.stage c.take.new.self (get_or election i (Tick 0)) (omega arith) c.loop-step.invariant (drop-cons election i (Tick 0) l)
+    c.in_ok-take.ensures.stage c.in_ok-take.ensures.asked
 
 pub take-requires : goal.take-requires
 take-requires c =
