@@ -5,7 +5,7 @@ use anyhow::Result;
 use kube_api::{DeleteAnswer, ObjectApi, Patch, PatchAnswer};
 use kube_lease::{Candidate, LeaseAnswer, new_lease};
 use kube_meta::{ApiResource, DynamicObject, Moment, NoMemory, Polled};
-use kube_server::{Server, ServerObjects};
+use kube_server::Server;
 use std::alloc::Global;
 use std::sync::Arc;
 
@@ -15,20 +15,25 @@ type Patched = Result<Polled<PatchAnswer<DynamicObject>>, NoMemory>;
 
 type Deleted = Result<Polled<DeleteAnswer<DynamicObject>>, NoMemory>;
 
-/// The server's objects: each patch is done, and where the line is down nothing is heard of it.
+/// A line to a server: each patch is done, and where the line is down nothing is heard of it.
 #[derive(Drop)]
-struct Line<'a>(ServerObjects<'a>, bool);
+struct Line<'a> {
+    server: &'a mut Server,
+    down: bool,
+}
 
 impl<'a> ObjectApi for Line<'a> {
     type Value = DynamicObject;
 
     fn patch(&mut self, alloc: Global, name: &str, patch: &[Patch], now: Moment) -> Patched {
-        let answer = self.0.patch(alloc, name, patch, now)?;
-        Ok(if self.1 { Polled::NotReady } else { answer })
+        let mut objects = self.server.objects_in(alloc, None)?;
+        let answer = objects.patch(alloc, name, patch, now)?;
+        Ok(if self.down { Polled::NotReady } else { answer })
     }
 
     fn delete(&mut self, alloc: Global, name: &str, now: Moment) -> Deleted {
-        self.0.delete(alloc, name, now)
+        let mut objects = self.server.objects_in(alloc, None)?;
+        objects.delete(alloc, name, now)
     }
 }
 
@@ -45,7 +50,7 @@ fn campaign(
             who.observe(alloc, &lease)?;
         }
     }
-    let mut line = Line(server.objects_in(alloc, None)?, down);
+    let mut line = Line { server, down };
     Ok(who.poll(alloc, &mut line, now)?)
 }
 

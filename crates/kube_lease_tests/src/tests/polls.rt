@@ -4,7 +4,7 @@ use super::{halves, is_text, owned};
 use kube_api::{ApiError, DeleteAnswer, ObjectApi, Patch, PatchAnswer};
 use kube_lease::{Candidate, LeaseAnswer, new_lease};
 use kube_meta::{ApiResource, DynamicObject, Moment, NoMemory, ObjectRef, Polled, Text};
-use kube_server::{Server, ServerObjects};
+use kube_server::Server;
 use std::alloc::Global;
 use std::panic::Expect;
 use std::process::Abort;
@@ -14,7 +14,7 @@ use std::sync::Arc;
 /// A server's objects, of which each reply to a patch is lost.
 #[derive(Drop)]
 struct Deaf<'a> {
-    objects: ServerObjects<'a>,
+    server: &'a mut Server,
 }
 
 impl<'a> ObjectApi for Deaf<'a> {
@@ -27,7 +27,8 @@ impl<'a> ObjectApi for Deaf<'a> {
         patch: &[Patch],
         now: Moment,
     ) -> Result<Polled<PatchAnswer<DynamicObject>>, NoMemory> {
-        self.objects.patch(alloc, name, patch, now)?;
+        let mut objects = self.server.objects_in(alloc, None)?;
+        objects.patch(alloc, name, patch, now)?;
         let torn = ApiError::Transport(Text::new(alloc, "torn")?);
         Ok(Polled::Ready(PatchAnswer::Fault(torn)))
     }
@@ -38,7 +39,8 @@ impl<'a> ObjectApi for Deaf<'a> {
         name: &str,
         now: Moment,
     ) -> Result<Polled<DeleteAnswer<DynamicObject>>, NoMemory> {
-        self.objects.delete(alloc, name, now)
+        let mut objects = self.server.objects_in(alloc, None)?;
+        objects.delete(alloc, name, now)
     }
 }
 
@@ -110,8 +112,7 @@ fn poll_deaf(
     candidate: &mut Candidate,
     now: Moment,
 ) -> String {
-    let objects = server.objects_in(alloc, None).expect(rt, "memory");
-    let mut deaf = Deaf { objects };
+    let mut deaf = Deaf { server };
     let answer = candidate.poll(alloc, &mut deaf, now);
     shown(rt, alloc, &answer.expect(rt, "memory"))
 }
