@@ -54,21 +54,51 @@ fn campaign(
     Ok(who.poll(alloc, &mut line, now)?)
 }
 
-fn main(rt: HostRuntime) -> Result<()> {
-    let alloc = rt.alloc();
-    let kind = ApiResource::new(alloc, "example.dev", "v1", "Lease", "leases")?;
-    let mut server = Server::new(alloc, Arc::new(alloc, kind)?);
-    server.put(alloc, new_lease(alloc, "leader")?)?;
-    let mut blue = Candidate::new(alloc, "blue", "leader", 15 * SECOND)?;
-    let mut green = Candidate::new(alloc, "green", "leader", 15 * SECOND)?;
+/// Writes what a candidate's campaign comes to, and whether it may act.
+fn report(
+    rt: &impl Print,
+    alloc: Global,
+    server: &mut Server,
+    name: &str,
+    who: &mut Candidate,
+    down: bool,
+    now: Moment,
+) -> Result<()> {
+    let answer = campaign(alloc, server, who, down, now)?;
+    println!(rt; "  {name}: {answer:?}, may act: {}", who.may_act(now))?;
+    Ok(())
+}
+
+/// Both campaign every five seconds, one after the other.
+fn run(
+    rt: &impl Print,
+    alloc: Global,
+    server: &mut Server,
+    blue: &mut Candidate,
+    green: &mut Candidate,
+) -> Result<()> {
     for step in 0..8 {
         let now = Moment(5 * step * SECOND);
         let down = step >= 2 && step < 6;
         println!(rt; "{} s", 5 * step)?;
-        let answer = campaign(alloc, &mut server, &mut blue, down, now)?;
-        println!(rt; "  blue: {answer:?}, may act: {}", blue.may_act(now))?;
-        let answer = campaign(alloc, &mut server, &mut green, false, now)?;
-        println!(rt; "  green: {answer:?}, may act: {}", green.may_act(now))?;
+        report(rt, alloc, server, "blue", blue, down, now)?;
+        report(rt, alloc, server, "green", green, false, now)?;
     }
     Ok(())
+}
+
+/// A server with a lease that nobody has held.
+fn open(alloc: Global) -> Result<Server> {
+    let kind = ApiResource::new(alloc, "example.dev", "v1", "Lease", "leases")?;
+    let mut server = Server::new(alloc, Arc::new(alloc, kind)?);
+    server.put(alloc, new_lease(alloc, "leader")?)?;
+    Ok(server)
+}
+
+fn main(rt: HostRuntime) -> Result<()> {
+    let alloc = rt.alloc();
+    let mut server = open(alloc)?;
+    let mut blue = Candidate::new(alloc, "blue", "leader", 15 * SECOND)?;
+    let mut green = Candidate::new(alloc, "green", "leader", 15 * SECOND)?;
+    run(&rt, alloc, &mut server, &mut blue, &mut green)
 }
