@@ -12,28 +12,28 @@ use Rattle.kube_lease.specs.Elections.{AreEntrants, IsClaim, Past, Sent, after, 
 
 -- ---- truth values, lists
 
-and_parts : (a b : Bool) → (a && b) ≡ true → (a ≡ true) × (b ≡ true)
+pub and_parts : (a b : Bool) → (a && b) ≡ true → (a ≡ true) × (b ≡ true)
 and_parts true b e = (refl, e)
 and_parts false b e = (cc, cc)
 
-slice_get-more : {X : Type 0} (xs ys : List X) (k : ℕ) (x : X) → slice_get xs k ≡ Some x → slice_get (xs ++ ys) k ≡ Some x
+pub slice_get-more : {X : Type 0} (xs ys : List X) (k : ℕ) (x : X) → slice_get xs k ≡ Some x → slice_get (xs ++ ys) k ≡ Some x
 slice_get-more [] ys k x e = cc
 slice_get-more (z ∷ xs) ys zero x e = e
 slice_get-more (z ∷ xs) ys (suc k) x e = slice_get-more xs ys k x e
 
-slice_get-last : {X : Type 0} (xs : List X) (y : X) (k : ℕ) (x : X) → slice_get (xs ++ y ∷ []) k ≡ Some x → (slice_get xs k ≡ Some x) ⊎ (x ≡ y)
+pub slice_get-last : {X : Type 0} (xs : List X) (y : X) (k : ℕ) (x : X) → slice_get (xs ++ y ∷ []) k ≡ Some x → (slice_get xs k ≡ Some x) ⊎ (x ≡ y)
 slice_get-last [] y zero x e = inr (cc)
 slice_get-last [] y (suc k) x e = inl e
 slice_get-last (z ∷ xs) y zero x e = inl e
 slice_get-last (z ∷ xs) y (suc k) x e = slice_get-last xs y k x e
 
 -- where a list's last one stands
-last-there : {X : Type 0} (xs : List X) (y : X) → (k : ℕ) × (slice_get (xs ++ y ∷ []) k ≡ Some y)
+pub last-there : {X : Type 0} (xs : List X) (y : X) → (k : ℕ) × (slice_get (xs ++ y ∷ []) k ≡ Some y)
 last-there [] y = (0, refl)
 last-there (x ∷ xs) y = let w = last-there xs y in (suc w.0, w.1)
 
 -- one of the first, or of the rest
-slice_get-first : {X : Type 0} (y : X) (ys : List X) (k : ℕ) (x : X) → slice_get (y ∷ ys) k ≡ Some x → (x ≡ y) ⊎ ((j : ℕ) × (slice_get ys j ≡ Some x))
+pub slice_get-first : {X : Type 0} (y : X) (ys : List X) (k : ℕ) (x : X) → slice_get (y ∷ ys) k ≡ Some x → (x ≡ y) ⊎ ((j : ℕ) × (slice_get ys j ≡ Some x))
 slice_get-first y ys zero x e = inl (cc)
 slice_get-first y ys (suc k) x e = inr (k, e)
 
@@ -204,7 +204,7 @@ some_is : (a b : Lease) → Some a ≡ Some b → a ≡ b
 some_is a b e = cc
 
 -- what is under a number stands in the list
-under_there : (n : ℕ) (xs : List (ℕ × Lease)) (l : Lease) → under n xs ≡ Some l → (k : ℕ) × (j : ℕ) × (slice_get xs k ≡ Some (j, l))
+pub under_there : (n : ℕ) (xs : List (ℕ × Lease)) (l : Lease) → under n xs ≡ Some l → (k : ℕ) × (j : ℕ) × (slice_get xs k ≡ Some (j, l))
 under_there n [] l e = absurd (cc)
 under_there n (x ∷ xs) l e = go (x.0 == n) e (λ h. under_there n xs l h) where
   go : (b : Bool) → cond b (Some x.1) (under n xs) ≡ Some l → (under n xs ≡ Some l → (k : ℕ) × (j : ℕ) × (slice_get xs k ≡ Some (j, l)))
@@ -255,7 +255,7 @@ sent_by_well p c None k s x = absurd (cc)
 sent_by_well p c (Some e) k s x = sent_on_well c p.now e (under c p.observed) k s x
 
 -- one of two lists that are joined
-slice_get-joined : {X : Type 0} (xs ys : List X) (k : ℕ) (x : X) → slice_get (xs ++ ys) k ≡ Some x → (slice_get xs k ≡ Some x) ⊎ ((j : ℕ) × (slice_get ys j ≡ Some x))
+pub slice_get-joined : {X : Type 0} (xs ys : List X) (k : ℕ) (x : X) → slice_get (xs ++ ys) k ≡ Some x → (slice_get xs k ≡ Some x) ⊎ ((j : ℕ) × (slice_get ys j ≡ Some x))
 slice_get-joined [] ys k x e = inr (k, e)
 slice_get-joined (z ∷ xs) ys zero x e = inl e
 slice_get-joined (z ∷ xs) ys (suc k) x e = slice_get-joined xs ys k x e

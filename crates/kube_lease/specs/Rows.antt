@@ -32,6 +32,10 @@ tried_at_10 = Tick 5 ∷ Send 1 ∷ Arrive 2 ∷ []
 abbrev pub taken_at_15 : List LeaseStep
 taken_at_15 = Tick 5 ∷ Observe 1 2 ∷ Send 1 ∷ Arrive 3 ∷ Reply 1 3 ∷ []
 
--- the first takes the lease at 0, and its reply is lost; it observes it at 3
+-- the first takes the lease at 0, and its reply is lost
 abbrev pub lost_reply : List LeaseStep
 lost_reply = Observe 0 0 ∷ Send 0 ∷ Arrive 0 ∷ Tick 3 ∷ []
+
+-- it observes the lease at 3
+abbrev pub observed_at_3 : List LeaseStep
+observed_at_3 = Observe 0 1 ∷ []

@@ -53,11 +53,11 @@ fn greater(a: Option<Claim>, b: Claim) -> Claim
 /// It reads no clock: `now` is the server's moment. One behind it would let a candidate act past its claim.
 #[derive(Drop)]
 pub struct Candidate {
-    id: Text,
-    lease: Text,
-    duration: u64,
-    seen: Option<LeaseView>,
-    claim: Option<Claim>,
+    pub(crate) id: Text,
+    pub(crate) lease: Text,
+    pub(crate) duration: u64,
+    pub(crate) seen: Option<LeaseView>,
+    pub(crate) claim: Option<Claim>,
 }
 
 impl Model for Candidate {

@@ -10,6 +10,7 @@ ghost use Rattle.kube_lease.specs.declared.lease.LeaseFault.TheVariants.{NoMemor
 use kube_meta::{DynamicObject, Moment, NoMemory, ObjectMeta, Text};
 use serde_json::{Map, Value};
 use std::alloc::{AllocError, Global};
+use thiserror::Error;
 
 /// A lease, as an object's `spec` has it.
 #[derive(Debug, Drop)]
@@ -23,11 +24,13 @@ pub struct LeaseView {
 }
 
 /// Why an object is no lease.
-#[derive(Debug, Drop)]
+#[derive(Debug, Drop, Error)]
 pub enum LeaseFault {
     /// The first of `/spec/holder` (a text), `/spec/term` and `/spec/until` (whole numbers of 64 bits) that is missing or has
     /// another form.
+    #[error("of another form at `{0}`")]
     Malformed(Text),
+    #[error("out of memory")]
     NoMemory,
 }
 

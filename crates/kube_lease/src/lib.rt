@@ -5,7 +5,11 @@ mod candidate;
 mod election;
 pub mod laws;
 mod lease;
+mod patches;
+mod play;
+mod poll;
 pub mod rows;
 
 pub use candidate::{Candidate, LeaseDecision};
 pub use lease::{LeaseFault, LeaseView, new_lease, read_lease};
+pub use poll::LeaseAnswer;
