@@ -303,6 +303,17 @@ ref_at d = do
   namespace ← maybe_field (codes "namespace") text_at d
   Ok (record { name = name; namespace = namespace })
 
+-- a reference with the priority of the request for it
+pub record NamedRef : Type 0 where
+  pub reference : Ref
+  pub priority : ℕ
+
+unfoldable pub named_at : Data → Result NamedRef ObjectFault
+named_at d = do
+  reference ← ref_at d
+  priority ← default_field (codes "priority") small_at 0 d
+  Ok (record { reference = reference; priority = priority })
+
 -- a reconcile that ended: with the nanoseconds of a requeue or none, or with the text of a fault
 pub record Finish : Type 0 where
   pub reference : Ref
@@ -335,7 +346,7 @@ pub record Turn : Type 0 where
   pub budget : List ℕ
   pub finishes : List Finish
   pub reload : Bool
-  pub on : List Ref
+  pub on : List NamedRef
   pub shutdown : Shutdown
   pub show : Bool
 
@@ -346,7 +357,7 @@ turn_at d = do
   budget ← list_field (codes "budget") small_at d
   finishes ← list_field (codes "finishes") finish_at d
   reload ← default_field (codes "reload") flag_at false d
-  on ← list_field (codes "on") ref_at d
+  on ← list_field (codes "on") named_at d
   shutdown ← default_field (codes "shutdown") shutdown_at shutdowns.No d
   show ← default_field (codes "show") flag_at false d
   Ok (record { at = moment; budget = budget; finishes = finishes; reload = reload; on = on; shutdown = shutdown; show = show })

@@ -35,3 +35,6 @@ returns-clause-cost g c events stands =
     let b = ap (λ (s : Schedule g.row.T.Denot). s.stale) c.self.view_is in
     let d = ap (λ (s : Schedule g.row.T.Denot). length s.waiting) c.self.view_is in
     omega arith
+
+pub returns-clause-parked : goal.returns-clause-parked
+returns-clause-parked g c m = c.settle.ensures.parked m ∙ ap (λ (s : Schedule g.row.T.Denot). s.parked m) c.self.view_is
