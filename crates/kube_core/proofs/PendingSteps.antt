@@ -22,7 +22,7 @@ use Rattle.kube_model.specs.WaitingOnce.{is_frozen}
 use Rattle.kube_model.specs.Takes.{Running, runs, candidates, has_room, prioritized}
 use Rattle.kube_reflect.proofs.Putting.{same-references}
 use Rattle.kube_sched.specs.declared.held.Due.{Due}
-use Rattle.kube_sched.specs.Schedule.{Schedule, Stands as Scheduled, with_request, with_settle, with_take, waiting_messages}
+use Rattle.kube_sched.specs.Schedule.{Schedule, Stands as Scheduled, with_request, with_settle, with_take, waiting_messages, is_parked}
 use Rattle.kube_sched.proofs.Steps.{stands-alike, waiting-priorities}
 use Rattle.kube_history.specs.CoreWorld.{CoreWorld}
 use Rattle.kube_history.specs.CoreEvents.{next_candidate, first_of}
@@ -380,15 +380,15 @@ module _ {K D : Type 0} (type_of : D → ObjectType) where
 
   -- What was put aside runs.
 
-  pub parked-same : (s s' : Schedule (ReconcileRequest K D)) (es : List (ObjectRef K D × Arc K Global)) → ((q : ReconcileRequest K D) → s'.parked q ≡ s.parked q) → ParkedRun type_of s es → ParkedRun type_of s' es
+  pub parked-same : (s s' : Schedule (ReconcileRequest K D)) (es : List (ObjectRef K D × Arc K Global)) → ((q : ReconcileRequest K D) → is_parked (same_request type_of) s' q ≡ is_parked (same_request type_of) s q) → ParkedRun type_of s es → ParkedRun type_of s' es
   parked-same s s' es same k q h = k q (sym (same q) ∙ h)
 
   -- after a look
   pub parked-looked : (s s' : Schedule (ReconcileRequest K D)) (es : List (ObjectRef K D × Arc K Global)) (fails : ReconcileRequest K D → Type 0) → ((n : ReconcileRequest K D) → fails n → is_idle type_of es n ≡ false)
-      → ((q : ReconcileRequest K D) → s'.parked q ≡ true → (s.parked q ≡ true) ⊎ ((n : ReconcileRequest K D) × (same_request type_of n q ≡ true) × fails n)) → ParkedRun type_of s es → ParkedRun type_of s' es
+      → ((q : ReconcileRequest K D) → is_parked (same_request type_of) s' q ≡ true → (is_parked (same_request type_of) s q ≡ true) ⊎ ((n : ReconcileRequest K D) × (same_request type_of n q ≡ true) × fails n)) → ParkedRun type_of s es → ParkedRun type_of s' es
   parked-looked s s' es fails runs-it more k q h = go (more q h)
     where
-      go : (s.parked q ≡ true) ⊎ ((n : ReconcileRequest K D) × (same_request type_of n q ≡ true) × fails n) → is_idle type_of es q ≡ false
+      go : (is_parked (same_request type_of) s q ≡ true) ⊎ ((n : ReconcileRequest K D) × (same_request type_of n q ≡ true) × fails n) → is_idle type_of es q ≡ false
       go (inl o) = k q o
       go (inr w) = ap (λ (r : Reference). not (is_there type_of es r)) (sym (same-references (ref w.0.obj_ref) (ref q.obj_ref) w.1.0)) ∙ runs-it w.0 w.1.1
 
@@ -403,12 +403,12 @@ module _ {K D : Type 0} (type_of : D → ObjectType) where
 
   -- one runs no more, and its messages were let back
   pub parked-less : (s s' : Schedule (ReconcileRequest K D)) (es es' : List (ObjectRef K D × Arc K Global)) (r : Reference) (m : ReconcileRequest K D) → ref m.obj_ref ≡ r
-      → ((q : ReconcileRequest K D) → s'.parked q ≡ (s.parked q && not (same_request type_of m q)))
+      → ((q : ReconcileRequest K D) → is_parked (same_request type_of) s' q ≡ (is_parked (same_request type_of) s q && not (same_request type_of m q)))
       → ((t : Reference) → handed_in type_of es' t ≡ (if same_reference r t then None else handed_in type_of es t))
       → ParkedRun type_of s es → ParkedRun type_of s' es'
-  parked-less s s' es es' r m e same less k q h = go (s.parked q) refl (same_request type_of m q) refl (sym (same q) ∙ h)
+  parked-less s s' es es' r m e same less k q h = go (is_parked (same_request type_of) s q) refl (same_request type_of m q) refl (sym (same q) ∙ h)
     where
-      go : (a : Bool) → s.parked q ≡ a → (b : Bool) → same_request type_of m q ≡ b → (a && not b) ≡ true → is_idle type_of es' q ≡ false
+      go : (a : Bool) → is_parked (same_request type_of) s q ≡ a → (b : Bool) → same_request type_of m q ≡ b → (a && not b) ≡ true → is_idle type_of es' q ≡ false
       go true f false g i =
           ap not
           (sym (handed-there type_of es' (ref q.obj_ref))

@@ -1,5 +1,5 @@
 -- What waits and what runs, and what it stands for. K is the type of objects, D that of their dynamic types.
-use Rattle.std.specs.Prelude.{◌≡◌, ◌≤◌, ℕ, Bool, true, false, not, List, length, map, Option, None, is_some}
+use Rattle.std.specs.Prelude.{◌≡◌, ◌≤◌, ℕ, Bool, true, false, not, List, [], length, map, Option, None, is_some}
 use Rattle.std.specs.Option.{option_map}
 use Rattle.std.specs.List.{find, position_from}
 use Rattle.std.specs.Map.{lookup}
@@ -12,7 +12,7 @@ use Rattle.kube_meta.specs.declared.object_ref.ObjectRef.{ObjectRef}
 use Rattle.kube_model.specs.History.{Message}
 use Rattle.kube_model.specs.Queue.{QueueEvent}
 use Rattle.kube_model.specs.Takes.{Running}
-use Rattle.kube_sched.specs.Schedule.{Schedule, Stands as Scheduled, with_take, waiting_messages}
+use Rattle.kube_sched.specs.Schedule.{Schedule, Stands as Scheduled, with_take, waiting_messages, is_parked}
 use Rattle.kube_history.specs.CoreWorld.{CoreWorld}
 use Rattle.kube_history.specs.Running.{RunOnce}
 use Rattle.kube_turn.specs.declared.request.ReconcileRequest.{ReconcileRequest}
@@ -27,7 +27,7 @@ pub record Parts (K D : Type 0) : Type 0 where
 
 -- a schedule without what looks have put aside or found, and without the count of its stale places: what it holds is the same
 abbrev pub without_looks : {M : Type 0} → Schedule M → Schedule M
-without_looks s = record s { stale = 0; parked = λ m. false; head = None }
+without_looks s = record s { stale = 0; parked = []; head = None }
 
 module _ {K D : Type 0} (type_of : D → ObjectType) where
   -- whether no equal reference is among these
@@ -47,7 +47,7 @@ module _ {K D : Type 0} (type_of : D → ObjectType) where
 
   -- each message that was put aside is of a reference that runs
   abbrev pub ParkedRun : Schedule (ReconcileRequest K D) → List (ObjectRef K D × Arc K Global) → Type 0
-  ParkedRun s entries = (q : ReconcileRequest K D) → s.parked q ≡ true → is_idle entries q ≡ false
+  ParkedRun s entries = (q : ReconcileRequest K D) → is_parked (same_request type_of) s q ≡ true → is_idle entries q ≡ false
 
   -- there is a place for the request of each finish, and what was put aside runs
   pub record IsKept (s : Schedule (ReconcileRequest K D)) (entries : List (ObjectRef K D × Arc K Global)) : Type 0 where

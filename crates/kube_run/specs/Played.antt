@@ -35,6 +35,10 @@ version_of o = o.metadata.resource_version
 abbrev pub type_in : Script → ObjectType
 type_in s = resource_type s.kind
 
+-- the priorities of what its sources request, the root's first
+abbrev pub priorities_with : Source → List Related → List ℕ
+priorities_with root related = root.priority ∷ map (λ r. r.source.priority) related
+
 -- the world of a controller of objects of this type, so configured, with this backoff, whose root this source feeds, and whose related sources these
 abbrev pub world_with : ObjectType → Config → Backoff → Source → List Related → World ObjectData ScriptBackoff
 world_with kind config backoff root related = record {
@@ -42,6 +46,7 @@ world_with kind config backoff root related = record {
   is_named = has_name;
   version = version_of;
   feeds = Watched root.watcher ∷ map (λ r. Watched r.source.watcher) related;
+  priorities = map (λ p. Some p) (priorities_with root related);
   limit = config.concurrency;
   debounce = config.debounce;
   backoff = backoff_of backoff;

@@ -59,12 +59,12 @@ module _ {M : Type 0} (same : M → M → Bool) (equiv : IsEquivalence same) (ro
     -- the first that passes, where what is passed over doesn't
     pub head-passing : (passes : M → Bool → Type 0) → passes head.row.0 true → ((s : Row M) → Contains rows s → is_over aside s.1 ≡ true → passes s.0 false)
         → IsFirst passes (messages (sorted_by is_above (waiting_in rows next))) (Some head.row.0)
-    head-passing passes yes no =
+    head-passing passes passing failing =
         first-by passes test (waiting_in rows next)
-        (all-waiting same equiv rows heap (aside ++ ranks) next k (λ h. test h ≡ false → passes h.message false) (λ s c w e. no s c (out s c e)))
+        (all-waiting same equiv rows heap (aside ++ ranks) next k (λ h. test h ≡ false → passes h.message false) (λ s c w e. failing s c (out s c e)))
         (Some (held_in head.row))
         (head-urgent same equiv rows heap (aside ++ ranks) next k rest head.row moves waits test own (λ s c w p. before s c w p (same head.row.0 s.0) refl))
-        (λ x e. subst (λ (h : Held M). passes h.message true) (some-is e) yes)
+        (λ x e. subst (λ (h : Held M). passes h.message true) (some-is e) passing)
       where
         -- the row itself, or one that isn't passed over
         test : Held M → Bool
@@ -105,9 +105,9 @@ module _ {M : Type 0} (same : M → M → Bool) (equiv : IsEquivalence same) (ro
 
   pub none-passing : (passes : M → Bool → Type 0) → ((s : Row M) → Contains rows s → is_ranked s.1 ≡ true → Contains aside (rank_of s.1)) → ((s : Row M) → Contains rows s → is_over aside s.1 ≡ true → passes s.0 false)
       → IsFirst passes (messages (sorted_by is_above (waiting_in rows next))) None
-  none-passing passes all no =
+  none-passing passes all failing =
       first-by passes (λ h. false) (waiting_in rows next)
-      (all-waiting same equiv rows heap (aside ++ ranks) next k (λ h. false ≡ false → passes h.message false) (λ s c w e. no s c (none-first all s c w)))
+      (all-waiting same equiv rows heap (aside ++ ranks) next k (λ h. false ≡ false → passes h.message false) (λ s c w e. failing s c (none-first all s c w)))
       None (urgent-none (λ h. false) (waiting_in rows next) (all-waiting same equiv rows heap (aside ++ ranks) next k (λ h. false ≡ false) (λ s c w. refl)))
       (λ x e. absurd (none-is-some e))
 

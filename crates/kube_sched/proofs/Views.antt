@@ -1,7 +1,8 @@
 -- A schedule as contracts see it, of a timetable.
-use Rattle.std.proofs.Common.{◌≡◌, ℕ, zero, suc, ◌+◌, ◌-◌, ◌<◌, Bool, true, false, not, List, [], ◌∷◌, length, get_or, remove, Option, Some, None, IfSome, IfNone, option_map, refl, sym, ap, ap₂, subst, ◌∙◌, arith}
+use Rattle.std.proofs.Common.{◌≡◌, ℕ, zero, suc, ◌+◌, ◌-◌, ◌<◌, Bool, true, false, not, List, [], ◌∷◌, length, get_or, remove, unwrap_or, cond, Option, Some, None, IfSome, IfNone, option_map, refl, sym, ap, ap₂, subst, ◌∙◌, arith}
 use Rattle.std.specs.List.{AllByRecursion}
 use Rattle.std.specs.Cmp.{IsEquivalence}
+use Rattle.std.specs.Map.{lookup}
 use Rattle.std.specs.BinaryHeap.{heap_items}
 use Rattle.std.specs.declared.cmp.Reverse.{Reverse}
 use Rattle.std.proofs.lemmas.List.Edits.{length-remove}
@@ -13,8 +14,8 @@ use Rattle.kube_sched.specs.declared.timetable.Place.{Place}
 use Rattle.kube_sched.specs.declared.timetable.Timetable.{Timetable}
 use Rattle.kube_sched.specs.Held.{is_above, messages}
 use Rattle.kube_sched.specs.Schedule.{IsFirst, Schedule, Stands, held_len, waiting_messages, with_take}
-use Rattle.kube_sched.specs.Tables.{Row, passed_over, scheduled_in, waiting_in}
-use Rattle.kube_sched.specs.Timetables.{HoldsSame, NonePasses, ParkedFail, Takes, TakesPassing, first_of, first_rank, head_of, is_parked_in, message_of_rank, rows_of, scheduled_of, stale_of, waiting_of}
+use Rattle.kube_sched.specs.Tables.{Row, entry_is_over, is_over, parked_in, passed_over, scheduled_in, waiting_in}
+use Rattle.kube_sched.specs.Timetables.{HoldsSame, NonePasses, ParkedFail, Takes, TakesPassing, first_of, first_rank, head_of, is_parked_in, message_of_rank, parked_of, rows_of, scheduled_of, stale_of, waiting_of}
 use Rattle.kube_sched.proofs.Heads.{first-by, urgent-all}
 use Rattle.kube_sched.proofs.Steps.{stands-alike, stands-order, stands-priorities, stands-took}
 
@@ -29,7 +30,7 @@ all-at P (x ∷ xs) (suc i) d h l = all-at P xs i d h.1 (omega arith)
 
 module _ {M : Type 0} (same : M → M → Bool) where
   abbrev pub view-of : ℕ → Timetable M → Schedule M
-  view-of d t = record { debounce = d; waiting = waiting_of t; scheduled = scheduled_of t; spare = t.spare; stale = stale_of t; parked = λ m. is_parked_in same t m; head = head_of t }
+  view-of d t = record { debounce = d; waiting = waiting_of t; scheduled = scheduled_of t; spare = t.spare; stale = stale_of t; parked = parked_of t; head = head_of t }
 
   abbrev view-by : ℕ → ℕ → List (Row M) → ℕ → List (Reverse Place) → Option Rank → Schedule M
   view-by d n rows next heap first =
@@ -39,9 +40,21 @@ module _ {M : Type 0} (same : M → M → Bool) where
         scheduled = scheduled_in rows next;
         spare = n;
         stale = length heap - length (scheduled_in rows next);
-        parked = λ m. passed_over same rows [] m;
+        parked = parked_in rows;
         head = message_of_rank rows first;
       }
+
+  -- whether a message is put aside, by its row
+  pub flagged-over : (rows : List (Row M)) (m : M) → unwrap_or (lookup (same m) (parked_in rows)) false ≡ passed_over same rows [] m
+  flagged-over [] m = refl
+  flagged-over (r ∷ rows) m = go (same m r.0)
+    where
+      go : (b : Bool) → unwrap_or (cond b (Some (is_over [] r.1)) (lookup (same m) (parked_in rows))) false ≡ entry_is_over [] (cond b (Some r.1) (lookup (same m) rows))
+      go true = refl
+      go false = flagged-over rows m
+
+  pub parks-same : (t u : Timetable M) (m : M) → is_parked_in same u m ≡ is_parked_in same t m → unwrap_or (lookup (same m) (parked_of u)) false ≡ unwrap_or (lookup (same m) (parked_of t)) false
+  parks-same t u m h = flagged-over (rows_of u) m ∙ (h ∙ sym (flagged-over (rows_of t) m))
 
   -- one that holds the same
   pub same-view : (d : ℕ) (t u : Timetable M) → HoldsSame t u → view-of d u ≡ record (view-of d t) { spare = u.spare }
@@ -56,7 +69,7 @@ module _ {M : Type 0} (same : M → M → Bool) where
 
   -- one with other messages put aside
   pub looked-view : (d : ℕ) (t u : Timetable M) → waiting_of u ≡ waiting_of t → scheduled_of u ≡ scheduled_of t → stale_of u ≡ stale_of t → u.spare ≡ t.spare
-      → view-of d u ≡ record (view-of d t) { parked = λ m. is_parked_in same u m; head = head_of u }
+      → view-of d u ≡ record (view-of d t) { parked = parked_of u; head = head_of u }
   looked-view d t u w s l n =
       ap (λ ws. record (view-of d u) { waiting = ws }) w
       ∙ ap (λ ss. record (view-of d u) { waiting = waiting_of t; scheduled = ss }) s
@@ -65,16 +78,16 @@ module _ {M : Type 0} (same : M → M → Bool) where
 
   -- the head is the first that isn't put aside
   pub head-unparked : (u : Timetable M) → u.aside.items ≡ [] → option_map (λ (h : Held M). h.message) (first_of same u) ≡ head_of u
-      → IsFirst (λ m b. b ≡ not (is_parked_in same u m)) (messages (sorted_by is_above (waiting_of u))) (head_of u)
+      → IsFirst (λ m b. b ≡ not (unwrap_or (lookup (same m) (parked_of u)) false)) (messages (sorted_by is_above (waiting_of u))) (head_of u)
   head-unparked u none found =
-      subst (IsFirst (λ m b. b ≡ not (passed_over same (rows_of u) [] m)) (messages (sorted_by is_above (waiting_of u)))) found
-      (first-by (λ m b. b ≡ not (passed_over same (rows_of u) [] m)) (λ h. not (passed_over same (rows_of u) u.aside.items h.message)) (waiting_of u) (each (waiting_of u)) (first_of same u) refl
+      subst (IsFirst (λ m b. b ≡ not (unwrap_or (lookup (same m) (parked_of u)) false)) (messages (sorted_by is_above (waiting_of u)))) found
+      (first-by (λ m b. b ≡ not (unwrap_or (lookup (same m) (parked_of u)) false)) (λ h. not (passed_over same (rows_of u) u.aside.items h.message)) (waiting_of u) (each (waiting_of u)) (first_of same u) refl
       (λ x e. sym (urgent-all (λ h. not (passed_over same (rows_of u) u.aside.items h.message)) (λ h. not (passed_over same (rows_of u) u.aside.items h.message) ≡ true) (waiting_of u) x (own (waiting_of u)) e)
-      ∙ ap (λ xs. not (passed_over same (rows_of u) xs x.message)) none))
+      ∙ (ap (λ xs. not (passed_over same (rows_of u) xs x.message)) none ∙ ap not (sym (flagged-over (rows_of u) x.message)))))
     where
-      each : (hs : List (Held M)) → AllByRecursion (λ h. not (passed_over same (rows_of u) u.aside.items h.message) ≡ false → false ≡ not (passed_over same (rows_of u) [] h.message)) hs
+      each : (hs : List (Held M)) → AllByRecursion (λ h. not (passed_over same (rows_of u) u.aside.items h.message) ≡ false → false ≡ not (unwrap_or (lookup (same h.message) (parked_of u)) false)) hs
       each [] = tt
-      each (h ∷ hs) = (λ e. sym e ∙ ap (λ xs. not (passed_over same (rows_of u) xs h.message)) none, each hs)
+      each (h ∷ hs) = (λ e. sym e ∙ (ap (λ xs. not (passed_over same (rows_of u) xs h.message)) none ∙ ap not (sym (flagged-over (rows_of u) h.message))), each hs)
 
       own : (hs : List (Held M)) → AllByRecursion (λ h. not (passed_over same (rows_of u) u.aside.items h.message) ≡ true → not (passed_over same (rows_of u) u.aside.items h.message) ≡ true) hs
       own [] = tt

@@ -1,5 +1,6 @@
 -- What a scheduler holds, and the events that it stands for. (Crate: `Scheduler`.)
-use Rattle.std.specs.Prelude.{◌≡◌, ℕ, ◌+◌, ◌-◌, length, nat_le, is_some, not, ◌&&◌, Bool, true, false, List, [], ◌∷◌, ◌++◌, map, Option, Some, None, ◌⊎◌}
+use Rattle.std.specs.Prelude.{◌≡◌, ℕ, ◌+◌, ◌-◌, length, nat_le, is_some, not, ◌&&◌, Bool, true, false, List, [], ◌∷◌, ◌++◌, map, Option, Some, None, unwrap_or, ◌⊎◌}
+use Rattle.std.specs.Map.{lookup}
 use Rattle.kube_meta.specs.declared.moment.Moment.{Moment}
 use Rattle.kube_model.specs.Queue.{QueueEvent, Requested, Settled, Took, Entry, Frozen, priority, waiting}
 use Rattle.kube_model.specs.ByPriority.{as_frozen}
@@ -8,14 +9,14 @@ use Rattle.kube_sched.specs.declared.request.ScheduleRequest.{ScheduleRequest}
 use Rattle.kube_sched.specs.Entries.{scheduled}
 
 -- the messages that wait, as they were frozen, and those that are due later, each with its time and priority, for how many more there is room, how many
--- places of the heap were left by entries that were set anew, which messages were put aside until they are let back, and the one that a look has found
+-- places of the heap were left by entries that were set anew, the messages with whether each was put aside until it is let back, and the one that a look has found
 pub record Schedule (M : Type 0) : Type 0 where
   pub debounce : ℕ
   pub waiting : List (Held M)
   pub scheduled : List (Held M)
   pub spare : ℕ
   pub stale : ℕ
-  pub parked : M → Bool
+  pub parked : List (M × Bool)
   pub head : Option M
 
 -- the number of messages that it holds
@@ -58,23 +59,27 @@ IsFirst passes (m ∷ ms) first = (passes m true × (first ≡ Some m)) ⊎ (pas
 abbrev pub waiting_messages : {M : Type 0} → (M → M → Bool) → ℕ → List (QueueEvent M) → List M
 waiting_messages same debounce events = map (λ f. f.entry.message) (waiting same debounce events)
 
+-- whether an equal message was put aside
+abbrev pub is_parked : {M : Type 0} → (M → M → Bool) → Schedule M → M → Bool
+is_parked same s m = unwrap_or (lookup (same m) s.parked) false
+
 -- the messages that were put aside don't pass; all but they pass; none is put aside
-abbrev pub ParkedFail : {M : Type 0} → (M → Bool → Type 0) → Schedule M → Type 0
-ParkedFail {M} passes s = (m : M) → s.parked m ≡ true → passes m false
+abbrev pub ParkedFail : {M : Type 0} → (M → M → Bool) → (M → Bool → Type 0) → Schedule M → Type 0
+ParkedFail {M} same passes s = (m : M) → is_parked same s m ≡ true → passes m false
 
-abbrev pub passes_unparked : {M : Type 0} → Schedule M → M → Bool → Type 0
-passes_unparked s m b = b ≡ not (s.parked m)
+abbrev pub passes_unparked : {M : Type 0} → (M → M → Bool) → Schedule M → M → Bool → Type 0
+passes_unparked same s m b = b ≡ not (is_parked same s m)
 
-abbrev pub NoneParked : {M : Type 0} → Schedule M → Type 0
-NoneParked {M} s = (m : M) → s.parked m ≡ false
+abbrev pub NoneParked : {M : Type 0} → (M → M → Bool) → Schedule M → Type 0
+NoneParked {M} same s = (m : M) → is_parked same s m ≡ false
 
 -- the same are put aside
-abbrev pub ParksSame : {M : Type 0} → Schedule M → Schedule M → Type 0
-ParksSame {M} s s' = (m : M) → s'.parked m ≡ s.parked m
+abbrev pub ParksSame : {M : Type 0} → (M → M → Bool) → Schedule M → Schedule M → Type 0
+ParksSame {M} same s s' = (m : M) → is_parked same s' m ≡ is_parked same s m
 
 -- a message that is put aside now was so before, or an equal one doesn't pass
 abbrev pub ParksFailing : {M : Type 0} → (M → M → Bool) → (M → Bool → Type 0) → Schedule M → Schedule M → Type 0
-ParksFailing {M} same passes s s' = (m : M) → s'.parked m ≡ true → (s.parked m ≡ true) ⊎ ((n : M) × (same n m ≡ true) × passes n false)
+ParksFailing {M} same passes s s' = (m : M) → is_parked same s' m ≡ true → (is_parked same s m ≡ true) ⊎ ((n : M) × (same n m ≡ true) × passes n false)
 
 -- no message passes, as where all are held; each does
 abbrev pub passes_none : {M : Type 0} → M → Bool → Type 0

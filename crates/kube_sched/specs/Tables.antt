@@ -95,6 +95,10 @@ abbrev pub entry_is_over : List Rank → Option Entry → Bool
 entry_is_over aside None = false
 entry_is_over aside (Some e) = is_over aside e
 
+-- the messages, each with whether it was put aside
+abbrev pub parked_in : {M : Type 0} → List (Row M) → List (M × Bool)
+parked_in rows = map (λ r. (r.0, is_over [] r.1)) rows
+
 -- how many rows have no place among those that wait
 abbrev pub unranked : {M : Type 0} → List (Row M) → ℕ
 unranked rows = sum_by (λ r. if is_ranked r.1 then 0 else 1) rows

@@ -15,7 +15,7 @@ use Rattle.kube_model.specs.Queue.{sorted_by}
 use Rattle.kube_sched.specs.Held.{is_above, messages}
 use Rattle.kube_sched.specs.Schedule.{IsFirst}
 use Rattle.kube_sched.specs.Urgent.{most_urgent}
-use Rattle.kube_sched.specs.Tables.{Row, IsIndexed, IsKept as AreKept, has_rank, held_in, passed_over, place_order, scheduled_in, unranked, waiting_in}
+use Rattle.kube_sched.specs.Tables.{Row, IsIndexed, IsKept as AreKept, has_rank, held_in, parked_in, passed_over, place_order, scheduled_in, unranked, waiting_in}
 
 module _ {M : Type 0} where
   abbrev pub rows_of : Timetable M → List (Row M)
@@ -73,6 +73,10 @@ module _ {M : Type 0} where
   -- and no place is put aside
   abbrev pub IsWhole : (M → M → Bool) → Timetable M → Type 0
   IsWhole same t = IsKept same t × (t.aside.items ≡ [])
+
+  -- the messages, each with whether it is put aside until it is let back
+  abbrev pub parked_of : Timetable M → List (M × Bool)
+  parked_of t = parked_in (rows_of t)
 
   -- whether a message is put aside until it is let back
   abbrev pub is_parked_in : (M → M → Bool) → Timetable M → M → Bool

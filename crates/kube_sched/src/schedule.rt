@@ -40,24 +40,24 @@ pub struct Scheduler<T: Eq + Hash> {
 
 impl<T: Eq + Hash> Model for Scheduler<T> {
     ghost use Rattle.kube_sched.specs.Schedule.{Schedule};
-    ghost use Rattle.kube_sched.specs.Timetables.{IsWhole, head_of, is_parked_in, waiting_of, scheduled_of, stale_of};
+    ghost use Rattle.kube_sched.specs.Timetables.{IsWhole, head_of, parked_of, waiting_of, scheduled_of, stale_of};
 
     ghost Value = { Schedule T };
 
-    ghost view = { λ s. record { debounce = s.debounce; waiting = waiting_of s.times; scheduled = scheduled_of s.times; spare = s.times.spare; stale = stale_of s.times; parked = λ m. is_parked_in T.eq s.times m; head = head_of s.times } };
+    ghost view = { λ s. record { debounce = s.debounce; waiting = waiting_of s.times; scheduled = scheduled_of s.times; spare = s.times.spare; stale = stale_of s.times; parked = parked_of s.times; head = head_of s.times } };
 
     ghost invariant = { λ s. IsWhole T.eq s.times };
 }
 
 impl<T: Eq + Hash + Drop> Scheduler<T> {
-    ghost use Rattle.kube_sched.specs.Schedule.{NoneParked, ParkedFail, ParksFailing, ParksSame, Stands, passes_unparked, with_request, with_settle, with_take, IsFirst, waiting_messages, held_len, frozen_by, sets_anew};
+    ghost use Rattle.kube_sched.specs.Schedule.{NoneParked, ParkedFail, ParksFailing, ParksSame, Stands, is_parked, passes_unparked, with_request, with_settle, with_take, IsFirst, waiting_messages, held_len, frozen_by, sets_anew};
 
     /// A scheduler that holds nothing. A message is held for `debounce` nanoseconds longer than asked.
     pub fn new(alloc: Global, debounce: u64) -> Scheduler<T>
         ensures debounce { result.debounce ≡ debounce }
         ensures stands { Stands T.eq result [] }
         ensures stale { result.stale ≡ 0 }
-        ensures parked { NoneParked result }
+        ensures parked { NoneParked T.eq result }
     {
         Scheduler {
             debounce,
@@ -79,7 +79,7 @@ impl<T: Eq + Hash + Drop> Scheduler<T> {
     ) -> Result<(), NoMemory>
         ensures stands { OnOk result ((events : List (QueueEvent T)) → Stands T.eq self.old events → Stands T.eq self.new (with_request events request now)) }
         ensures debounce { self.new.debounce ≡ self.old.debounce }
-        ensures parked { ParksSame self.old self.new }
+        ensures parked { ParksSame T.eq self.old self.new }
         ensures spare { OnOk result (self.new.spare ≡ self.old.spare) }
         ensures stale { OnOk result ((events : List (QueueEvent T)) → Stands T.eq self.old events → self.new.stale ≤ self.old.stale + (if sets_anew (entry T.eq self.old.debounce events request.message) request.run_at then 1 else 0)) }
         ensures err { OnErr result (self.new ≡ self.old) }
@@ -96,7 +96,7 @@ impl<T: Eq + Hash + Drop> Scheduler<T> {
     ) -> Result<(), NoMemory>
         ensures stands { OnOk result ((events : List (QueueEvent T)) → Stands T.eq self.old events → Stands T.eq self.new (with_request events request now)) }
         ensures debounce { self.new.debounce ≡ self.old.debounce }
-        ensures parked { ParksSame self.old self.new }
+        ensures parked { ParksSame T.eq self.old self.new }
         ensures spare { OnOk result (self.new.spare ≡ self.old.spare) }
         ensures stale { OnOk result ((events : List (QueueEvent T)) → Stands T.eq self.old events → self.new.stale ≤ self.old.stale + (if sets_anew (entry T.eq self.old.debounce events request.message) request.run_at then 1 else 0)) }
         ensures held { OnOk result (held_len self.new ≤ held_len self.old + 1) }
@@ -118,7 +118,7 @@ impl<T: Eq + Hash + Drop> Scheduler<T> {
         requires { 1 ≤ self.old.spare }
         ensures stands { (events : List (QueueEvent T)) → Stands T.eq self.old events → Stands T.eq self.new (with_request events request now) }
         ensures debounce { self.new.debounce ≡ self.old.debounce }
-        ensures parked { ParksSame self.old self.new }
+        ensures parked { ParksSame T.eq self.old self.new }
         ensures spare { self.old.spare ≤ self.new.spare + 1 }
         ensures stale { (events : List (QueueEvent T)) → Stands T.eq self.old events → self.new.stale ≤ self.old.stale + (if sets_anew (entry T.eq self.old.debounce events request.message) request.run_at then 1 else 0) }
     {
@@ -130,7 +130,7 @@ impl<T: Eq + Hash + Drop> Scheduler<T> {
         requires { 1 ≤ self.old.spare }
         ensures stands { (events : List (QueueEvent T)) → Stands T.eq self.old events → Stands T.eq self.new (with_request events request now) }
         ensures debounce { self.new.debounce ≡ self.old.debounce }
-        ensures parked { ParksSame self.old self.new }
+        ensures parked { ParksSame T.eq self.old self.new }
         ensures spare { self.old.spare ≤ self.new.spare + 1 }
         ensures stale { (events : List (QueueEvent T)) → Stands T.eq self.old events → self.new.stale ≤ self.old.stale + (if sets_anew (entry T.eq self.old.debounce events request.message) request.run_at then 1 else 0) }
         ensures held { held_len self.new ≤ held_len self.old + 1 }
@@ -185,7 +185,7 @@ impl<T: Eq + Hash + Drop> Scheduler<T> {
     pub fn settle(&mut self, now: Moment)
         ensures stands { (events : List (QueueEvent T)) → Stands T.eq self.old events → Stands T.eq self.new (with_settle events now) }
         ensures debounce { self.new.debounce ≡ self.old.debounce }
-        ensures parked { ParksSame self.old self.new }
+        ensures parked { ParksSame T.eq self.old self.new }
         ensures spare { self.new.spare ≡ self.old.spare }
         ensures stale { self.new.stale ≤ self.old.stale }
     {
@@ -196,7 +196,7 @@ impl<T: Eq + Hash + Drop> Scheduler<T> {
     pub(crate) fn let_wait(&mut self, now: Moment)
         ensures stands { (events : List (QueueEvent T)) → Stands T.eq self.old events → Stands T.eq self.new (with_settle events now) }
         ensures debounce { self.new.debounce ≡ self.old.debounce }
-        ensures parked { ParksSame self.old self.new }
+        ensures parked { ParksSame T.eq self.old self.new }
         ensures spare { self.new.spare ≡ self.old.spare }
         ensures stale { self.new.stale ≤ self.old.stale }
         ensures held { held_len self.new ≡ held_len self.old }
@@ -211,7 +211,7 @@ impl<T: Eq + Hash + Drop> Scheduler<T> {
         requires some { 0 < blank.parts }
         ensures stands { (events : List (QueueEvent T)) → Stands T.eq self.old events → Stands T.eq self.new (with_settle events now) }
         ensures debounce { self.new.debounce ≡ self.old.debounce }
-        ensures parked { ParksSame self.old self.new }
+        ensures parked { ParksSame T.eq self.old self.new }
         ensures spare { self.new.spare ≡ self.old.spare }
         ensures stale { self.new.stale ≤ self.old.stale }
         ensures held { held_len self.new ≡ held_len self.old }
@@ -227,7 +227,7 @@ impl<T: Eq + Hash + Drop> Scheduler<T> {
     pub fn settle_counted<L: Ledger>(&mut self, now: Moment, steps: &mut Steps<L>)
         ensures stands { (events : List (QueueEvent T)) → Stands T.eq self.old events → Stands T.eq self.new (with_settle events now) }
         ensures debounce { self.new.debounce ≡ self.old.debounce }
-        ensures parked { ParksSame self.old self.new }
+        ensures parked { ParksSame T.eq self.old self.new }
         ensures spare { self.new.spare ≡ self.old.spare }
         ensures stale { self.new.stale ≤ self.old.stale }
         ensures cost { (events : List (QueueEvent T)) → Stands T.eq self.old events → steps.new + self.new.stale ≤ steps.old + frozen_by T.eq self.old.debounce events now + self.old.stale + 1 }
@@ -242,7 +242,7 @@ impl<T: Eq + Hash + Drop> Scheduler<T> {
     /// What `look` put aside isn't looked at; so it is given none that passes where the caller put such a one aside.
     pub fn take_first<C: Fn(&T) -> bool>(&mut self, c: C) -> Option<Due<T>>
         requires { C.IsAlwaysCallable c }
-        ensures first { (events : List (QueueEvent T)) → Stands T.eq self.old events → ParkedFail (FnReturnsAt C.Fn c) self.old
+        ensures first { (events : List (QueueEvent T)) → Stands T.eq self.old events → ParkedFail T.eq (FnReturnsAt C.Fn c) self.old
             → IsFirst (FnReturnsAt C.Fn c) (waiting_messages T.eq self.old.debounce events) (option_map (λ due. due.message) result) }
         ensures priority { IfSome result (λ due. (events : List (QueueEvent T)) → Stands T.eq self.old events → due.priority ≡ priority T.eq events due.message) }
         ensures taken { IfSome result (λ due. (events : List (QueueEvent T)) → Stands T.eq self.old events → Stands T.eq self.new (with_take events due.message)) }
@@ -250,7 +250,7 @@ impl<T: Eq + Hash + Drop> Scheduler<T> {
         ensures debounce { self.new.debounce ≡ self.old.debounce }
         ensures spare { self.new.spare ≡ self.old.spare }
         ensures stale { self.new.stale ≡ self.old.stale }
-        ensures parked { ParksSame self.old self.new }
+        ensures parked { ParksSame T.eq self.old self.new }
     {
         self.take_passing(&c)
     }
@@ -258,7 +258,7 @@ impl<T: Eq + Hash + Drop> Scheduler<T> {
     // The same by a closure that is lent.
     pub(crate) fn take_passing<C: Fn(&T) -> bool>(&mut self, c: &C) -> Option<Due<T>>
         requires { C.IsAlwaysCallable c.now }
-        ensures first { (events : List (QueueEvent T)) → Stands T.eq self.old events → ParkedFail (FnReturnsAt C.Fn c.now) self.old
+        ensures first { (events : List (QueueEvent T)) → Stands T.eq self.old events → ParkedFail T.eq (FnReturnsAt C.Fn c.now) self.old
             → IsFirst (FnReturnsAt C.Fn c.now) (waiting_messages T.eq self.old.debounce events) (option_map (λ due. due.message) result) }
         ensures priority { IfSome result (λ due. (events : List (QueueEvent T)) → Stands T.eq self.old events → due.priority ≡ priority T.eq events due.message) }
         ensures taken { IfSome result (λ due. (events : List (QueueEvent T)) → Stands T.eq self.old events → Stands T.eq self.new (with_take events due.message)) }
@@ -266,7 +266,7 @@ impl<T: Eq + Hash + Drop> Scheduler<T> {
         ensures debounce { self.new.debounce ≡ self.old.debounce }
         ensures spare { self.new.spare ≡ self.old.spare }
         ensures stale { self.new.stale ≡ self.old.stale }
-        ensures parked { ParksSame self.old self.new }
+        ensures parked { ParksSame T.eq self.old self.new }
         ensures held { IfSome result (λ due. held_len self.new + 1 ≡ held_len self.old) }
         ensures passes { IfSome result (λ due. FnReturnsAt C.Fn c.now due.message true) }
     {
@@ -280,7 +280,7 @@ impl<T: Eq + Hash + Drop> Scheduler<T> {
     pub fn look<C: Fn(&T) -> bool>(&mut self, c: &C) -> bool
         requires { C.IsAlwaysCallable c.now }
         ensures found { result ≡ is_some self.new.head }
-        ensures first { (events : List (QueueEvent T)) → Stands T.eq self.new events → IsFirst (passes_unparked self.new) (waiting_messages T.eq self.new.debounce events) self.new.head }
+        ensures first { (events : List (QueueEvent T)) → Stands T.eq self.new events → IsFirst (passes_unparked T.eq self.new) (waiting_messages T.eq self.new.debounce events) self.new.head }
         ensures passes { IfSome self.new.head (λ m. FnReturnsAt C.Fn c.now m true) }
         ensures parked { ParksFailing T.eq (FnReturnsAt C.Fn c.now) self.old self.new }
         ensures same { self.new ≡ record self.old { parked = self.new.parked; head = self.new.head } }
@@ -304,7 +304,7 @@ impl<T: Eq + Hash + Drop> Scheduler<T> {
         ensures debounce { self.new.debounce ≡ self.old.debounce }
         ensures spare { self.new.spare ≡ self.old.spare }
         ensures stale { self.new.stale ≡ self.old.stale }
-        ensures parked { ParksSame self.old self.new }
+        ensures parked { ParksSame T.eq self.old self.new }
     {
         self.times.take_first()
     }
@@ -312,7 +312,7 @@ impl<T: Eq + Hash + Drop> Scheduler<T> {
     /// Lets an equal message that was put aside be looked at again, in its place. It takes no memory.
     pub fn let_back(&mut self, message: &T)
         ensures stands { (events : List (QueueEvent T)) → Stands T.eq self.old events → Stands T.eq self.new events }
-        ensures parked { (m : T) → self.new.parked m ≡ (self.old.parked m && not (T.eq message.now m)) }
+        ensures parked { (m : T) → is_parked T.eq self.new m ≡ (is_parked T.eq self.old m && not (T.eq message.now m)) }
         ensures debounce { self.new.debounce ≡ self.old.debounce }
         ensures spare { self.new.spare ≡ self.old.spare }
         ensures stale { self.new.stale ≡ self.old.stale }
@@ -325,7 +325,7 @@ impl<T: Eq + Hash + Drop> Scheduler<T> {
         ensures stands { Stands T.eq self.new [] }
         ensures debounce { self.new.debounce ≡ self.old.debounce }
         ensures held { held_len self.new ≡ 0 }
-        ensures parked { NoneParked self.new }
+        ensures parked { NoneParked T.eq self.new }
     {
         self.times.clear();
     }

@@ -37,7 +37,7 @@ impl<T: Eq + Hash, R> Model for Scheduled<T, R> {
 
     ghost view = { λ s. record { schedule = s.scheduler; requests = s.requests; is_over = s.is_over; is_spent = s.is_spent } };
 
-    ghost invariant = { λ s. NoneParked s.scheduler };
+    ghost invariant = { λ s. NoneParked T.eq s.scheduler };
 }
 
 /// A scheduler over a stream of requests, without debounce.

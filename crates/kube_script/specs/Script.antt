@@ -251,6 +251,7 @@ pub record Source : Type 0 where
   pub watcher : Settings
   pub lists : List (RawAnswer ObjectData)
   pub watches : List (List (Step ObjectData))
+  pub priority : ℕ  -- of what it requests
 
 unfoldable pub source_at : Data → Result Source ObjectFault
 source_at d = do
@@ -258,7 +259,8 @@ source_at d = do
   watcher ← default_field (codes "watcher") watcher_at default_settings d
   lists ← list_field (codes "lists") page_at d
   watches ← list_field (codes "watches") watch_at d
-  Ok (record { watcher = watcher; lists = lists; watches = watches })
+  priority ← default_field (codes "priority") small_at 0 d
+  Ok (record { watcher = watcher; lists = lists; watches = watches; priority = priority })
 
 pub data Mapped : Type 0 where
   ByOwners : Mapped

@@ -196,6 +196,7 @@ impl Source {
             watcher,
             lists,
             watches,
+            priority: _priority,
         } = self;
         (TestMode::new(alloc, lists, watches), watcher)
     }

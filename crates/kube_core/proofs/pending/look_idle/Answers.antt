@@ -1,3 +1,5 @@
+use Rattle.kube_turn.specs.Views.{same_request}
+use Rattle.kube_sched.specs.Schedule.{is_parked}
 use Rattle.std.proofs.Common.{◌≡◌, false, sym, ap, ◌∙◌}
 use Rattle.std.specs.Fn.{FnReturnsAt}
 use Rattle.kube_core.specs.Pendings.{is_idle}
@@ -16,5 +18,5 @@ pub returns-clause-first : goal.returns-clause-first
 returns-clause-first g c events s =
     let type_of = g.K.Resource.type_of in
     let entries = c.args.running.now.entries in
-    first-idle (is_idle type_of entries) c.look.new.self.parked (returns-clause-parked g c) _ c.look.new.self.head (c.look.ensures.first events s)
+    first-idle (is_idle type_of entries) (is_parked (same_request type_of) c.look.new.self) (returns-clause-parked g c) _ c.look.new.self.head (c.look.ensures.first events s)
     (λ m e. let h = some-of _ c.look.new.self.head m c.look.ensures.passes e in sym (h.says.met ∙ ap (is_idle type_of entries) h.shows))

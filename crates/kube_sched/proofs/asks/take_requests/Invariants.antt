@@ -10,5 +10,5 @@ invariant-loop-taken g l =
       takes : Taking g.T.PartialEq.eq g.R.Requests.told l.now l.fn.scheduler l.fn.requests l.scheduler l.requests l.taken;
       held : held_len l.scheduler ≤ held_len l.fn.scheduler + l.taken;
       kept : l.scheduler.debounce ≡ l.fn.scheduler.debounce;
-      parked : ParksSame l.fn.scheduler l.scheduler;
+      parked : ParksSame g.T.PartialEq.eq l.fn.scheduler l.scheduler;
     }

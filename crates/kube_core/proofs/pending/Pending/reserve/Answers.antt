@@ -1,6 +1,7 @@
+use Rattle.kube_turn.specs.Views.{same_request}
 use Rattle.std.proofs.Common.{◌≡◌, ◌≤◌, length, sym, ap, ◌∙◌, arith}
 use Rattle.std.proofs.lemmas.Result.{on_err_weaker}
-use Rattle.kube_sched.specs.Schedule.{Schedule}
+use Rattle.kube_sched.specs.Schedule.{Schedule, is_parked}
 use Rattle.kube_turn.specs.declared.request.ReconcileRequest.{ReconcileRequest}
 use Rattle.kube_core.specs.Pendings.{Parts, without_looks}
 use Rattle.kube_core.proofs.PendingSteps.{parked-same}
@@ -16,7 +17,7 @@ invariant_of-self g c =
       places = omega (arith, a, b, d);
       parked =
           parked-same type_of c.self.inside.schedule c.reserve.new.self c.self.inside.running.entries
-          (λ q. ap (λ (s : Schedule (ReconcileRequest g.row.K.Denot g.row.K-DynamicType.Denot)). s.parked q) c.reserve.ensures.same ∙ ap (λ (s : Schedule (ReconcileRequest g.row.K.Denot g.row.K-DynamicType.Denot)). s.parked q) c.drop_stale.ensures.same) c.self.invariant.parked;
+          (λ q. ap (λ (s : Schedule (ReconcileRequest g.row.K.Denot g.row.K-DynamicType.Denot)). is_parked (same_request type_of) s q) c.reserve.ensures.same ∙ ap (λ (s : Schedule (ReconcileRequest g.row.K.Denot g.row.K-DynamicType.Denot)). is_parked (same_request type_of) s q) c.drop_stale.ensures.same) c.self.invariant.parked;
     }
 
 pub returns-clause-same : goal.returns-clause-same

@@ -6,7 +6,7 @@ use Rattle.kube_meta.specs.Keys.{reference_of}
 use Rattle.kube_meta.specs.declared.object_ref.ObjectRef.{ObjectRef}
 use Rattle.kube_meta.specs.Reference.{same_reference}
 use Rattle.kube_model.proofs.Results.{on_err}
-use Rattle.kube_sched.specs.Schedule.{Schedule}
+use Rattle.kube_sched.specs.Schedule.{Schedule, is_parked}
 use Rattle.kube_sched.proofs.Steps.{stands-alike}
 use Rattle.kube_turn.specs.declared.request.ReconcileRequest.{ReconcileRequest}
 use Rattle.kube_turn.specs.Views.{same_request}
@@ -30,7 +30,7 @@ invariant_of-self-in_err-insert g c =
     let len = c.len.ensures.len in
     record {
       places = omega (arith, now, most, sum, len);
-      parked = subst (ParkedRun type_of u) (sym same) (parked-same type_of c.self.inside.schedule u old (λ q. ap (λ (s : Schedule (ReconcileRequest g.row.K.Denot g.row.K-DynamicType.Denot)). s.parked q) c.in_ok-reserve.ensures.same) c.self.invariant.parked);
+      parked = subst (ParkedRun type_of u) (sym same) (parked-same type_of c.self.inside.schedule u old (λ q. ap (λ (s : Schedule (ReconcileRequest g.row.K.Denot g.row.K-DynamicType.Denot)). is_parked (same_request type_of) s q) c.in_ok-reserve.ensures.same) c.self.invariant.parked);
     }
 
 pub invariant_of-self : goal.invariant_of-self
@@ -49,7 +49,7 @@ invariant_of-self g c =
       parked =
           subst (ParkedRun type_of u) (sym same)
           (parked-more type_of u old c.args.reference c.args.object
-          (parked-same type_of c.self.inside.schedule u old (λ q. ap (λ (s : Schedule (ReconcileRequest g.row.K.Denot g.row.K-DynamicType.Denot)). s.parked q) c.in_ok-reserve.ensures.same) c.self.invariant.parked));
+          (parked-same type_of c.self.inside.schedule u old (λ q. ap (λ (s : Schedule (ReconcileRequest g.row.K.Denot g.row.K-DynamicType.Denot)). is_parked (same_request type_of) s q) c.in_ok-reserve.ensures.same) c.self.invariant.parked));
     }
 
 pub returns-clause-stands : goal.returns-clause-stands

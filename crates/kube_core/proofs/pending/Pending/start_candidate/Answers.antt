@@ -9,7 +9,7 @@ use Rattle.kube_meta.specs.Reference.{same_reference}
 use Rattle.kube_model.proofs.Results.{on_err}
 use Rattle.kube_model.specs.Takes.{has_room}
 use Rattle.kube_sched.specs.declared.held.Due.{Due}
-use Rattle.kube_sched.specs.Schedule.{Schedule, Stands as Scheduled, with_take}
+use Rattle.kube_sched.specs.Schedule.{Schedule, Stands as Scheduled, with_take, is_parked}
 use Rattle.kube_sched.proofs.Steps.{stands-alike}
 use Rattle.kube_history.specs.CoreEvents.{next_candidate}
 use Rattle.kube_turn.specs.declared.request.ReconcileRequest.{ReconcileRequest}
@@ -78,7 +78,7 @@ invariant_of-self-in_default-take_head g c =
       places = omega (arith, now, most, sum, len, spare);
       parked =
           subst (ParkedRun type_of u) (sym same)
-          (parked-same type_of c.look_idle.new.schedule u old (λ q. c.take_head.ensures.parked q ∙ ap (λ (s : Schedule (ReconcileRequest g.row.K.Denot g.row.K-DynamicType.Denot)). s.parked q) c.in_ok-reserve-2.ensures.same) c.look_idle.ensures.parked);
+          (parked-same type_of c.look_idle.new.schedule u old (λ q. c.take_head.ensures.parked q ∙ ap (λ (s : Schedule (ReconcileRequest g.row.K.Denot g.row.K-DynamicType.Denot)). is_parked (same_request type_of) s q) c.in_ok-reserve-2.ensures.same) c.look_idle.ensures.parked);
     }
 
 pub invariant_of-self : goal.invariant_of-self
@@ -99,7 +99,7 @@ invariant_of-self g c =
       parked =
           subst (ParkedRun type_of u) (sym same)
           (parked-more type_of u old c.in_ok-reference.reference c.args.object
-          (parked-same type_of c.look_idle.new.schedule u old (λ q. c.take_head.ensures.parked q ∙ ap (λ (s : Schedule (ReconcileRequest g.row.K.Denot g.row.K-DynamicType.Denot)). s.parked q) c.in_ok-reserve-2.ensures.same) c.look_idle.ensures.parked));
+          (parked-same type_of c.look_idle.new.schedule u old (λ q. c.take_head.ensures.parked q ∙ ap (λ (s : Schedule (ReconcileRequest g.row.K.Denot g.row.K-DynamicType.Denot)). is_parked (same_request type_of) s q) c.in_ok-reserve-2.ensures.same) c.look_idle.ensures.parked));
     }
 
 pub returns-then-not-has_room-clause-first : goal.returns-then-not-has_room-clause-first

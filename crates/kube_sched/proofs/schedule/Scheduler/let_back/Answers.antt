@@ -1,8 +1,9 @@
 use Rattle.std.proofs.Common.{◌≡◌, ◌-◌, ◌∙◌, ◌&&◌, not, length, refl, ap, ap₂, sym, subst}
+use Rattle.kube_sched.specs.Timetables.{rows_of}
 use Rattle.std.specs.BinaryHeap.{heap_items}
-use Rattle.kube_sched.specs.Schedule.{Schedule, Stands}
+use Rattle.kube_sched.specs.Schedule.{Schedule, Stands, is_parked}
 use Rattle.kube_sched.proofs.Steps.{stands-alike}
-use Rattle.kube_sched.proofs.Views.{view-of}
+use Rattle.kube_sched.proofs.Views.{view-of, flagged-over}
 use Rattle.kube_sched.proofs.schedule.Scheduler.let_back.Goals as goal
 
 pub returns-clause-stands : goal.returns-clause-stands
@@ -14,8 +15,10 @@ returns-clause-stands g c events stands =
 
 pub returns-clause-parked : goal.returns-clause-parked
 returns-clause-parked g c m =
-    c.let_back.ensures.parked m
-    ∙ ap (λ b. b && not (g.T.PartialEq.eq c.args.message.now m)) (ap (λ (s : Schedule g.row.T.Denot). s.parked m) c.self.view_is)
+    let eq = g.T.PartialEq.eq in
+    flagged-over eq (rows_of c.let_back.new.self) m
+    ∙ (c.let_back.ensures.parked m
+    ∙ ap (λ b. b && not (eq c.args.message.now m)) (sym (flagged-over eq (rows_of c.self.inside.times) m) ∙ ap (λ (s : Schedule g.row.T.Denot). is_parked eq s m) c.self.view_is))
 
 pub returns-clause-stale : goal.returns-clause-stale
 returns-clause-stale g c =

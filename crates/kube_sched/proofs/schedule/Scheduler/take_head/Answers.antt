@@ -1,9 +1,9 @@
 use Rattle.std.proofs.Common.{◌≡◌, ◌∙◌, ap, sym, subst}
 use Rattle.std.proofs.lemmas.Option.{IfSome_then}
 use Rattle.kube_sched.specs.declared.timetable.Timetable.{Timetable}
-use Rattle.kube_sched.specs.Schedule.{Schedule, Stands}
+use Rattle.kube_sched.specs.Schedule.{Schedule, Stands, is_parked}
 use Rattle.kube_sched.proofs.Finds.{none-then}
-use Rattle.kube_sched.proofs.Views.{takes-priority, takes-stands, view-of}
+use Rattle.kube_sched.proofs.Views.{takes-priority, takes-stands, view-of, parks-same}
 use Rattle.kube_sched.proofs.schedule.Scheduler.take_head.Goals as goal
 
 pub returns-clause-head : goal.returns-clause-head
@@ -34,4 +34,4 @@ pub returns-clause-stale : goal.returns-clause-stale
 returns-clause-stale g c = c.take_first.ensures.stale ∙ ap (λ (s : Schedule g.row.T.Denot). s.stale) c.self.view_is
 
 pub returns-clause-parked : goal.returns-clause-parked
-returns-clause-parked g c m = c.take_first.ensures.parked m ∙ ap (λ (s : Schedule g.row.T.Denot). s.parked m) c.self.view_is
+returns-clause-parked g c m = parks-same g.T.PartialEq.eq c.self.inside.times c.take_first.new.self m (c.take_first.ensures.parked m) ∙ ap (λ (s : Schedule g.row.T.Denot). is_parked g.T.PartialEq.eq s m) c.self.view_is

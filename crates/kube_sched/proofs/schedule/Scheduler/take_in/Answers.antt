@@ -1,8 +1,9 @@
-use Rattle.std.proofs.Common.{◌≡◌, ◌≤◌, ◌+◌, ◌∙◌, length, if◌then◌else◌, refl, ap, subst, arith}
+use Rattle.std.proofs.Common.{◌≡◌, ◌≤◌, ◌+◌, ◌∙◌, length, if◌then◌else◌, refl, ap, subst, arith, false, unwrap_or}
+use Rattle.std.specs.Map.{lookup}
 use Rattle.kube_model.specs.Queue.{entry}
 use Rattle.kube_sched.specs.declared.timetable.Timetable.{Timetable}
-use Rattle.kube_sched.specs.Schedule.{Schedule, held_len, sets_anew, with_request}
-use Rattle.kube_sched.specs.Timetables.{is_parked_in, scheduled_of, waiting_of}
+use Rattle.kube_sched.specs.Schedule.{Schedule, held_len, sets_anew, with_request, is_parked}
+use Rattle.kube_sched.specs.Timetables.{parked_of, scheduled_of, waiting_of}
 use Rattle.kube_sched.proofs.Rooms.{whole-less}
 use Rattle.kube_sched.proofs.Steps.{stands-alike}
 use Rattle.kube_sched.proofs.schedule.Scheduler.take_in.Goals as goal
@@ -53,10 +54,10 @@ pub returns-in_default-clause-parked : goal.returns-in_default-clause-parked
 returns-in_default-clause-parked g c m = refl
 
 pub returns-in_err-reserve-clause-parked : goal.returns-in_err-reserve-clause-parked
-returns-in_err-reserve-clause-parked g c m = ap (λ (s : Schedule g.row.T.Denot). s.parked m) c.reserve.ensures.same
+returns-in_err-reserve-clause-parked g c m = ap (λ (s : Schedule g.row.T.Denot). is_parked g.T.PartialEq.eq s m) c.reserve.ensures.same
 
 pub returns-clause-parked : goal.returns-clause-parked
 returns-clause-parked g c m =
-    ap (λ (t : Timetable g.row.T.Denot). is_parked_in g.T.PartialEq.eq t m) c.drop_stale.ensures.rest
-    ∙ (ap (λ (s : Schedule g.row.T.Denot). s.parked m) c.self.view_is
-    ∙ (c.take_in_reserved.ensures.parked m ∙ ap (λ (s : Schedule g.row.T.Denot). s.parked m) c.reserve.ensures.same))
+    ap (λ (t : Timetable g.row.T.Denot). unwrap_or (lookup (g.T.PartialEq.eq m) (parked_of t)) false) c.drop_stale.ensures.rest
+    ∙ (ap (λ (s : Schedule g.row.T.Denot). is_parked g.T.PartialEq.eq s m) c.self.view_is
+    ∙ (c.take_in_reserved.ensures.parked m ∙ ap (λ (s : Schedule g.row.T.Denot). is_parked g.T.PartialEq.eq s m) c.reserve.ensures.same))

@@ -1,8 +1,9 @@
 use Rattle.std.proofs.Common.{◌≤◌, ◌+◌, min, length, ap, subst, ◌∙◌, arith, if◌then◌else◌}
+use Rattle.kube_sched.proofs.Views.{parks-same}
 use Rattle.kube_meta.specs.declared.moment.Moment.{Moment}
 use Rattle.kube_model.specs.Queue.{plus, longest_wait}
 use Rattle.kube_sched.specs.Held.{raised, requested_with, is_later}
-use Rattle.kube_sched.specs.Schedule.{Schedule}
+use Rattle.kube_sched.specs.Schedule.{Schedule, is_parked}
 use Rattle.kube_sched.specs.Timetables.{waiting_of, scheduled_of, stale_of}
 use Rattle.kube_sched.proofs.Steps.{stands-requested}
 use Rattle.kube_sched.proofs.Counts.{stale-by}
@@ -40,4 +41,4 @@ returns-clause-held g c =
     omega arith
 
 pub returns-clause-parked : goal.returns-clause-parked
-returns-clause-parked g c m = c.set.ensures.parked m ∙ ap (λ (s : Schedule g.row.T.Denot). s.parked m) c.self.view_is
+returns-clause-parked g c m = parks-same g.T.PartialEq.eq c.self.inside.times c.set.new.self m (c.set.ensures.parked m) ∙ ap (λ (s : Schedule g.row.T.Denot). is_parked g.T.PartialEq.eq s m) c.self.view_is

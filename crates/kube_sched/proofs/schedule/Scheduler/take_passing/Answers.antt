@@ -1,12 +1,13 @@
 use Rattle.std.proofs.Common.{◌≡◌, ◌+◌, ◌∙◌, List, refl, ap, sym, subst, option_map}
+use Rattle.kube_sched.specs.Timetables.{rows_of}
 use Rattle.std.specs.Fn.{FnReturnsAt}
 use Rattle.std.proofs.lemmas.Option.{IfSome_then}
 use Rattle.kube_sched.specs.declared.held.Due.{Due}
-use Rattle.kube_sched.specs.Schedule.{IsFirst, Schedule, Stands, held_len, waiting_messages, with_take}
+use Rattle.kube_sched.specs.Schedule.{IsFirst, Schedule, Stands, held_len, waiting_messages, with_take, is_parked}
 use Rattle.kube_sched.specs.Tables.{Row, waiting_in}
 use Rattle.kube_sched.proofs.Finds.{none-then}
 use Rattle.kube_sched.proofs.Steps.{stands-alike, stands-order}
-use Rattle.kube_sched.proofs.Views.{passing-first, takes-len, takes-priority, takes-stands, view-of}
+use Rattle.kube_sched.proofs.Views.{passing-first, takes-len, takes-priority, takes-stands, view-of, parks-same, flagged-over}
 use Rattle.kube_sched.proofs.schedule.Scheduler.take_passing.Goals as goal
 
 pub returns-clause-first : goal.returns-clause-first
@@ -20,7 +21,7 @@ returns-clause-first g c events stands parked =
     subst (λ (s : Schedule g.row.T.Denot). IsFirst passes (waiting_messages eq s.debounce events) first) c.self.view_is
     (subst (λ ms. IsFirst passes ms first) (sym (stands-order eq g.met.T.Eq.laws old events z))
     (passing-first eq passes t c.take_passing.new.self c.take_passing.result c.take_passing.ensures.taken c.take_passing.ensures.none
-    (λ m h. parked m (sym (ap (λ (s : Schedule g.row.T.Denot). s.parked m) c.self.view_is) ∙ h))))
+    (λ m h. parked m (sym (ap (λ (s : Schedule g.row.T.Denot). is_parked eq s m) c.self.view_is) ∙ (flagged-over eq (rows_of t) m ∙ h)))))
 
 pub returns-clause-priority : goal.returns-clause-priority
 returns-clause-priority g c =
@@ -55,7 +56,7 @@ pub returns-clause-stale : goal.returns-clause-stale
 returns-clause-stale g c = c.take_passing.ensures.stale ∙ ap (λ (s : Schedule g.row.T.Denot). s.stale) c.self.view_is
 
 pub returns-clause-parked : goal.returns-clause-parked
-returns-clause-parked g c m = c.take_passing.ensures.parked m ∙ ap (λ (s : Schedule g.row.T.Denot). s.parked m) c.self.view_is
+returns-clause-parked g c m = parks-same g.T.PartialEq.eq c.self.inside.times c.take_passing.new.self m (c.take_passing.ensures.parked m) ∙ ap (λ (s : Schedule g.row.T.Denot). is_parked g.T.PartialEq.eq s m) c.self.view_is
 
 pub returns-clause-held : goal.returns-clause-held
 returns-clause-held g c =

@@ -101,7 +101,7 @@ loop-place-preserved g c =
       parked = λ m h.
           either-of (is_parked_in eq u m) (eq n m) (sym (c.park.ensures.parked n c.message_at.ensures m) ∙ h)
           (λ o. i.parked m (sym (ap (λ (x : Timetable g.row.T.Denot). is_parked_in eq x m) rest) ∙ o))
-          (λ o. inr (n, (o, fails)));
+          (λ o. inr (n, o, fails));
       stale =
           ap₂ (λ (h : List (Reverse Place)) xs. length h - length xs) (ap heap_items c.park.ensures.heap) c.park.ensures.scheduled
           ∙ (ap (λ (x : Timetable g.row.T.Denot). stale_of x) rest ∙ i.stale);

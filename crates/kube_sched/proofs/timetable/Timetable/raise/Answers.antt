@@ -1,5 +1,5 @@
 use Rattle.std.proofs.Common.{◌≡◌, ◌+◌, ◌≤◌, ◌∙◌, ◌++◌, ◌∷◌, [], Some, false, true, max, length, refl, sym, ap, ap₂, subst, arith, if◌then◌else◌}
-use Rattle.std.specs.Prelude.{IsPermutation}
+use Rattle.std.specs.Prelude.{Contains, IsPermutation}
 use Rattle.std.specs.BinaryHeap.{heap_items}
 use Rattle.kube_sched.specs.declared.table.Entry.{Entry}
 use Rattle.kube_sched.specs.Held.{raised}
@@ -172,8 +172,8 @@ returns-then-is_ranked-clause-whole g c =
     let one = c.requires.room in
     let put = subst (λ q. IsPermutation (q ∷ ranks_in t.ranks) (ranks_in c.push.new.self)) c.rank.ensures c.push.ensures.put in
     let all = put-behind t.aside.items (ranks_in t.ranks) (ranks_in c.push.new.self) (rank_of w) put in
-    let more = λ q d. Contains-permutation (rank_of w ∷ ranks) (t.aside.items ++ ranks_in c.push.new.self) q all (contains-tail (rank_of w) q ranks d) in
-    let mine = λ _. Contains-permutation (rank_of w ∷ ranks) (t.aside.items ++ ranks_in c.push.new.self) (rank_of w) all (contains-head (rank_of w) ranks) in
+    let more : (q : Rank) → Contains ranks q → Contains (t.aside.items ++ ranks_in c.push.new.self) q = λ q d. Contains-permutation (rank_of w ∷ ranks) (t.aside.items ++ ranks_in c.push.new.self) q all (contains-tail (rank_of w) q ranks d) in
+    let mine : is_ranked w ≡ true → Contains (t.aside.items ++ ranks_in c.push.new.self) (rank_of w) = λ _. Contains-permutation (rank_of w ∷ ranks) (t.aside.items ++ ranks_in c.push.new.self) (rank_of w) all (contains-head (rank_of w) ranks) in
     let len = c.push.ensures.len in (
       record {
         parts = subst (λ xs. AreKept eq xs heap (t.aside.items ++ ranks_in c.push.new.self) t.next) (sym entries) (raised-kept eq laws rows heap ranks t.next c.args.place row.0 e there k.parts c.args.priority (let l = c.if-priority-entry.false in omega arith) (t.aside.items ++ ranks_in c.push.new.self) more mine);
@@ -215,8 +215,8 @@ returns-else-is_ranked-clause-whole g c =
     let schedules = ap (λ xs. length (scheduled_in xs t.next)) entries ∙ raised-length eq laws rows heap ranks t.next c.args.place row.0 e there k.parts c.args.priority (let l = c.if-priority-entry.false in omega arith) false in
     let room = k.room in
     let one = c.requires.room in
-    let more = λ (q : Rank) d. d in
-    let mine = λ h. absurd (false≢true (sym (sym c.is_ranked.ensures ∙ c.if-is_ranked.false) ∙ h)) in (
+    let more : (q : Rank) → Contains ranks q → Contains ranks q = λ q d. d in
+    let mine : is_ranked w ≡ true → Contains ranks (rank_of w) = λ h. absurd (false≢true (sym (sym c.is_ranked.ensures ∙ c.if-is_ranked.false) ∙ h)) in (
       record {
         parts = subst (λ xs. AreKept eq xs heap ranks t.next) (sym entries) (raised-kept eq laws rows heap ranks t.next c.args.place row.0 e there k.parts c.args.priority (let l = c.if-priority-entry.false in omega arith) ranks more mine);
         indexed = c.write.ensures.indexed;

@@ -16,17 +16,17 @@ loop-place-init g c =
     let long = c.len-count.ensures.len in
     let more = c.in-Some.ensures.1 in
     let sum = c.in-Some-checked_add.ensures.1 in
-    let none = ap₂ (λ (xs ys : List Rank). xs ++ ys) c.reserve.ensures.line c.reserve.ensures.heap ∙ c.new.ensures.none in
+    let none = ap₂ (λ (xs ys : List Rank). xs ++ ys) c.reserve.ensures.line c.reserve.ensures.heap ∙ c.new-ranks.ensures.none in
     let len = c.reserve.ensures.len in
-    let zero = c.new.ensures.len in
+    let zero = c.new-ranks.ensures.len in
     let line = c.in_ok-reserve.ensures.line_ok in
     let heap = c.in_ok-reserve.ensures.heap_ok in
     record {
       items = subst (IsPermutation []) (sym none) (IsPermutation-refl []);
       ordered =
           record {
-            line = subst IsLine (sym c.reserve.ensures.line) c.new.ensures.ordered.line;
-            heap = subst (IsHeap rank_order) (sym c.reserve.ensures.heap) c.new.ensures.ordered.heap;
+            line = subst IsLine (sym c.reserve.ensures.line) c.new-ranks.ensures.ordered.line;
+            heap = subst (IsHeap rank_order) (sym c.reserve.ensures.heap) c.new-ranks.ensures.ordered.heap;
           };
       len = omega (arith, len, zero);
       line = omega (arith, long, more, sum, line);

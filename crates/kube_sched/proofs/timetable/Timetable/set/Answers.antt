@@ -211,7 +211,7 @@ returns-else-stays-clause-len g c =
     let moves : IsPermutation rows (r ∷ rest) = subst (λ (y : Row g.row.T.Denot). IsPermutation rows (y ∷ rest)) same-row taken.moves in
     let waits = set-free eq laws rows heap ranks t.next k.parts c.args.run_at h rest r moves e free in
     let a = ap length c.add.ensures.scheduled in
-    let b = length-append (scheduled_in rest t.next) (_ ∷ []) in
+    let b = length-append (scheduled_in rest t.next) (h ∷ []) in
     let d = scheduled-less eq rows rest heap ranks t.next r moves k.parts waits in
     omega (arith, a, b, d)
 
@@ -235,7 +235,7 @@ returns-else-stays-clause-stale g c =
     let moves : IsPermutation rows (r ∷ rest) = subst (λ (y : Row g.row.T.Denot). IsPermutation rows (y ∷ rest)) same-row taken.moves in
     let waits = set-free eq laws rows heap ranks t.next k.parts c.args.run_at h rest r moves e free in
     let a = ap length c.add.ensures.scheduled in
-    let b = length-append (scheduled_in rest t.next) (_ ∷ []) in
+    let b = length-append (scheduled_in rest t.next) (h ∷ []) in
     let d = scheduled-less eq rows rest heap ranks t.next r moves k.parts waits in
     let f = c.add.ensures.places in
     let l : stale_of c.add.new.self ≤ stale_of t + 1 = omega (arith, a, b, d, f) in

@@ -24,8 +24,8 @@ returns-clause-kept g c =
     let ranks = ranks_of t in
     let head = c.requires.head in
     let r = head.row in
-    let taken = c.take.ensures.taken in
-    let rest = c.take.new.self.entries.entries in
+    let taken = c.take-message.ensures.taken in
+    let rest = c.take-message.new.self.entries.entries in
     let same-row : taken.row ≡ r = some-is (sym taken.there ∙ head.there) in
     let moves : IsPermutation rows (r ∷ rest) = subst (λ (y : Row g.row.T.Denot). IsPermutation rows (y ∷ rest)) same-row taken.moves in
     let waits = rank-waits eq laws rows heap ranks t.next k.parts r head.ranked in
@@ -39,14 +39,14 @@ returns-clause-kept g c =
     let room = k.room in
     record {
       parts = taken-kept eq laws rows heap t.aside.items (ranks_in t.ranks) t.next k.parts rest r moves (ranks_in c.pop_first.new.self) popped;
-      indexed = c.take.ensures.indexed;
+      indexed = c.take-message.ensures.indexed;
       ordered = k.ordered;
       ranks = c.pop_first.ensures.ordered;
       waits = (let a = k.waits in omega (arith, a, less));
       room =
           record {
-            entries = (let a = room.entries in let b = c.take.ensures.room in omega (arith, a, b));
-            numbers = (let a = room.numbers in let b = c.take.ensures.numbers_room in omega (arith, a, b));
+            entries = (let a = room.entries in let b = c.take-message.ensures.room in omega (arith, a, b));
+            numbers = (let a = room.numbers in let b = c.take-message.ensures.numbers_room in omega (arith, a, b));
             heap = room.heap;
             line = (let a = room.line in let b = c.pop_first.ensures.line_room in omega (arith, a, b, len, unranks, own));
             ranks = (let a = room.ranks in let b = c.pop_first.ensures.heap_room in omega (arith, a, b, len, unranks, own));
@@ -66,8 +66,8 @@ returns-clause-taken g c =
     let ranks = ranks_of t in
     let head = c.requires.head in
     let r = head.row in
-    let taken = c.take.ensures.taken in
-    let rest = c.take.new.self.entries.entries in
+    let taken = c.take-message.ensures.taken in
+    let rest = c.take-message.new.self.entries.entries in
     let same-row : taken.row ≡ r = some-is (sym taken.there ∙ head.there) in
     let moves : IsPermutation rows (r ∷ rest) = subst (λ (y : Row g.row.T.Denot). IsPermutation rows (y ∷ rest)) same-row taken.moves in
     let waits = rank-waits eq laws rows heap ranks t.next k.parts r head.ranked in
@@ -101,8 +101,8 @@ returns-clause-scheduled g c =
     let ranks = ranks_of t in
     let head = c.requires.head in
     let r = head.row in
-    let taken = c.take.ensures.taken in
-    let rest = c.take.new.self.entries.entries in
+    let taken = c.take-message.ensures.taken in
+    let rest = c.take-message.new.self.entries.entries in
     let same-row : taken.row ≡ r = some-is (sym taken.there ∙ head.there) in
     let moves : IsPermutation rows (r ∷ rest) = subst (λ (y : Row g.row.T.Denot). IsPermutation rows (y ∷ rest)) same-row taken.moves in
     let waits = rank-waits eq laws rows heap ranks t.next k.parts r head.ranked in
@@ -119,8 +119,8 @@ returns-clause-parked g c n =
     let ranks = ranks_of t in
     let head = c.requires.head in
     let r = head.row in
-    let taken = c.take.ensures.taken in
-    let rest = c.take.new.self.entries.entries in
+    let taken = c.take-message.ensures.taken in
+    let rest = c.take-message.new.self.entries.entries in
     let same-row : taken.row ≡ r = some-is (sym taken.there ∙ head.there) in
     let moves : IsPermutation rows (r ∷ rest) = subst (λ (y : Row g.row.T.Denot). IsPermutation rows (y ∷ rest)) same-row taken.moves in
     let waits = rank-waits eq laws rows heap ranks t.next k.parts r head.ranked in
@@ -137,8 +137,8 @@ returns-clause-stale g c =
     let ranks = ranks_of t in
     let head = c.requires.head in
     let r = head.row in
-    let taken = c.take.ensures.taken in
-    let rest = c.take.new.self.entries.entries in
+    let taken = c.take-message.ensures.taken in
+    let rest = c.take-message.new.self.entries.entries in
     let same-row : taken.row ≡ r = some-is (sym taken.there ∙ head.there) in
     let moves : IsPermutation rows (r ∷ rest) = subst (λ (y : Row g.row.T.Denot). IsPermutation rows (y ∷ rest)) same-row taken.moves in
     let waits = rank-waits eq laws rows heap ranks t.next k.parts r head.ranked in

@@ -34,4 +34,4 @@ returns-in-None g c =
     let heap = heap_items t.heap in
     let ranks = ranks_of t in
     let m = c.args.message.now in
-    sym (none-given (is_of eq m) (waiting_in rows t.next) (waits-absent eq laws rows heap ranks t.next k.parts m (sym c.in-None.ensures.value) _))
+    sym (none-given (is_of eq m) (waiting_in rows t.next) (waits-absent eq laws rows heap ranks t.next k.parts m (sym c.in-None.ensures.value) true))
