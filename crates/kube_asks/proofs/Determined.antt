@@ -35,10 +35,10 @@ module _ {V : Type 0} (t : ObjectType) (meta : V → ObjectMeta) (answers : V �
   part-same o a b p q = p.2 ∙ (ap (mapped_requests t (meta o)) (once o p.0 q.0 p.1 q.1) ∙ sym q.2)
 
   -- one raw form has one exchange
-  pub mapped-same : {O : Type 0} (version : V → Option (List ℕ)) (settings : Settings) (own : List (Dated O)) (at : ℕ) (x y : Exchange O) (raw : Raw V)
+  pub mapped-same : {O : Type 0} (version : V → Option (List ℕ)) (settings : Settings) (set : Option ℕ) (own : List (Dated O)) (at : ℕ) (x y : Exchange O) (raw : Raw V)
       → IsOwedNext (Watched settings) own at x → IsOwedNext (Watched settings) own at y → x.source ≡ y.source
-      → IsRecordedMapped version (IsMappedTo t meta answers) settings None (exchanges_in own) raw x → IsRecordedMapped version (IsMappedTo t meta answers) settings None (exchanges_in own) raw y → x ≡ y
-  mapped-same version settings own at x y raw f g source r q =
+      → IsRecordedMapped version (IsMappedTo t meta answers) settings set (exchanges_in own) raw x → IsRecordedMapped version (IsMappedTo t meta answers) settings set (exchanges_in own) raw y → x ≡ y
+  mapped-same version settings set own at x y raw f g source r q =
       let before = exchanges_in own in
       let call : x.call ≡ y.call = f.owes ∙ sym g.owes in
       let answer : x.answer ≡ y.answer =
@@ -51,7 +51,7 @@ module _ {V : Type 0} (t : ObjectType) (meta : V → ObjectMeta) (answers : V �
       let parts : r.parts ≡ q.parts =
       zip-same (IsMappedTo t meta answers) part-same (if has_references (mark before x) then items_of raw.answer else []) r.parts q.parts r.mapped
       (subst (λ b. AllZip (IsMappedTo t meta answers) (if b then items_of raw.answer else []) q.parts) (sym has) q.mapped) in
-      let requests : x.requests ≡ y.requests = r.requests ∙ (ap (λ ps. asked_by None (flat_map (λ part. part) ps)) parts ∙ sym q.requests) in
+      let requests : x.requests ≡ y.requests = r.requests ∙ (ap (λ ps. asked_by set (flat_map (λ part. part) ps)) parts ∙ sym q.requests) in
       λ i. record {
         source = source i;
         call = call i;
@@ -81,7 +81,7 @@ module _ {A O V M : Type 0} (api : Api A V) (meta : V → ObjectMeta) (is_named 
       let asked : p.call.raw.call ≡ z.call.raw.call = ap (λ o. unwrap_or o p.call.raw.call) (sym rx.call ∙ (ap (raw_call settings) call ∙ ry.call)) in
       let moved =
       one-way (api_of a.watcher) at p.call.raw z.call.raw (api_of a'.watcher) (api_of b'.watcher) p.call.moved (subst (λ v. api.moves v at z.call.raw (api_of b'.watcher)) (sym alike.api) z.call.moved) asked in (
-        mapped-same a.kind meta (answers a.mapper) (once a.mapper) api.version settings own at x y z.call.raw fx fy source (subst (λ v. Recorded v x) moved.0 rx) ry,
+        mapped-same a.kind meta (answers a.mapper) (once a.mapper) api.version settings None own at x y z.call.raw fx fy source (subst (λ v. Recorded v x) moved.0 rx) ry,
         record {
           api = moved.1;
           settings = ap settings_of p.config ∙ (alike.settings ∙ sym (ap settings_of z.config));

@@ -93,10 +93,10 @@ pub record IsAnswered (settings : Settings) (old : Api) (at : ℕ) (x : Exchange
   pub recorded : IsRecorded version_of settings raw x
   pub moved : api.IsMove old at raw new
 
--- so was one of a related source, after those before it: its objects are mapped as the script tells, to objects of the root's type, and each that must become a reference has a name
+-- so was one of a related source, after those before it: its objects are mapped as the script tells, to objects of the root's type, and requested with its priority, and each that must become a reference has a name
 pub record IsAnsweredMapped (root : ObjectType) (r : Related) (before : List (Exchange ObjectData)) (old : Api) (at : ℕ) (x : Exchange ObjectData) (new : Api) : Type 0 where
   pub raw : Raw ObjectData
-  pub recorded : IsRecordedMapped version_of (IsMappedTo (resource_type r.kind) (λ o. o.metadata) (λ o references. references ≡ mapped_by root r.mapped o)) r.source.watcher before raw x
+  pub recorded : IsRecordedMapped version_of (IsMappedTo (resource_type r.kind) (λ o. o.metadata) (λ o references. references ≡ mapped_by root r.mapped o)) r.source.watcher (Some r.source.priority) before raw x
   pub moved : api.IsMove old at raw new
   pub named : has_names has_name version_of before (OfCall raw) ≡ true
 

@@ -1,17 +1,19 @@
 //! A controller that takes the turns of a script.
 
-ghost use Rattle.std.specs.Prelude.{◌≡◌, ◌<◌, ◌+◌, ◌^◌, ◌++◌, [], IfOk, IfErr, length, map};
+ghost use Rattle.std.specs.Prelude.{◌≡◌, ◌<◌, ◌+◌, ◌-◌, ◌^◌, ◌++◌, [], IfOk, IfErr, IsOk, Some, length, map};
 ghost use Rattle.std.specs.List.{AllZip};
 ghost use Rattle.kube_control.specs.Controllers.{StandsFor};
 ghost use Rattle.kube_control.specs.Errors.{records_before, IfRefused, IfSpent, IfUnnamed};
 ghost use Rattle.kube_meta.specs.Reading.{ObjectData};
 ghost use Rattle.kube_model.specs.History.{Step};
+ghost use Rattle.kube_model.specs.World.{World};
 ghost use Rattle.kube_model.specs.Traces.{steps, unread};
 ghost use Rattle.kube_object.specs.Named.{named_type};
 ghost use Rattle.kube_script.specs.Script.{Script as script_data};
 ghost use Rattle.kube_script.specs.Seen.{seen_backoff, seen_config};
 ghost use Rattle.kube_script.specs.SeenScript.{seen_related, seen_script, seen_source};
 ghost use Rattle.kube_script.specs.Told.{fault_text};
+ghost use Rattle.kube_script.specs.declared.backoff.ScriptBackoff.{ScriptBackoff};
 ghost use Rattle.kube_text.specs.TraceText.{lines_of};
 ghost use Rattle.kube_text.specs.TraceView.{seen_records};
 ghost use Rattle.kube_turn.specs.Records.{records_of, turns_of};
@@ -61,6 +63,7 @@ fn controller(
     root: Source,
     related: Vec<Related>,
 ) -> Result<ScriptController, NoMemory>
+    requires { length related.items < 2 ^ 32 - 1 }
     ensures stands { IfOk result (λ c. StandsFor ⟦<WatchRoot<TestMode<ScriptObject>> as RootSource>⟧ ⟦<ScriptSources as RelatedSet<ScriptObject>>⟧ ⟦<ScriptBackoff as Backoff>⟧ ⟦<ScriptObject as Resource>⟧ (world_with (named_type kind) (seen_config config) (seen_backoff backoff) (seen_source root) (map seen_related related.items)) [] c) }
     ensures first { IfOk result (λ c. AreAtFirst (named_type kind) (seen_source root) (map seen_related related.items) c.asks.root c.asks.related) }
 {
