@@ -47,11 +47,11 @@ module _ {M : Type 0} (same : M → M → Bool) where
   -- whether a message is put aside, by its row
   pub flagged-over : (rows : List (Row M)) (m : M) → unwrap_or (lookup (same m) (parked_in rows)) false ≡ passed_over same rows [] m
   flagged-over [] m = refl
-  flagged-over (r ∷ rows) m = go (same m r.0)
+  flagged-over (r ∷ rows) m = go (same m r.0) (flagged-over rows m)
     where
-      go : (b : Bool) → unwrap_or (cond b (Some (is_over [] r.1)) (lookup (same m) (parked_in rows))) false ≡ entry_is_over [] (cond b (Some r.1) (lookup (same m) rows))
-      go true = refl
-      go false = flagged-over rows m
+      go : (b : Bool) → unwrap_or (lookup (same m) (parked_in rows)) false ≡ passed_over same rows [] m → unwrap_or (cond b (Some (is_over [] r.1)) (lookup (same m) (parked_in rows))) false ≡ entry_is_over [] (cond b (Some r.1) (lookup (same m) rows))
+      go true rest = refl
+      go false rest = rest
 
   pub parks-same : (t u : Timetable M) (m : M) → is_parked_in same u m ≡ is_parked_in same t m → unwrap_or (lookup (same m) (parked_of u)) false ≡ unwrap_or (lookup (same m) (parked_of t)) false
   parks-same t u m h = flagged-over (rows_of u) m ∙ (h ∙ sym (flagged-over (rows_of t) m))

@@ -9,7 +9,11 @@ use Rattle.kube_sched.proofs.Steps.{stands-alike}
 use Rattle.kube_sched.proofs.schedule.Scheduler.take_in.Goals as goal
 
 pub drop_stale-requires : goal.drop_stale-requires
-drop_stale-requires g c = record { whole = whole-less g.T.PartialEq.eq c.self.inside.times _ (omega arith) c.self.invariant }
+drop_stale-requires g c =
+    let room = c.in_ok-reserve.ensures.room in
+    let left = c.take_in_reserved.ensures.spare in
+    let same = ap (λ (s : Schedule g.row.T.Denot). s.spare) c.self.view_is in
+    record { whole = whole-less g.T.PartialEq.eq c.self.inside.times _ (omega (arith, room, left, same)) c.self.invariant }
 
 pub returns-clause-stands : goal.returns-clause-stands
 returns-clause-stands g c events stands =

@@ -35,7 +35,7 @@ pub returns-clause-held : goal.returns-clause-held
 returns-clause-held g c =
     let a = c.set.ensures.len in
     let b = ap length c.set.ensures.waiting in
-    let f = raised-length eq c.args.request.message c.args.request.priority (waiting_of c.self.inside.times) in
+    let f = raised-length g.T.PartialEq.eq c.args.request.message c.args.request.priority (waiting_of c.self.inside.times) in
     let d = ap (λ (s : Schedule g.row.T.Denot). length s.waiting) c.self.view_is in
     let e = ap (λ (s : Schedule g.row.T.Denot). length s.scheduled) c.self.view_is in
     omega arith

@@ -2,6 +2,7 @@ use Rattle.std.proofs.Common.{◌≡◌, ◌≤◌, ◌+◌, ◌∙◌, ◌∷�
 use Rattle.std.specs.Prelude.{IsPermutation}
 use Rattle.std.specs.BinaryHeap.{heap_items}
 use Rattle.std.proofs.lemmas.List.Sorted.{length_permutation}
+use Rattle.kube_sched.specs.declared.held.Held.{Held}
 use Rattle.kube_sched.specs.Tables.{EqualAt, Row, is_over, passed_over, scheduled_in, waiting_in}
 use Rattle.kube_sched.specs.Timetables.{ranks_of, stale_of}
 use Rattle.kube_sched.proofs.Rows.{found-key, some-is, written}
@@ -211,7 +212,8 @@ returns-else-stays-clause-len g c =
     let moves : IsPermutation rows (r ∷ rest) = subst (λ (y : Row g.row.T.Denot). IsPermutation rows (y ∷ rest)) same-row taken.moves in
     let waits = set-free eq laws rows heap ranks t.next k.parts c.args.run_at h rest r moves e free in
     let a = ap length c.add.ensures.scheduled in
-    let b = length-append (scheduled_in rest t.next) (h ∷ []) in
+    let y : Held g.row.T.Denot = record h { priority = c.max-priority.result } in
+    let b = length-append (scheduled_in rest t.next) (y ∷ []) in
     let d = scheduled-less eq rows rest heap ranks t.next r moves k.parts waits in
     omega (arith, a, b, d)
 
@@ -235,7 +237,8 @@ returns-else-stays-clause-stale g c =
     let moves : IsPermutation rows (r ∷ rest) = subst (λ (y : Row g.row.T.Denot). IsPermutation rows (y ∷ rest)) same-row taken.moves in
     let waits = set-free eq laws rows heap ranks t.next k.parts c.args.run_at h rest r moves e free in
     let a = ap length c.add.ensures.scheduled in
-    let b = length-append (scheduled_in rest t.next) (h ∷ []) in
+    let y : Held g.row.T.Denot = record h { priority = c.max-priority.result } in
+    let b = length-append (scheduled_in rest t.next) (y ∷ []) in
     let d = scheduled-less eq rows rest heap ranks t.next r moves k.parts waits in
     let f = c.add.ensures.places in
     let l : stale_of c.add.new.self ≤ stale_of t + 1 = omega (arith, a, b, d, f) in

@@ -1,4 +1,4 @@
-use Rattle.std.proofs.Common.{sym, ◌∙◌}
+use Rattle.std.proofs.Common.{sym, ◌∙◌, true}
 use Rattle.std.specs.BinaryHeap.{heap_items}
 use Rattle.kube_sched.specs.Tables.{Row}
 use Rattle.kube_sched.specs.Timetables.{ranks_of}
