@@ -17,6 +17,7 @@ use Rattle.kube_sched.proofs.Rows.{none-numbered, some-is}
 use Rattle.kube_sched.proofs.Changes.{heap-less}
 use Rattle.kube_sched.proofs.Freezes.{few, none-due}
 use Rattle.kube_sched.proofs.Kept.{frozen-fewer, frozen-first, frozen-kept, frozen-late, frozen-more, frozen-over, frozen-rows, frozen-unranked}
+use Rattle.kube_sched.proofs.Numbers.{listed-few}
 use Rattle.kube_sched.proofs.RankLists.{put-heap as put-behind}
 use Rattle.kube_sched.proofs.timetable.Timetable.settle_next.Goals as goal
 
@@ -42,6 +43,54 @@ write-requires-clause-same g c =
     let ranks = ranks_of t in
     let found = c.in-Some-find.ensures.found in
     record { row = c.entry_at.ensures.row; there = c.entry_at.ensures.there; numbered = ap (λ (x : Entry). x.number) c.entry_at.ensures.is }
+
+pub overflow_add-self : goal.overflow_add-self
+overflow_add-self g c =
+    let t = c.args.self.now in
+    let eq = g.T.PartialEq.eq in
+    let laws = g.met.T.Eq.laws in
+    let k = c.requires.whole.0 in
+    let rows = t.table.entries.entries in
+    let heap = heap_items t.heap in
+    let ranks = ranks_of t in
+    let p : Reverse Place = record { 0 = c.in-Some.due } in
+    let rest = heap_items c.pop_due.new.heap in
+    let place = c.in-Some-find.place in
+    let found = c.in-Some-find.ensures.found in
+    let e = c.entry_at.result in
+    let row = c.entry_at.ensures.row in
+    let r : Row g.row.T.Denot = (row.0, e) in
+    let there = c.entry_at.ensures.there ∙ ap (λ (x : Entry). Some (row.0, x)) (sym c.entry_at.ensures.is) in
+    let mine = found.numbered ∙ ap (λ (x : Row g.row.T.Denot). x.1.number) (some-is (sym found.there ∙ there)) in
+    let w : Entry = record e { order = t.next; is_waiting = true; is_parked = false } in
+    let fewer = frozen-fewer eq laws rows heap ranks t.next k.parts rest p c.in-Some.ensures.taken place r there mine w refl refl refl refl refl refl in
+    let a = k.room.next in
+    omega (arith, a, fewer)
+
+pub overflow_add-self-in-Some-find : goal.overflow_add-self-in-Some-find
+overflow_add-self-in-Some-find g c =
+    let t = c.args.self.now in
+    let eq = g.T.PartialEq.eq in
+    let laws = g.met.T.Eq.laws in
+    let k = c.requires.whole.0 in
+    let rows = t.table.entries.entries in
+    let heap = heap_items t.heap in
+    let ranks = ranks_of t in
+    let p : Reverse Place = record { 0 = c.in-Some.due } in
+    let rest = heap_items c.pop_due.new.heap in
+    let place = c.in-Some-find.place in
+    let found = c.in-Some-find.ensures.found in
+    let e = c.entry_at.result in
+    let row = c.entry_at.ensures.row in
+    let r : Row g.row.T.Denot = (row.0, e) in
+    let there = c.entry_at.ensures.there ∙ ap (λ (x : Entry). Some (row.0, x)) (sym c.entry_at.ensures.is) in
+    let mine = found.numbered ∙ ap (λ (x : Row g.row.T.Denot). x.1.number) (some-is (sym found.there ∙ there)) in
+    let w : Entry = record e { order = t.next; is_waiting = true; is_parked = false } in
+    let fewer = frozen-fewer eq laws rows heap ranks t.next k.parts rest p c.in-Some.ensures.taken place r there mine w refl refl refl refl refl refl in
+    let a = k.room.next in
+    let waits = k.waits in
+    let below = listed-few true rows t.next in
+    omega (arith, a, fewer, waits, below)
 
 pub push-requires-clause-line_room : goal.push-requires-clause-line_room
 push-requires-clause-line_room g c =

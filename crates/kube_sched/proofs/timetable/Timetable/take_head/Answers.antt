@@ -13,6 +13,26 @@ use Rattle.kube_sched.proofs.Looks.{place-removed, place-there, place-within}
 use Rattle.kube_sched.proofs.Takings.{popped-len, popped-rank, ranked-counts, taken-kept}
 use Rattle.kube_sched.proofs.timetable.Timetable.take_head.Goals as goal
 
+pub overflow_sub-self : goal.overflow_sub-self
+overflow_sub-self g c =
+    let t = c.args.self.now in
+    let eq = g.T.PartialEq.eq in
+    let laws = g.met.T.Eq.laws in
+    let k = c.requires.kept in
+    let rows = t.table.entries.entries in
+    let heap = heap_items t.heap in
+    let ranks = ranks_of t in
+    let head = c.requires.head in
+    let r = head.row in
+    let taken = c.take-message.ensures.taken in
+    let rest = c.take-message.new.self.entries.entries in
+    let same-row : taken.row ≡ r = some-is (sym taken.there ∙ head.there) in
+    let moves : IsPermutation rows (r ∷ rest) = subst (λ (y : Row g.row.T.Denot). IsPermutation rows (y ∷ rest)) same-row taken.moves in
+    let waits = rank-waits eq laws rows heap ranks t.next k.parts r head.ranked in
+    let less = waiting-less eq rows rest heap ranks t.next r moves k.parts waits in
+    let a = k.waits in
+    omega (arith, a, less)
+
 pub returns-clause-kept : goal.returns-clause-kept
 returns-clause-kept g c =
     let t = c.args.self.now in
