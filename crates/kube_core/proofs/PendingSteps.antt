@@ -89,7 +89,7 @@ module _ {K D : Type 0} (type_of : D → ObjectType) where
   abbrev pub ref : ObjectRef K D → Reference
   ref r = reference_of type_of r
 
-  request-equiv : IsEquivalence (same_request type_of)
+  request-equiv : IsEquivalence (same_request {K = K} type_of)
   request-equiv = seen_equiv (λ (a : ReconcileRequest K D). reference_of type_of a.obj_ref)
 
   -- A schedule stands for the same events whatever was looked at.
@@ -390,7 +390,7 @@ module _ {K D : Type 0} (type_of : D → ObjectType) where
     where
       go : (is_parked (same_request type_of) s q ≡ true) ⊎ ((n : ReconcileRequest K D) × (same_request type_of n q ≡ true) × fails n) → is_idle type_of es q ≡ false
       go (inl o) = k q o
-      go (inr w) = ap (λ (r : Reference). not (is_there type_of es r)) (sym (same-references (ref w.0.obj_ref) (ref q.obj_ref) w.1.0)) ∙ runs-it w.0 w.1.1
+      go (inr w) = ap (λ (r : Reference). not (is_there type_of es r)) (sym (same-references (ref w.0.obj_ref) (ref q.obj_ref) w.1)) ∙ runs-it w.0 w.2
 
   -- a reference more runs
   pub parked-more : (s : Schedule (ReconcileRequest K D)) (es : List (ObjectRef K D × Arc K Global)) (r : ObjectRef K D) (v : Arc K Global) → ParkedRun type_of s es

@@ -16,8 +16,8 @@ use Rattle.kube_core.proofs.pending.Pending.next_object.Goals as goal
 pub look_idle-requires : goal.look_idle-requires
 look_idle-requires g c = record { parked = c.self.invariant.parked }
 
-pub invariant_of-self-in_default : goal.invariant_of-self-in_default
-invariant_of-self-in_default g c =
+pub invariant_of-self : goal.invariant_of-self
+invariant_of-self g c =
     record {
       places = subst (λ n. length c.self.inside.running.entries ≤ n) (sym (ap (λ (s : Schedule (ReconcileRequest g.row.K.Denot g.row.K-DynamicType.Denot)). s.spare) c.look_idle.ensures.same)) c.self.invariant.places;
       parked = c.look_idle.ensures.parked;
@@ -37,8 +37,8 @@ invariant_of-self-in_err-share g c =
       parked = c.look_idle.ensures.parked;
     }
 
-pub invariant_of-self : goal.invariant_of-self
-invariant_of-self g c =
+pub invariant_of-self-2 : goal.invariant_of-self-2
+invariant_of-self-2 g c =
     record {
       places = subst (λ n. length c.self.inside.running.entries ≤ n) (sym (ap (λ (s : Schedule (ReconcileRequest g.row.K.Denot g.row.K-DynamicType.Denot)). s.spare) c.look_idle.ensures.same)) c.self.invariant.places;
       parked = c.look_idle.ensures.parked;

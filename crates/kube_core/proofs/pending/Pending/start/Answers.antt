@@ -15,8 +15,8 @@ use Rattle.kube_core.proofs.PendingSteps.{parked-more, parked-same, seen, starte
 use Rattle.kube_core.proofs.RunningSteps.{put-length}
 use Rattle.kube_core.proofs.pending.Pending.start.Goals as goal
 
-pub invariant_of-self-in_err-reserve : goal.invariant_of-self-in_err-reserve
-invariant_of-self-in_err-reserve g c = subst (λ s. IsKept g.K.Resource.type_of s c.self.inside.running.entries) (sym c.in_err-reserve.ensures.err) c.self.invariant
+pub invariant_of-self : goal.invariant_of-self
+invariant_of-self g c = subst (λ s. IsKept g.K.Resource.type_of s c.self.inside.running.entries) (sym c.in_err-reserve.ensures.err) c.self.invariant
 
 pub invariant_of-self-in_err-insert : goal.invariant_of-self-in_err-insert
 invariant_of-self-in_err-insert g c =
@@ -33,8 +33,8 @@ invariant_of-self-in_err-insert g c =
       parked = subst (ParkedRun type_of u) (sym same) (parked-same type_of c.self.inside.schedule u old (λ q. ap (λ (s : Schedule (ReconcileRequest g.row.K.Denot g.row.K-DynamicType.Denot)). is_parked (same_request type_of) s q) c.in_ok-reserve.ensures.same) c.self.invariant.parked);
     }
 
-pub invariant_of-self : goal.invariant_of-self
-invariant_of-self g c =
+pub invariant_of-self-2 : goal.invariant_of-self-2
+invariant_of-self-2 g c =
     let type_of = g.K.Resource.type_of in
     let old = c.self.inside.running.entries in
     let u = c.reserve.new.self in

@@ -22,8 +22,8 @@ use Rattle.kube_core.proofs.pending.Pending.start_candidate.Goals as goal
 pub look_idle-requires : goal.look_idle-requires
 look_idle-requires g c = record { parked = c.self.invariant.parked }
 
-pub invariant_of-self-in_default : goal.invariant_of-self-in_default
-invariant_of-self-in_default g c =
+pub invariant_of-self : goal.invariant_of-self
+invariant_of-self g c =
     record {
       places = subst (λ n. length c.self.inside.running.entries ≤ n) (sym (ap (λ (s : Schedule (ReconcileRequest g.row.K.Denot g.row.K-DynamicType.Denot)). s.spare) c.look_idle.ensures.same)) c.self.invariant.places;
       parked = c.look_idle.ensures.parked;
@@ -81,8 +81,8 @@ invariant_of-self-in_default-take_head g c =
           (parked-same type_of c.look_idle.new.schedule u old (λ q. c.take_head.ensures.parked q ∙ ap (λ (s : Schedule (ReconcileRequest g.row.K.Denot g.row.K-DynamicType.Denot)). is_parked (same_request type_of) s q) c.in_ok-reserve-2.ensures.same) c.look_idle.ensures.parked);
     }
 
-pub invariant_of-self : goal.invariant_of-self
-invariant_of-self g c =
+pub invariant_of-self-2 : goal.invariant_of-self-2
+invariant_of-self-2 g c =
     let type_of = g.K.Resource.type_of in
     let old = c.self.inside.running.entries in
     let u = c.take_head.new.self in

@@ -11,16 +11,16 @@ use Rattle.kube_core.proofs.pending.Pending.take_candidate.Goals as goal
 pub look_idle-requires : goal.look_idle-requires
 look_idle-requires g c = record { parked = c.self.invariant.parked }
 
-pub invariant_of-self-in_default : goal.invariant_of-self-in_default
-invariant_of-self-in_default g c =
+pub invariant_of-self : goal.invariant_of-self
+invariant_of-self g c =
     let type_of = g.K.Resource.type_of in
     record {
       places = subst (λ n. length c.self.inside.running.entries ≤ n) (sym (c.take_head.ensures.spare ∙ ap (λ (s : Schedule (ReconcileRequest g.row.K.Denot g.row.K-DynamicType.Denot)). s.spare) c.look_idle.ensures.same)) c.self.invariant.places;
       parked = parked-same type_of c.look_idle.new.schedule c.take_head.new.self c.self.inside.running.entries c.take_head.ensures.parked c.look_idle.ensures.parked;
     }
 
-pub invariant_of-self : goal.invariant_of-self
-invariant_of-self g c =
+pub invariant_of-self-2 : goal.invariant_of-self-2
+invariant_of-self-2 g c =
     let type_of = g.K.Resource.type_of in
     record {
       places = subst (λ n. length c.self.inside.running.entries ≤ n) (sym (c.take_head.ensures.spare ∙ ap (λ (s : Schedule (ReconcileRequest g.row.K.Denot g.row.K-DynamicType.Denot)). s.spare) c.look_idle.ensures.same)) c.self.invariant.places;
