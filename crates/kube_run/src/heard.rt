@@ -4,7 +4,7 @@ ghost use Rattle.std.specs.Io.{ReadsAtMost};
 ghost use Rattle.std.specs.Io.KnownBytes.{ReadConsumes};
 ghost use Rattle.kube_text.specs.Causes.{HasCause};
 
-use crate::source::Source;
+use kube_stdio::source::Source;
 use kube_text::failed::Failed;
 use std::alloc::Global;
 

@@ -5,7 +5,7 @@ ghost use Rattle.std.specs.Io.KnownBytes.{IsAtEnd};
 ghost use Rattle.kube_text.specs.Causes.{Rose};
 ghost use Rattle.kube_run.specs.Limit.{longest, TakesAtMost};
 
-use crate::source::Source;
+use kube_stdio::source::Source;
 use std::alloc::Global;
 
 /// The greatest length of a script in bytes.

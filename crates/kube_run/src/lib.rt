@@ -10,8 +10,6 @@ pub mod mapper;
 pub mod play;
 pub mod process;
 pub mod program;
-pub mod source;
 pub mod status;
-pub mod stdio;
 pub mod totals;
 pub mod trace;

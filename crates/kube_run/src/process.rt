@@ -3,8 +3,8 @@
 use crate::heard::Heard;
 use crate::program::run_program;
 use crate::status::Status;
-use crate::stdio::{StandardInput, StandardOutput};
 use kube_hints::hints;
+use kube_stdio::stdio::{StandardInput, StandardOutput};
 use std::env;
 use std::io::ErrorKind;
 use std::process::ExitCode;

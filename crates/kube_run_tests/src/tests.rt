@@ -7,8 +7,8 @@ mod texts;
 
 use kube_run::input::{Unread, read_all};
 use kube_run::program::run_program;
-use kube_run::source::{NeverFailsSource, VecSource};
 use kube_run::status::Status;
+use kube_stdio::source::{NeverFailsSource, VecSource};
 use kube_text::output::write_all;
 use kube_text::sink::{NeverFailsSink, VecSink};
 use std::alloc::{AllocError, Global};

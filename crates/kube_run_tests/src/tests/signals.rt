@@ -2,7 +2,7 @@
 
 ghost use Rattle.std.specs.Prelude.{◌≤◌, IfOk};
 
-use kube_run::stdio::{read_again, write_again};
+use kube_stdio::stdio::{read_again, write_again};
 use std::io::{ErrorKind, Read, Write};
 use std::test::Fail;
 

@@ -1,4 +1,4 @@
-//! Standard input and standard output as a source and a sink.
+//! Standard input as a source, standard output and standard error as sinks.
 
 ghost use Rattle.std.specs.Prelude.{◌≡◌, ◌≢◌, ◌<◌, IfOk, IfErr, None, length};
 ghost use Rattle.std.specs.Io.{ReadsAtMost, WritesAtMost};
@@ -7,7 +7,7 @@ ghost use Rattle.std.specs.IoError.{error_kind};
 use crate::source::Source;
 use kube_text::failed::Failed;
 use kube_text::sink::Sink;
-use std::io::{Error, ErrorKind, Read, Stdin, Stdout, Write};
+use std::io::{Error, ErrorKind, Read, Stderr, Stdin, Stdout, Write};
 
 /// Standard input. It doesn't tell what is left. A read that a signal interrupted is tried again.
 #[derive(Drop)]
@@ -79,6 +79,36 @@ impl Sink for StandardOutput {
 
     fn write(&mut self, bytes: &[u8]) -> Result<usize, Failed> {
         match write_again(&mut self.stdout, bytes) {
+            Ok(count) => Ok(count),
+            Err(_) => {
+                self.faults = self.faults.saturating_add(1);
+                Err(Failed)
+            }
+        }
+    }
+}
+
+/// Standard error. It doesn't tell what was written. A write that a signal interrupted is tried again.
+#[derive(Drop)]
+pub struct StandardError {
+    stderr: Stderr,
+    faults: u64,
+}
+
+impl StandardError {
+    /// A sink over standard error, no write to which failed yet.
+    pub fn new(stderr: Stderr) -> StandardError {
+        StandardError { stderr, faults: 0 }
+    }
+}
+
+impl Sink for StandardError {
+    ghost written = { λ _. None };
+
+    ghost faults = { λ s. s.faults };
+
+    fn write(&mut self, bytes: &[u8]) -> Result<usize, Failed> {
+        match write_again(&mut self.stderr, bytes) {
             Ok(count) => Ok(count),
             Err(_) => {
                 self.faults = self.faults.saturating_add(1);

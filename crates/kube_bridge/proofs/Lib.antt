@@ -1,0 +1,4 @@
+pub mod Shown
+pub mod Text
+pub mod Utf8
+pub mod LineLemmas
