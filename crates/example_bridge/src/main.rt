@@ -3,12 +3,13 @@
 //! there are all.
 #![tactic(auto)]
 
-use anyhow::{Result, bail};
+use anyhow::{Error, Result, anyhow, bail};
 use kube_bridge::{
     Bridge, BridgeApi, BridgeObjects, NextTurn, SharedPipe, name_resource, next_turn,
 };
 use kube_control::{
-    Action, Controller, DefaultBackoff, Finish, Handed, NoRelated, Recorder, Stop, Turn, WatchRoot,
+    Action, Controller, DefaultBackoff, Finish, Handed, NoRelated, Recorder, RunError, Stop, Turn,
+    WatchRoot,
 };
 use kube_final::{Finalizer, finalizer};
 use kube_meta::{ApiResource, List, Moment, Polled, Resource, Text};
@@ -164,7 +165,10 @@ fn take_turn(
     };
     let (mut recorder, turns) = (Recorder::new(alloc), vec![in alloc; turn]?);
     let policy = |_: Arc<ConfigMap>, _: &Text, _: Arc<()>| Action::requeue(5 * SECOND);
-    let ran = operator.run(alloc, &mut recorder, &policy, Arc::new(alloc, ())?, turns)?;
+    let ran = match operator.run(alloc, &mut recorder, &policy, Arc::new(alloc, ())?, turns) {
+        Ok(ran) => ran,
+        Err(error) => return Err(broken_off(error)),
+    };
     let mut last = None;
     for record in Vec::from(ran.records) {
         if write_record(alloc, number, &record, trace).is_err() {
@@ -177,6 +181,16 @@ fn take_turn(
         pending.finishes.push(reconcile(alloc, pipe, handed, at)?)?;
     }
     Ok(last)
+}
+
+/// Why a run ended early.
+fn broken_off(error: RunError<ConfigMap, Text>) -> Error {
+    match error {
+        RunError::NoMemory { .. } => anyhow!("out of memory"),
+        RunError::UnnamedObject { .. } => anyhow!("an object has no name"),
+        RunError::BadTurn { why, .. } => anyhow!("a turn is refused: {why}"),
+        RunError::Spent { .. } => anyhow!("an earlier run failed"),
+    }
 }
 
 /// Notes when what a turn finished is requested again, and forgets what was due.
