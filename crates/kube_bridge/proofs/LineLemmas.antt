@@ -65,18 +65,18 @@ some_is_none l e = cc
 
 pub found_at : (xs : List ℕ) (i : ℕ) → i < length xs → get_or xs i 0 ≡ 10 → behind_line (take i xs) ≡ None → (take i xs ≡ line_in xs) × (Some (drop (i + 1) xs) ≡ behind_line xs)
 found_at [] i h e n = absurd (omega arith)
-found_at (b ∷ bs) zero h e n = rw is_feed b e (refl, refl)
+found_at (b ∷ bs) zero h e n = rw (is_feed b e) (refl, refl)
 found_at (b ∷ bs) (suc i) h e n = let below : i < length bs = omega arith in at (b == 10) n (found_at bs i below e)
   where
     at : (c : Bool) → (if c then Some (take i bs) else behind_line (take i bs)) ≡ None → (behind_line (take i bs) ≡ None → (take i bs ≡ line_in bs) × (Some (drop (i + 1) bs) ≡ behind_line bs))
         → (b ∷ take i bs ≡ (if c then [] else b ∷ line_in bs)) × (Some (drop (suc i + 1) (b ∷ bs)) ≡ (if c then Some bs else behind_line bs))
     at true n rest = absurd (some_is_none (take i bs) n)
-    at false n rest = let t = rest n in (ap (λ l. b ∷ l) t.0, rw next_index i t.1)
+    at false n rest = let t = rest n in (ap (λ l. b ∷ l) t.0, rw (next_index i) t.1)
 
 pub none_more : (xs : List ℕ) (i : ℕ) → i < length xs → ¬ (get_or xs i 0 ≡ 10) → behind_line (take i xs) ≡ None → behind_line (take (i + 1) xs) ≡ None
 none_more [] i h e n = absurd (omega arith)
-none_more (b ∷ bs) zero h e n = rw not_feed b e refl
-none_more (b ∷ bs) (suc i) h e n = let below : i < length bs = omega arith in rw next_index i (at (b == 10) n (none_more bs i below e))
+none_more (b ∷ bs) zero h e n = rw (not_feed b e) refl
+none_more (b ∷ bs) (suc i) h e n = let below : i < length bs = omega arith in rw (next_index i) (at (b == 10) n (none_more bs i below e))
   where
     at : (c : Bool) → (if c then Some (take i bs) else behind_line (take i bs)) ≡ None → (behind_line (take i bs) ≡ None → behind_line (take (i + 1) bs) ≡ None) → (if c then Some (take (i + 1) bs) else behind_line (take (i + 1) bs)) ≡ None
     at true n rest = cc
@@ -133,13 +133,13 @@ something_behind i count buf h l n e =
 -- ---- what was read of a source: pieces without a line feed, and one that ends with the first
 
 -- that is its line, and what is left stands behind it
-pub line_heard : (a b c : Option (List ℕ)) (before piece : List ℕ) → Consumes a b before → Consumes b c piece → behind_line before ≡ None → behind_line piece ≡ Some []
-    → IfSome a (λ bytes. (before ++ line_in piece ≡ line_in bytes) × (c ≡ behind_line bytes))
-line_heard None b c before piece h k e f = tt
-line_heard (Some a) None c before piece h k e f = absurd h
-line_heard (Some a) (Some b) None before piece h k e f = absurd k
-line_heard (Some a) (Some b) (Some c) before piece h k e f =
-    rw (h, k, line_more before (piece ++ c) e, line_then piece c [] f, behind_more before (piece ++ c) e, behind_then piece c [] f) (refl, refl)
+pub line_heard : (a b c : Option (List ℕ)) (before piece whole : List ℕ) → Consumes a b before → Consumes b c piece → behind_line before ≡ None → behind_line piece ≡ Some [] → whole ≡ before ++ line_in piece
+    → IfSome a (λ bytes. (whole ≡ line_in bytes) × (c ≡ behind_line bytes))
+line_heard None b c before piece whole h k e f w = tt
+line_heard (Some a) None c before piece whole h k e f w = absurd h
+line_heard (Some a) (Some b) None before piece whole h k e f w = absurd k
+line_heard (Some a) (Some b) (Some c) before piece whole h k e f w =
+    rw (w, h, k, line_more before (piece ++ c) e, line_then piece c [] f, behind_more before (piece ++ c) e, behind_then piece c [] f) (refl, refl)
 
 -- something stands behind it
 pub more_heard : (a b c : Option (List ℕ)) (before piece rest : List ℕ) → Consumes a b before → Consumes b c piece → behind_line before ≡ None → behind_line piece ≡ Some rest → ¬ (rest ≡ [])
@@ -156,14 +156,15 @@ more_heard (Some a) (Some b) (Some c) before piece rest h k e f n =
 
 -- ---- a line that goes on
 
-pub read_more : (a b c : Option (List ℕ)) (before piece : List ℕ) → Consumes a b before → Consumes b c piece → Consumes a c (before ++ piece)
+read_more : (a b c : Option (List ℕ)) (before piece : List ℕ) → Consumes a b before → Consumes b c piece → Consumes a c (before ++ piece)
 read_more None b c before piece h k = tt
 read_more (Some a) None c before piece h k = absurd h
 read_more (Some a) (Some b) None before piece h k = absurd k
 read_more (Some a) (Some b) (Some c) before piece h k = rw (h, k) (sym (append_assoc before piece c))
 
-pub still_none : (before piece : List ℕ) → behind_line before ≡ None → behind_line piece ≡ None → behind_line (before ++ piece) ≡ None
-still_none before piece e f = behind_more before piece e ∙ f
+pub goes_on : (a b c : Option (List ℕ)) (before piece whole : List ℕ) → Consumes a b before → Consumes b c piece → behind_line before ≡ None → behind_line piece ≡ None → whole ≡ before ++ piece
+    → Consumes a c whole × (behind_line whole ≡ None)
+goes_on a b c before piece whole h k e f w = rw w (read_more a b c before piece h k, behind_more before piece e ∙ f)
 
 -- it is too long, however it goes on
 pub too_long_heard : (n : ℕ) (a b c : Option (List ℕ)) (before piece : List ℕ) → Consumes a b before → Consumes b c piece → behind_line before ≡ None → n < length (before ++ line_in piece)
