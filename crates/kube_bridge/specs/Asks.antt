@@ -5,12 +5,12 @@ use Rattle.kube_model.specs.declared.error.ApiError.TheVariants.{Transport}
 use Rattle.serde_json.specs.Data.{Data}
 use Rattle.kube_meta.specs.Reading.{ObjectData}
 use Rattle.kube_model.specs.Raw.{RawCall, ListAsked, WatchAsked, NextAsked, RawAnswer, Ends, Raw, grown}
-use Rattle.kube_api.specs.ObjectTalk.{ObjectAnswer, AnswersFault, ObjectRaw, is_object_fault}
+use Rattle.kube_api.specs.ObjectTalk.{ObjectCall, PatchAsked, DeleteAsked, ObjectAnswer, AnswersFault, ObjectRaw, is_object_fault}
 use Rattle.kube_api.specs.Patches.{Operation}
 use Rattle.kube_api.specs.TestScript.{failures_after}
-use Rattle.kube_bridge.specs.Lines.{Named, call_line, line_of, patch_data, has_fraction}
+use Rattle.kube_bridge.specs.Lines.{Named, call_line, line_of, delete_data, patch_data, has_fraction}
 use Rattle.kube_bridge.specs.Pipes.{PipeState, IfKnown}
-use Rattle.kube_bridge.specs.Heard.{list_heard, watch_heard, next_heard, patch_heard}
+use Rattle.kube_bridge.specs.Heard.{list_heard, watch_heard, next_heard, patch_heard, delete_heard}
 use Rattle.kube_bridge.specs.declared.fault.PipeFault.{PipeFault}
 
 -- one line was exchanged, and the answer is what was heard
@@ -81,3 +81,12 @@ HasSentIf false known old named operations answer new = HasAsked (known old) (li
 -- a patch was sent, unless it has a number that isn't whole
 abbrev pub HasSent : {P : Type 0} → (P → Option PipeState) → P → Named → List Operation → ObjectAnswer ObjectData → P → Type 0
 HasSent known old named operations answer new = HasSentIf (has_fraction operations) known old named operations answer new
+
+-- what a call for an object with its answer makes of the pipe
+abbrev pub HasObjectCalled : {P : Type 0} → (P → Option PipeState) → ObjectsState P → ObjectCall → ObjectAnswer ObjectData → ObjectsState P → Type 0
+HasObjectCalled known old (PatchAsked name operations) answer new = HasSent known old.pipe (named_in old name) operations answer new.pipe
+HasObjectCalled known old (DeleteAsked name) answer new = HasAsked (known old.pipe) (line_of (delete_data (named_in old name))) delete_heard answer (known new.pipe)
+
+-- the moment of the call has no part in it, as above
+abbrev pub IsObjectMove : {P : Type 0} → (P → Option PipeState) → ObjectsState P → ℕ → ObjectRaw ObjectData → ObjectsState P → Type 0
+IsObjectMove known old now raw new = HasObjectCalled known old raw.call raw.answer new

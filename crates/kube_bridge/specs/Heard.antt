@@ -1,5 +1,5 @@
 -- What a call came to that was asked over a pipe: the answer that the line's bytes are, or a fault with the cause.
-use Rattle.std.specs.Prelude.{◌≡◌, ◌⊎◌, ℕ, List, ◌++◌, Option, Result, Ok, Err, codes, ⊤}
+use Rattle.std.specs.Prelude.{◌≡◌, ◌⊎◌, ℕ, Bool, true, false, List, ◌++◌, Option, Result, Ok, Err, codes, ⊤}
 use Rattle.serde_json.specs.Data.{Data}
 use Rattle.kube_meta.specs.declared.object_fault.ObjectFault.{ObjectFault}
 use Rattle.kube_model.specs.declared.error.ApiError.{ApiError}
@@ -38,6 +38,13 @@ error_of asks.NoMemory = Transport (codes "the pipe: out of memory")
 error_of (asks.Pipe fault) = pipe_error fault
 error_of asks.NoJson = line_error no_json
 error_of (asks.NoAnswer place) = line_error (no_answer place)
+
+-- memory was wanting, and nothing was heard for that
+abbrev pub is_memory : AskFault → Bool
+is_memory asks.NoMemory = true
+is_memory (asks.Pipe fault) = false
+is_memory asks.NoJson = false
+is_memory (asks.NoAnswer place) = false
 
 -- ---- what a call is answered, by what was heard
 

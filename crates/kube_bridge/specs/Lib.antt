@@ -6,5 +6,6 @@ pub mod Exchanged
 pub mod Answers
 pub mod Seen
 pub mod Heard
+pub mod Stored
 pub mod Talks
 pub mod Asks

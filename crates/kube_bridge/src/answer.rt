@@ -1,6 +1,6 @@
 //! Answers, as they are read of a line.
 
-ghost use Rattle.std.specs.Prelude.{◌≡◌, Unit, map, option_map};
+ghost use Rattle.std.specs.Prelude.{◌≡◌, map, option_map};
 ghost use Rattle.std.specs.Arc.{arc_value};
 ghost use Rattle.serde_json.specs.View.{view};
 ghost use Rattle.kube_meta.specs.Places.{Gives};

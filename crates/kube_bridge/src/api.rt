@@ -47,6 +47,11 @@ impl<P: Pipe> Model for BridgeApi<P> {
 
     ghost Value = { ApiState P };
 
+    ghost use Rattle.std.specs.Coded.{codes};
+    ghost use Rattle.kube_bridge.specs.Stored.{data_code};
+
+    ghost coded = { Prim.hlevel (codes, data_code) };
+
     ghost view = { λ a. record {
       pipe = a.pipe;
       resource = a.resource;

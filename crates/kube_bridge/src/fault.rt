@@ -1,7 +1,7 @@
 //! Why a call got no answer.
 
-ghost use Rattle.std.specs.Prelude.{◌≡◌, IfOk};
-ghost use Rattle.kube_bridge.specs.Heard.{pipe_text, pipe_error, error_of};
+ghost use Rattle.std.specs.Prelude.{◌≡◌, false, IfOk, OnOk};
+ghost use Rattle.kube_bridge.specs.Heard.{pipe_text, pipe_error, error_of, is_memory};
 ghost use Rattle.kube_bridge.specs.declared.fault.AskFault.TheVariants.{NoMemory as out_of_memory, Pipe as broken};
 
 use kube_meta::{NoMemory, Text};
@@ -76,7 +76,8 @@ impl AskFault {
     ///
     /// Errors: `NoMemory`, also where the fault is that.
     pub fn into_error(self, alloc: Global) -> Result<ApiError, NoMemory>
-        ensures { IfOk result (λ e. e ≡ error_of self) }
+        ensures error { IfOk result (λ e. e ≡ error_of self) }
+        ensures memory { OnOk result (is_memory self ≡ false) }
     {
         match self {
             AskFault::NoMemory => Err(NoMemory),

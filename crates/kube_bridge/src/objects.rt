@@ -5,7 +5,7 @@ ghost use Rattle.serde_json.specs.Written.{has_float};
 ghost use Rattle.kube_model.specs.Raw.{grown, FaultRose};
 ghost use Rattle.kube_api.specs.Patches.{operation_of};
 ghost use Rattle.kube_api.specs.ObjectTalk.{PatchAsked, DeleteAsked, AnswersFault, patch_answer, delete_answer, is_object_fault, RefusedAs, MissingAs, IsKept, IsNotMemory};
-ghost use Rattle.kube_bridge.specs.Asks.{HasAsked, HasSent, object_told_more, named_in, nothing_held, fraction_error};
+ghost use Rattle.kube_bridge.specs.Asks.{HasAsked, HasSent, IsObjectMove, object_told_more, named_in, nothing_held, fraction_error};
 ghost use Rattle.kube_bridge.specs.Heard.{patch_heard, delete_heard};
 ghost use Rattle.kube_bridge.specs.Lines.{line_of, get_data, delete_data, operation_data, patch_data, has_fraction};
 ghost use Rattle.kube_bridge.specs.Pipes.{AtMostOnce};
@@ -44,6 +44,11 @@ impl<P: Pipe> Model for BridgeObjects<P> {
     ghost use Rattle.kube_bridge.specs.Talks.{object_raw_of};
 
     ghost Value = { ObjectsState P };
+
+    ghost use Rattle.std.specs.Coded.{codes};
+    ghost use Rattle.kube_bridge.specs.Stored.{data_code};
+
+    ghost coded = { Prim.hlevel (codes, data_code) };
 
     ghost view = { λ o. record {
       pipe = o.pipe;
@@ -214,6 +219,8 @@ impl<P: Pipe> ObjectApi for BridgeObjects<P> {
 
     ghost faults = { λ o. o.failures };
 
+    ghost moves = { IsObjectMove P.known };
+
     fn patch(
         &mut self,
         alloc: Global,
@@ -222,7 +229,6 @@ impl<P: Pipe> ObjectApi for BridgeObjects<P> {
         _now: Moment,
     ) -> Result<Polled<PatchAnswer<ScriptObject>>, NoMemory>
         requires { length patch.now < 2 ^ 32 }
-        ensures sent { IfOk result (λ a. HasSent P.known self.old.pipe (named_in self.old name.now) (map operation_of patch.now) (patch_answer a) self.new.pipe) }
         ensures once { OnErr result (AtMostOnce (P.known self.old.pipe) (line_of (patch_data (named_in self.old name.now) (map operation_of patch.now))) (P.known self.new.pipe)) }
         ensures resource { self.new.resource ≡ self.old.resource }
         ensures namespace { self.new.namespace ≡ self.old.namespace }
@@ -231,6 +237,7 @@ impl<P: Pipe> ObjectApi for BridgeObjects<P> {
         ensures grows { IfOk result (λ a. self.new.talk ≡ grown self.old.talk (record { call = PatchAsked name.now (map operation_of patch.now); answer = patch_answer a })) }
         ensures unchanged { OnErr result (self.new.talk ≡ self.old.talk) }
         ensures kept { OnErr result (nothing_held self.new ≡ nothing_held self.old) }
+        ensures moves { IfOk result (λ a. IsObjectMove P.known self.old _now.0 (record { call = PatchAsked name.now (map operation_of patch.now); answer = patch_answer a }) self.new) }
         ensures refused { IfOk result (λ a. RefusedAs (nothing_held self.old) name.now (map operation_of patch.now) (patch_answer a)) }
         ensures no_memory { IfOk result (λ a. IsNotMemory (patch_answer a)) }
         ensures stays { IfOk result (λ a. IsKept (patch_answer a) (nothing_held self.old) (nothing_held self.new)) }
@@ -256,7 +263,6 @@ impl<P: Pipe> ObjectApi for BridgeObjects<P> {
         name: &str,
         _now: Moment,
     ) -> Result<Polled<DeleteAnswer<ScriptObject>>, NoMemory>
-        ensures asked { IfOk result (λ a. HasAsked (P.known self.old.pipe) (line_of (delete_data (named_in self.old name.now))) delete_heard (delete_answer a) (P.known self.new.pipe)) }
         ensures once { OnErr result (AtMostOnce (P.known self.old.pipe) (line_of (delete_data (named_in self.old name.now))) (P.known self.new.pipe)) }
         ensures resource { self.new.resource ≡ self.old.resource }
         ensures namespace { self.new.namespace ≡ self.old.namespace }
@@ -265,6 +271,7 @@ impl<P: Pipe> ObjectApi for BridgeObjects<P> {
         ensures grows { IfOk result (λ a. self.new.talk ≡ grown self.old.talk (record { call = DeleteAsked name.now; answer = delete_answer a })) }
         ensures unchanged { OnErr result (self.new.talk ≡ self.old.talk) }
         ensures kept { OnErr result (nothing_held self.new ≡ nothing_held self.old) }
+        ensures moves { IfOk result (λ a. IsObjectMove P.known self.old _now.0 (record { call = DeleteAsked name.now; answer = delete_answer a }) self.new) }
         ensures missing { IfOk result (λ a. MissingAs (nothing_held self.old) name.now (delete_answer a)) }
         ensures stays { IfOk result (λ a. IsKept (delete_answer a) (nothing_held self.old) (nothing_held self.new)) }
         ensures faults { IfOk result (λ a. FaultRose (is_object_fault (delete_answer a)) self.old.failures self.new.failures) }

@@ -1,6 +1,6 @@
 //! Words that a call may be answered.
 
-ghost use Rattle.std.specs.Prelude.{◌≡◌, Unit};
+ghost use Rattle.std.specs.Prelude.{◌≡◌};
 ghost use Rattle.kube_meta.specs.Places.{Gives};
 ghost use Rattle.kube_meta.specs.Reading.{ObjectData as object_record};
 ghost use Rattle.kube_model.specs.Raw.{RawAnswer};
