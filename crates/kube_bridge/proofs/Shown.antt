@@ -1,5 +1,5 @@
 -- What a writer holds after members of an object.
-use Rattle.std.proofs.Common.{◌≡◌, ℕ, List, [], ◌∷◌, ◌++◌, sym, ap, ◌∙◌, append_assoc}
+use Rattle.std.proofs.Common.{◌≡◌, ℕ, List, [], ◌∷◌, ◌++◌, Option, Some, None, option_map, refl, sym, ap, ◌∙◌, append_assoc}
 use Rattle.json.specs.Token.{Token, begin_object, end_object, key}
 use Rattle.serde_json.specs.Data.{Data, object, Members, no_members, member}
 use Rattle.kube_text.specs.Shown.{tokens_of, member_tokens}
@@ -15,3 +15,8 @@ pub object_shown : (old opened shown new : List Token) (ms : Members) → opened
 unfolding tokens_of member_tokens
 object_shown old opened shown new ms e f g =
     g ∙ sym f ∙ ap (λ l. l ++ member_tokens ms) e ∙ append_assoc old (begin_object ∷ []) (member_tokens ms)
+
+-- what is seen as it is
+pub same_option : {A : Type 0} (f : A → Data) (o : Option A) → option_map f (option_map (λ x. x) o) ≡ option_map f o
+same_option f None = refl
+same_option f (Some x) = refl

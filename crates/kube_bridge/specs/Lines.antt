@@ -82,10 +82,16 @@ delete_members o rest =
     (member (codes "namespace") (text_or_null o.namespace) (member (codes "resource") (number_data o.resource) rest)))
 
 -- an operation of a patch (RFC 6902, section 4)
+abbrev pub valued_members : List ℕ → List ℕ → Data → Members → Members
+valued_members word path d rest = member (codes "op") (string word) (member (codes "path") (string path) (member (codes "value") d rest))
+
+abbrev pub removal_members : List ℕ → Members → Members
+removal_members path rest = member (codes "op") (string (codes "remove")) (member (codes "path") (string path) rest)
+
 unfoldable pub operation_members : Operation → Members → Members
-operation_members (Tests path d) rest = member (codes "op") (string (codes "test")) (member (codes "path") (string path) (member (codes "value") d rest))
-operation_members (Changes path (Puts d)) rest = member (codes "op") (string (codes "add")) (member (codes "path") (string path) (member (codes "value") d rest))
-operation_members (Changes path Takes) rest = member (codes "op") (string (codes "remove")) (member (codes "path") (string path) rest)
+operation_members (Tests path d) rest = valued_members (codes "test") path d rest
+operation_members (Changes path (Puts d)) rest = valued_members (codes "add") path d rest
+operation_members (Changes path Takes) rest = removal_members path rest
 
 unfoldable pub operation_data : Operation → Data
 operation_data o = object (operation_members o no_members)
@@ -137,12 +143,15 @@ abbrev pub ref_data : Ref → Data
 ref_data r = object (ref_members r no_members)
 
 -- a finish as a script has it
-abbrev pub finish_of : Ref → Result (Option ℕ) (List ℕ) → Members → Members
-finish_of r (Ok requeue) rest = member (codes "ok") (number_or_null requeue) (member (codes "ref") (ref_data r) rest)
-finish_of r (Err fault) rest = member (codes "err") (string fault) (member (codes "ref") (ref_data r) rest)
+abbrev pub outcome_members : Result (Option ℕ) (List ℕ) → Members → Members
+outcome_members (Ok requeue) rest = member (codes "ok") (number_or_null requeue) rest
+outcome_members (Err fault) rest = member (codes "err") (string fault) rest
+
+abbrev pub finish_of : Finish → Members → Members
+finish_of f rest = outcome_members f.outcome (member (codes "ref") (ref_data f.reference) rest)
 
 unfoldable pub finish_data : Finish → Data
-finish_data f = object (finish_of f.reference f.outcome no_members)
+finish_data f = object (finish_of f no_members)
 
 unfoldable pub turn_members : NextTurn → Members → Members
 turn_members t rest =

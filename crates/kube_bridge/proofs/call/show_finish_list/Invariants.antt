@@ -2,7 +2,7 @@ use Rattle.std.proofs.Common.{◌≡◌, ◌++◌, map, drop}
 use Rattle.kube_script.specs.SeenTurn.{seen_finish}
 use Rattle.kube_text.specs.Shown.{item_tokens}
 use Rattle.kube_bridge.specs.Lines.{finish_data}
-use Rattle.kube_bridge.proofs.call.show_finishes.Given as goal
+use Rattle.kube_bridge.proofs.call.show_finish_list.Given as goal
 
 abbrev pub invariant-loop-finish : goal.invariant-loop-finish
 invariant-loop-finish l =
