@@ -73,5 +73,5 @@ patched_not_memory None None = tt
 pub object_not_memory : (d : Data) → IfOk (object_answer_at d) (λ a. IsNotMemory a.answer)
 unfolding object_answer_at
 object_not_memory d =
-    let P : At (ObjectAnswer ObjectData) → Type 0 = λ a. IsNotMemory a.answer in
+    let P : At (ObjectAnswer ObjectData) → Type 0 = λ (a : At (ObjectAnswer ObjectData)). IsNotMemory a.answer in
     then_all P _ _ (λ o. then_all P _ _ (λ moment. then_all P _ _ (λ one. then_all P _ _ (λ word. then_all P _ _ (λ fault. then_all P _ _ (λ object. patched_not_memory object fault))))))
