@@ -1,17 +1,19 @@
 -- What a call is answered, by what its pipe heard.
-use Rattle.std.proofs.Common.{◌≡◌, ℕ, List, Bool, true, false, cond, Option, Some, None, Result, Ok, Err, IfOk, refl, sym, ap, subst, absurd}
+use Rattle.std.proofs.Common.{◌≡◌, ℕ, List, Bool, true, false, cond, Option, Some, None, Result, Ok, Err, IfOk, refl, sym, ap, subst, [], ◌∷◌, codes}
 use Rattle.std.specs.Str.{is_utf8}
 use Rattle.serde_json.specs.Data.{Data}
 use Rattle.serde_json.specs.Read.{read}
 use Rattle.kube_meta.specs.declared.object_fault.ObjectFault.{ObjectFault}
 use Rattle.kube_meta.specs.declared.object_fault.ObjectFault.TheVariants as faults
 use Rattle.kube_meta.specs.Places.{◌>>=◌}
-use Rattle.kube_meta.specs.Reading.{ObjectData}
+use Rattle.kube_meta.specs.Reading.{ObjectData, object_data_at, field, maybe_field, object_at}
+use Rattle.kube_script.specs.Reading.{number_at}
+use Rattle.kube_script.specs.Script.{one_of, fault_at}
 use Rattle.kube_model.specs.declared.error.ApiError.{ApiError}
 use Rattle.kube_model.specs.declared.error.ApiError.TheVariants as errors
 use Rattle.kube_api.specs.ObjectTalk.{ObjectAnswer, AnswersFault, AnswersRefusal, IsNotMemory}
 use Rattle.kube_api.specs.declared.patch.PatchRefusal.TheVariants.{NotFound as not_found}
-use Rattle.kube_bridge.specs.Answers.{At, Unanswered, no_json, as_unanswered, answer_read, answer_in, is_missing, patch_failed, patched_as, object_answer_at}
+use Rattle.kube_bridge.specs.Answers.{At, Unanswered, no_json, as_unanswered, answer_read, answer_in, is_missing, patch_failed, patched_as, waiting_at, object_answer_at}
 use Rattle.kube_bridge.specs.Heard.{by_heard, by_line, pipe_error, line_error, error_of, is_memory, IsHeard, IsLineRead}
 use Rattle.kube_bridge.specs.declared.fault.PipeFault.{PipeFault}
 use Rattle.kube_bridge.specs.declared.fault.AskFault.{AskFault}
@@ -61,7 +63,7 @@ then_all P (Err e) f h = tt
 failed_not_memory : (fault : ApiError) → IsNotMemory (patch_failed fault)
 failed_not_memory fault = at (is_missing fault)
   where
-    at : (b : Bool) → IsNotMemory (cond b (AnswersRefusal not_found) (AnswersFault fault))
+    at : (b : Bool) → IsNotMemory {V = ObjectData} (cond b (AnswersRefusal not_found) (AnswersFault fault))
     at true = λ e. cc
     at false = tt
 
@@ -70,8 +72,27 @@ patched_not_memory (Some object) fault = tt
 patched_not_memory None (Some fault) = failed_not_memory fault
 patched_not_memory None None = tt
 
+-- the reading, from one member on
+abbrev after_fault : Data → ℕ → Option ApiError → Result (At (ObjectAnswer ObjectData)) ObjectFault
+after_fault d moment fault = maybe_field (codes "object") object_data_at d >>= λ object. Ok (record { at = moment; answer = patched_as object fault })
+
+abbrev after_word : Data → ℕ → Result (At (ObjectAnswer ObjectData)) ObjectFault
+after_word d moment = maybe_field (codes "fault") fault_at d >>= λ fault. after_fault d moment fault
+
+abbrev after_one : Data → ℕ → Result (At (ObjectAnswer ObjectData)) ObjectFault
+after_one d moment = maybe_field (codes "answer") waiting_at d >>= λ _. after_word d moment
+
+abbrev after_at : Data → ℕ → Result (At (ObjectAnswer ObjectData)) ObjectFault
+after_at d moment = one_of (codes "answer" ∷ codes "fault" ∷ codes "object" ∷ []) d >>= λ _. after_one d moment
+
 pub object_not_memory : (d : Data) → IfOk (object_answer_at d) (λ a. IsNotMemory a.answer)
 unfolding object_answer_at
 object_not_memory d =
     let P : At (ObjectAnswer ObjectData) → Type 0 = λ (a : At (ObjectAnswer ObjectData)). IsNotMemory a.answer in
-    then_all P _ _ (λ o. then_all P _ _ (λ moment. then_all P _ _ (λ one. then_all P _ _ (λ word. then_all P _ _ (λ fault. then_all P _ _ (λ object. patched_not_memory object fault))))))
+    then_all P (object_at d) (λ _. field (codes "at") number_at d >>= λ moment. after_at d moment)
+    (λ _. then_all P (field (codes "at") number_at d) (λ moment. after_at d moment)
+    (λ moment. then_all P (one_of (codes "answer" ∷ codes "fault" ∷ codes "object" ∷ []) d) (λ _. after_one d moment)
+    (λ _. then_all P (maybe_field (codes "answer") waiting_at d) (λ _. after_word d moment)
+    (λ _. then_all P (maybe_field (codes "fault") fault_at d) (λ fault. after_fault d moment fault)
+    (λ fault. then_all P (maybe_field (codes "object") object_data_at d) (λ object. Ok (record { at = moment; answer = patched_as object fault }))
+    (λ object. patched_not_memory object fault))))))
