@@ -3,3 +3,4 @@ pub mod Text
 pub mod Utf8
 pub mod LineLemmas
 pub mod Hearing
+pub mod Talk

@@ -1,6 +1,6 @@
 //! An API of lists and watches over a pipe.
 
-ghost use Rattle.std.specs.Prelude.{◌≡◌, ◌≤◌, false, [], IfOk, OnOk, OnErr, Some, None};
+ghost use Rattle.std.specs.Prelude.{◌≡◌, ◌≤◌, false, [], map, option_map, IfOk, OnOk, OnErr, Some, None};
 ghost use Rattle.kube_model.specs.Raw.{grown, ListAsked, WatchAsked, NextAsked, Ends, FaultRose, IsNeverOpened, is_fault};
 ghost use Rattle.kube_api.specs.Answers.{list_answer, watch_answer, next_answer, is_watch_fault};
 ghost use Rattle.kube_bridge.specs.Asks.{HasAsked, IsMove, told_more};
@@ -115,15 +115,86 @@ impl<P: Pipe> BridgeApi<P> {
         ensures rises { self.old.failures ≤ self.new.failures }
     {
         let failed = told.is_fault();
-        match &mut self.told {
-            Some(kept) => kept.push(told)?,
-            None => drop(told),
-        }
+        keep(&mut self.told, told)?;
         if failed {
             self.faults = self.faults.saturating_add(1);
         }
         Ok(())
     }
+
+    /// Keeps a list call with its answer, as above.
+    fn tell_list(
+        &mut self,
+        alloc: Global,
+        params: &ListParams,
+        answer: &Polled<Result<Page<ScriptObject>, ApiError>>,
+    ) -> Result<(), NoMemory>
+        ensures ok { OnOk result (self.new ≡ told_more (record { call = ListAsked params.now; answer = list_answer answer.now }) self.old) }
+        ensures err { OnErr result (self.new ≡ self.old) }
+        ensures faults { OnOk result (FaultRose (is_fault (list_answer answer.now)) self.old.failures self.new.failures) }
+        ensures rises { self.old.failures ≤ self.new.failures }
+    {
+        let asked = copy_list_params(alloc, params)?;
+        self.tell(Told::List(asked, copy_list(alloc, answer)?))
+    }
+
+    /// Keeps a watch call with its answer, as above.
+    fn tell_watch(
+        &mut self,
+        alloc: Global,
+        params: &WatchParams,
+        version: &str,
+        answer: &Polled<Result<(), ApiError>>,
+    ) -> Result<(), NoMemory>
+        ensures ok { OnOk result (self.new ≡ told_more (record { call = WatchAsked params.now version.now; answer = watch_answer answer.now }) self.old) }
+        ensures err { OnErr result (self.new ≡ self.old) }
+        ensures faults { OnOk result (FaultRose (is_watch_fault answer.now) self.old.failures self.new.failures) }
+        ensures rises { self.old.failures ≤ self.new.failures }
+    {
+        let (asked, from) = (
+            copy_watch_params(alloc, params)?,
+            Text::new(alloc, version)?,
+        );
+        self.tell(Told::Watch(asked, from, copy_watch(alloc, answer)?))
+    }
+}
+
+/// Keeps a call with its answer, where any is kept.
+///
+/// Errors: `NoMemory`, and all is as it was.
+fn keep(kept: &mut Option<Vec<Told>>, told: Told) -> Result<(), NoMemory>
+    ensures ok { OnOk result (option_map (λ v. map raw_of v.items) kept.new ≡ grown (option_map (λ v. map raw_of v.items) kept.old) (raw_of told)) }
+    ensures err { OnErr result (option_map (λ v. map raw_of v.items) kept.new ≡ option_map (λ v. map raw_of v.items) kept.old) }
+{
+    match kept {
+        Some(kept) => kept.push(told)?,
+        None => drop(told),
+    }
+    Ok(())
+}
+
+/// The line of a list call.
+fn list_line(alloc: Global, resource: u32, params: &ListParams) -> Result<Vec<u8>, NoMemory>
+    ensures { IfOk result (λ line. line.items ≡ call_line resource (ListAsked params.now)) }
+{
+    let asked = copy_list_params(alloc, params)?;
+    Ok(call::line(alloc, resource, &Recording::List(asked))?)
+}
+
+/// The line of a watch call.
+fn watch_line(
+    alloc: Global,
+    resource: u32,
+    params: &WatchParams,
+    version: &str,
+) -> Result<Vec<u8>, NoMemory>
+    ensures { IfOk result (λ line. line.items ≡ call_line resource (WatchAsked params.now version.now)) }
+{
+    let asked = Recording::Watch(
+        copy_watch_params(alloc, params)?,
+        Text::new(alloc, version)?,
+    );
+    Ok(call::line(alloc, resource, &asked)?)
 }
 
 /// What was heard to the line of a list call.
@@ -197,11 +268,9 @@ impl<P: Pipe> ApiMode for BridgeApi<P> {
         ensures faults { IfOk result (λ a. FaultRose (is_fault (list_answer a)) self.old.failures self.new.failures) }
         ensures rises { self.old.failures ≤ self.new.failures }
     {
-        let asked = copy_list_params(alloc, params)?;
-        let line = call::line(alloc, self.resource, &Recording::List(asked))?;
+        let line = list_line(alloc, self.resource, params)?;
         let answer = heard_list(alloc, &mut self.pipe, &line)?;
-        let asked = copy_list_params(alloc, params)?;
-        self.tell(Told::List(asked, copy_list(alloc, &answer)?))?;
+        self.tell_list(alloc, params, &answer)?;
         Ok(answer)
     }
 
@@ -222,17 +291,9 @@ impl<P: Pipe> ApiMode for BridgeApi<P> {
         ensures faults { IfOk result (λ a. FaultRose (is_watch_fault a) self.old.failures self.new.failures) }
         ensures rises { self.old.failures ≤ self.new.failures }
     {
-        let asked = Recording::Watch(
-            copy_watch_params(alloc, params)?,
-            Text::new(alloc, version)?,
-        );
-        let line = call::line(alloc, self.resource, &asked)?;
+        let line = watch_line(alloc, self.resource, params, version)?;
         let answer = heard_watch(alloc, &mut self.pipe, &line)?;
-        let (asked, from) = (
-            copy_watch_params(alloc, params)?,
-            Text::new(alloc, version)?,
-        );
-        self.tell(Told::Watch(asked, from, copy_watch(alloc, &answer)?))?;
+        self.tell_watch(alloc, params, version, &answer)?;
         if let Polled::Ready(Ok(())) = &answer {
             self.opened = true;
         }

@@ -276,7 +276,7 @@ fn show_patch(alloc: Global, out: &mut Writer, patch: &[Patch]) -> Result<(), Al
     Ok(())
 }
 
-#[tactic(auto, unfolding(kube_text::specs::Shown::tokens_of, kube_text::specs::Shown::item_tokens))]
+#[tactic(auto, unfolding(kube_text::specs::Shown::tokens_of, kube_text::specs::Shown::item_tokens, crate::specs::Lines::has_fraction))]
 fn show_operations(alloc: Global, out: &mut Writer, patch: &[Patch]) -> Result<(), AllocError>
     requires { has_fraction (map operation_of patch.now) ≡ false }
     ensures before { out.new.before ≡ out.old.before }
