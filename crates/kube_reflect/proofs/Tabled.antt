@@ -79,6 +79,11 @@ module _ {K D : Type 0} where
       ap items_in (take_more xs i x h ∙ ap (λ y. take i xs ++ y ∷ []) (sym e))
       ∙ (items-append (take i xs) (x ∷ []) ∙ ap (λ o. items_in (take i xs) ++ cons_option o []) n)
 
+  -- so what is read of each item
+  pub front-read : {T : Type 0} (f : Stored K D → T) (xs : List (Slot K D)) (i : ℕ) (x : Slot K D) (s : Stored K D) → i < length xs → x ≡ get_or xs i x → x.stored ≡ Some s
+      → map f (items_in (take (i + 1) xs)) ≡ map f (items_in (take i xs)) ++ f s ∷ []
+  front-read f xs i x s h e n = ap (map f) (front-some xs i x s h e n) ∙ map-append f (items_in (take i xs)) (s ∷ [])
+
   -- and those behind
   pub rest-none : (xs : List (Slot K D)) (i : ℕ) (x : Slot K D) → i < length xs → x ≡ get_or xs i x → x.stored ≡ None → items_in (drop i xs) ≡ items_in (drop (i + 1) xs)
   rest-none xs i x h e n =

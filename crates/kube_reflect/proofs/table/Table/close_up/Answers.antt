@@ -32,7 +32,7 @@ returns-clause-kept g c =
     let heads = c.link_all.ensures.heads in
     record {
       linked = c.link_all.ensures.linked;
-      hashed = same.hashed (subst (AreHashed type_of) (sym retained) (hashed-kept (λ x. is_some x.stored) slots kept.hashed));
+      hashed = same.hashed (subst (AreHashed type_of) (sym retained) (hashed-kept type_of (λ x. is_some x.stored) slots kept.hashed));
       apart = subst (λ ps. AreApart (references ps)) (sym (ap (map (stored_of type_of)) items)) kept.apart;
       counted = c.link_all.ensures.len ∙ (kept.counted ∙ sym (ap length items));
       headed = λ h. omega arith;
