@@ -5,6 +5,7 @@ use Rattle.std.specs.List.{filter, filter_map, cons_option, list_any}
 use Rattle.std.proofs.lemmas.Bool.{cases_eq}
 use Rattle.std.proofs.lemmas.Option.{slice_get_within}
 use Rattle.std.proofs.lemmas.List.{map-append, take_more, drop_more, take-append-drop}
+use Rattle.std.proofs.lemmas.List.Elements.{filter-append}
 use Rattle.kube_meta.specs.Reference.{ObjectType, Reference, same_reference}
 use Rattle.kube_model.specs.Store.{stored_under}
 use Rattle.kube_reflect.specs.declared.stored.Stored.{Stored}
@@ -83,6 +84,19 @@ module _ {K D : Type 0} where
   pub front-read : {T : Type 0} (f : Stored K D → T) (xs : List (Slot K D)) (i : ℕ) (x : Slot K D) (s : Stored K D) → i < length xs → x ≡ get_or xs i x → x.stored ≡ Some s
       → map f (items_in (take (i + 1) xs)) ≡ map f (items_in (take i xs)) ++ f s ∷ []
   front-read f xs i x s h e n = ap (map f) (front-some xs i x s h e n) ∙ map-append f (items_in (take i xs)) (s ∷ [])
+
+  -- and what passes of it
+  pub front-passed : {T : Type 0} (f : Stored K D → T) (test : T → Bool) (xs : List (Slot K D)) (i : ℕ) (x : Slot K D) (s : Stored K D) → i < length xs → x ≡ get_or xs i x → x.stored ≡ Some s → test (f s) ≡ true
+      → filter test (map f (items_in (take (i + 1) xs))) ≡ filter test (map f (items_in (take i xs))) ++ f s ∷ []
+  front-passed f test xs i x s h e n t =
+      let had = map f (items_in (take i xs)) in
+      ap (filter test) (front-read f xs i x s h e n) ∙ (filter-append test had (f s ∷ []) ∙ ap (λ b. filter test had ++ cond b (f s ∷ []) []) t)
+
+  pub front-held : {T : Type 0} (f : Stored K D → T) (test : T → Bool) (xs : List (Slot K D)) (i : ℕ) (x : Slot K D) (s : Stored K D) → i < length xs → x ≡ get_or xs i x → x.stored ≡ Some s → test (f s) ≡ false
+      → filter test (map f (items_in (take (i + 1) xs))) ≡ filter test (map f (items_in (take i xs)))
+  front-held f test xs i x s h e n t =
+      let had = map f (items_in (take i xs)) in
+      ap (filter test) (front-read f xs i x s h e n) ∙ (filter-append test had (f s ∷ []) ∙ (ap (λ b. filter test had ++ cond b (f s ∷ []) []) t ∙ append-nil (filter test had)))
 
   -- and those behind
   pub rest-none : (xs : List (Slot K D)) (i : ℕ) (x : Slot K D) → i < length xs → x ≡ get_or xs i x → x.stored ≡ None → items_in (drop i xs) ≡ items_in (drop (i + 1) xs)
