@@ -222,8 +222,7 @@ module _ {K D : Type 0} where
         let at : b ≡ p = omega arith in
         let behind : rest.1.0 ≡ y = one rest.1.0 y (sym rest.1.1 ∙ (ap (slice_get slots) at ∙ hp)) in
         let r = skipped slots q x p y hq hp named rest.1.0.next bs t n rest.1.2 in
-        let z : Slot K D = record x { next = y.next } in
-        (
+        let z : Slot K D = record x { next = y.next } in (
           a ∷ r.0,
           (h.0, (z, ap (slice_get (set slots q z)) same ∙ get-set slots q x z hq, subst (λ c. IsPath (set slots q z) c r.0 t) (ap (λ (w : Slot K D). w.next) behind) r.1)),
         )

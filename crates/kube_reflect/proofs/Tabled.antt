@@ -350,9 +350,9 @@ module _ {K D : Type 0} (type_of : D → ObjectType) where
   found-by t r hash head (Some p) kept e f h = is-at t.slots.items hash r p h
   found-by t r hash head None kept e f h =
       under-none t.slots.items r (λ p x s g st u.
-          let there : HoldsAt type_of t.slots.items hash r p = subst (λ k. HoldsAt type_of t.slots.items k r p) (sym e) (holds-there t.slots.items r p x s kept.hashed g st u) in
-          let same : x.hash ≡ hash = kept.hashed p x s g st ∙ (ap reference_hash u ∙ sym e) in
-          h p there (subst (λ k. Reaches t.slots.items k p) (ap (head_of t.heads.items) same ∙ sym f) (kept.linked.reached p x s (slice_get_within t.slots.items p x g) g st)))
+      let there : HoldsAt type_of t.slots.items hash r p = subst (λ k. HoldsAt type_of t.slots.items k r p) (sym e) (holds-there t.slots.items r p x s kept.hashed g st u) in
+      let same : x.hash ≡ hash = kept.hashed p x s g st ∙ (ap reference_hash u ∙ sym e) in
+      h p there (subst (λ k. Reaches t.slots.items k p) (ap (head_of t.heads.items) same ∙ sym f) (kept.linked.reached p x s (slice_get_within t.slots.items p x g) g st)))
 
   -- a slot names another one
   pub same-next : (slots : List (Slot K D)) (p : ℕ) (x : Slot K D) (n : ℕ) → slice_get slots p ≡ Some x → HoldSame type_of slots (set slots p (record x { next = n }))

@@ -270,9 +270,11 @@ impl<K: Resource> Table<K> {
         ensures same { listed K.type_of self.new ≡ listed K.type_of self.old }
         ensures room { room self.old ≤ room self.new }
     {
-        self.slots.retain(|slot: &Slot<K>| -> bool
-            ensures { result ≡ is_some slot.now.stored }
-        { slot.stored.is_some() });
+        self.slots.retain(
+            |slot: &Slot<K>| -> bool
+                ensures { result ≡ is_some slot.now.stored }
+            { slot.stored.is_some() },
+        );
         self.heads.truncate(self.slots.len().saturating_add(16));
         self.heads.fill(0);
         self.link_all();
