@@ -1,0 +1,23 @@
+use Rattle.std.proofs.Common.{◌≡◌, ◌<◌, suc, ◌∷◌, drop, length, map, sym, ap, ◌∙◌, arith, drop-cons}
+use Rattle.std.proofs.lemmas.List.{drop_all}
+use Rattle.kube_meta.specs.Reading.{seen_object}
+use Rattle.kube_children.specs.Branches.{holding, less_objects, unwanted}
+use Rattle.kube_children.proofs.Branching.{remove-next, seen_shared}
+use Rattle.kube_children.proofs.branch.remove_each.Goals as goal
+
+pub loop-object-preserved : goal.loop-object-preserved
+loop-object-preserved c =
+    let objects = c.args.objects.now in
+    let i = c.loop-object.object-index in
+    let object = c.object-item.result in
+    let l : i < length objects = omega arith in
+    let here : drop i objects ≡ object ∷ drop (suc i) objects = drop-cons objects i object l ∙ ap (λ x. x ∷ drop (suc i) objects) (sym c.object-item.is) in
+    record {
+      left = remove-next c.args.uid.now (map seen_object c.args.children.now) (holding c.loop-object.server) (holding c.remove_where.new.server) _ objects i _ object (omega arith) here c.in_ok-remove_where.ensures.left c.loop-object.invariant.left;
+      kind = c.in_ok-remove_where.ensures.kind ∙ c.loop-object.invariant.kind;
+    }
+
+pub returns-clause-left : goal.returns-clause-left
+returns-clause-left c =
+    ap (λ xs. less_objects (holding c.loop-object.server) (unwanted c.args.uid.now (map seen_object c.args.children.now) (map seen_shared xs))) (sym (drop_all c.loop-object.object-index c.args.objects.now (omega arith)))
+    ∙ c.loop-object.invariant.left

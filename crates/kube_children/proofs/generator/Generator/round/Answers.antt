@@ -1,0 +1,56 @@
+use Rattle.std.proofs.Common.{◌≡◌, ◌++◌, ◌∷◌, [], map, refl, sym, ap, subst, ◌∙◌, arith}
+use Rattle.kube_history.specs.CoreWorld.{core_world}
+use Rattle.kube_history.specs.CoreEvents.{Answered, Settled}
+use Rattle.kube_backoff.specs.Backoffs.{default_backoff}
+use Rattle.kube_children.specs.contracts.generator.Generator.{the_view}
+use Rattle.kube_children.specs.Asking.{MayAsk}
+use Rattle.kube_children.specs.Generators.{IsRound, StandsFor}
+use Rattle.kube_children.specs.Handling.{with_dealt}
+use Rattle.kube_children.specs.Rounds.{generator_world}
+use Rattle.kube_children.proofs.Rounding.{live-round, not-refused, opened, rounded}
+use Rattle.kube_children.proofs.generator.Generator.round.Goals as goal
+
+-- what an unspent generator stands for
+pub feed-requires : goal.feed-requires
+feed-requires c = (c.self.invariant c.if-spent.false).log
+
+pub ask_all-requires-clause-clock : goal.ask_all-requires-clause-clock
+ask_all-requires-clause-clock c =
+    let clock = (c.self.invariant c.if-spent.false).clock in
+    let later = not-refused c.args.now c.self.inside.last (sym c.refused.ensures ∙ c.else-refusal.is) in
+    omega (arith, clock, later)
+
+-- what the round added, over the parts as they were
+pub returns-clause-round : goal.returns-clause-round
+returns-clause-round c past stands =
+    let old = the_view c.self.inside in
+    let s = subst (StandsFor _ default_backoff past) (sym c.self.view_is) stands in
+    let kind = old.servers.parents.kind in
+    let at = c.args.now in
+    let may = subst (λ a. MayAsk _ default_backoff kind s.budget s.before s.mine past.events a old.core) (sym c.in_ok-feed.ensures) (opened _ default_backoff past old s) in
+    let k = c.in_ok-asked.ensures.asked default_backoff kind s.budget s.before s.mine past.events may in
+    let world = core_world (generator_world _ default_backoff kind) in
+    let settled = c.settle.ensures.stands world (past.events ++ map (Answered at.0) k.exchanges) k.so.may.core_stands in
+    let took = c.in_ok-take_all.ensures.took world ((past.events ++ map (Answered at.0) k.exchanges) ++ Settled at.0 ∷ []) settled in
+    subst (λ g. IsRound _ default_backoff past at c.args.budget g c.take_all.new.round _) c.self.view_is
+    (rounded _ default_backoff past at c.args.budget old s c.in_ok-asked.asked c.ask_all.new.asks c.ask_all.new.core k took.0 (record { parents = c.take_all.new.parents; children = c.take_all.new.children }) c.take_all.new.round _
+    refl refl refl refl took.1 (took.2 ∙ ap (λ r. with_dealt r took.0) c.opened-round.ensures) took.3)
+
+-- and the generator stands for that, as long as it is not spent
+pub invariant_of-self-then : goal.invariant_of-self-then
+invariant_of-self-then c =
+    let old = the_view c.self.inside in
+    let l = c.self.invariant c.if-spent.false in
+    let kind = old.servers.parents.kind in
+    let at = c.args.now in
+    let past = l.past in
+    let s = l.stands in
+    let may = subst (λ a. MayAsk _ default_backoff kind s.budget s.before s.mine past.events a old.core) (sym c.in_ok-feed.ensures) (opened _ default_backoff past old s) in
+    let k = c.in_ok-asked.ensures.asked default_backoff kind s.budget s.before s.mine past.events may in
+    let world = core_world (generator_world _ default_backoff kind) in
+    let settled = c.settle.ensures.stands world (past.events ++ map (Answered at.0) k.exchanges) k.so.may.core_stands in
+    let took = c.in_ok-take_all.ensures.took world ((past.events ++ map (Answered at.0) k.exchanges) ++ Settled at.0 ∷ []) settled in
+    live-round _ default_backoff past at c.args.budget old c.take_all.new.round _
+    (rounded _ default_backoff past at c.args.budget old s c.in_ok-asked.asked c.ask_all.new.asks c.ask_all.new.core k took.0 (record { parents = c.take_all.new.parents; children = c.take_all.new.children }) c.take_all.new.round _
+    refl refl refl refl took.1 (took.2 ∙ ap (λ r. with_dealt r took.0) c.opened-round.ensures) took.3)
+    c.in_ok-take_all.ensures.clock refl
