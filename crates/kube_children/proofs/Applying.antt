@@ -1,6 +1,6 @@
 -- A hand-over keeps the children exactly those that the last hand-overs want.
 use Rattle.std.proofs.Common.{◌≡◌, ◌⊎◌, inl, inr, ℕ, zero, suc, Bool, true, false, cond, not, ◌&&◌, List, [], ◌∷◌, Option, Some, None, unwrap_or, refl, sym, ap, subst, ◌∙◌, true≢false}
-use Rattle.std.specs.List.{AllByRecursion, IsDistinct}
+use Rattle.std.specs.List.{IsDistinct}
 use Rattle.std.specs.Option.{option_eq}
 use Rattle.std.specs.Str.{bytes_eq}
 use Rattle.std.proofs.lemmas.Slice.Eq.{bytes_eq-Decides}
@@ -20,7 +20,7 @@ use Rattle.kube_final.specs.declared.finalizer.Decision.TheVariants.{Apply}
 use Rattle.kube_final.specs.Finalizers.{decision_on}
 use Rattle.kube_children.specs.Wanted.{is_child_of, owner_of, owners_in, same_child, wanted}
 use Rattle.kube_children.specs.Branches.{Holding, first_foreign, found_in, is_among, is_unwanted, less_unwanted, same_place, with_children, with_wanted}
-use Rattle.kube_children.specs.Kept.{HoldsExactly, IsHeldAs, IsOneOf, IsWantedLast, last_under}
+use Rattle.kube_children.specs.Exactly.{HoldsExactly, IsHeldAs, IsOneOf, IsWantedLast, last_under}
 use Rattle.kube_children.proofs.Exact.{among-one, child-of-parent, only-other, only-uid, own-in-place}
 use Rattle.kube_children.proofs.Lookups.{AreThemselves, IsNoKeyOf, IsWell, children-other, children-own, children-well, keys, none-comes, others-stay, unwanted-gone}
 

@@ -1,5 +1,5 @@
 -- Asks of a round, each of the one root and told to the core.
-use Rattle.std.proofs.Common.{◌≡◌, ◌≤◌, ◌<◌, ◌⊎◌, ℕ, zero, suc, ◌+◌, ◌-◌, Bool, true, false, cond, not, ◌&&◌, ◌||◌, List, [], ◌∷◌, ◌++◌, map, length, find, Option, Some, None, refl, sym, ap, subst, ◌∙◌, append_assoc, append-nil, arith}
+use Rattle.std.proofs.Common.{◌≡◌, ◌≤◌, ◌<◌, ℕ, zero, suc, ◌+◌, ◌-◌, Bool, true, false, cond, not, ◌&&◌, ◌||◌, List, [], ◌∷◌, ◌++◌, map, length, find, Some, None, refl, sym, ap, subst, ◌∙◌, append_assoc, append-nil, arith}
 use Rattle.std.proofs.lemmas.List.{map-append}
 use Rattle.std.specs.List.{AllByRecursion, list_any, range_with_len}
 use Rattle.std.specs.declared.alloc.Global.{Global}
@@ -33,7 +33,7 @@ use Rattle.kube_step.specs.Calls.{ArePolled}
 use Rattle.kube_step.proofs.Asking.{polled-append}
 use Rattle.kube_children.specs.Asking.{AreAskedSo, IsOneAsked, MayAsk}
 use Rattle.kube_children.specs.Generators.{type_of}
-use Rattle.kube_children.specs.Rounds.{Root, generator_world, is_held, related_polls, root_polls, root_settings}
+use Rattle.kube_children.specs.Roots.{Root, generator_world, is_held, related_polls, root_polls, root_settings}
 
 -- the one source that there is was asked
 pub source-zero : (ds : List (Dated DynamicObject)) (at : ℕ) (x : Exchange DynamicObject) (r r' : Root) (s s' : NoRelated) (source : ℕ) → IsPolledAt root_polls related_polls ds at x r s r' s' source → source ≡ 0

@@ -1,5 +1,5 @@
 -- The loops of the branches, one object after another.
-use Rattle.std.proofs.Common.{◌≡◌, ℕ, suc, ◌+◌, Bool, true, false, cond, not, ◌||◌, List, [], ◌∷◌, map, drop, Option, Some, None, Global, option_map, refl, sym, ap, ap₂, ◌∙◌}
+use Rattle.std.proofs.Common.{◌≡◌, ℕ, suc, ◌+◌, Bool, true, false, cond, not, ◌||◌, List, ◌∷◌, map, drop, Option, Some, None, Global, option_map, refl, sym, ap, ap₂, ◌∙◌}
 use Rattle.std.specs.Arc.{arc_value}
 use Rattle.std.specs.declared.sync.Arc.{Arc}
 use Rattle.kube_meta.specs.declared.metadata.ObjectMeta.{ObjectMeta}

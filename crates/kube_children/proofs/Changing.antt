@@ -9,7 +9,7 @@ use Rattle.kube_meta.specs.Resources.{dynamic_reference}
 use Rattle.kube_history.specs.CoreEvents.{CoreEvent}
 use Rattle.kube_final.specs.Finalizers.{finalizers_in, first_index}
 use Rattle.kube_server.specs.History.{Change, Adds, Modifies, Removes, Key, IsHistory, IsLater, change_seen, key_of, object_at, state_of}
-use Rattle.kube_server.specs.Servers.{IsAtMostStep, IsHeldAnd, IsStep, ServerState, deleting, deletion, has_finalizers, held, held_under, is_deleting, meta_of, next_revision, put_object, put_over, reference_key, removal, uid_of, with_version}
+use Rattle.kube_server.specs.Servers.{IsAtMostStep, IsHeldAnd, IsStep, ServerState, deleting, deletion, has_finalizers, held_under, is_deleting, meta_of, next_revision, put_object, put_over, reference_key, removal, uid_of, with_version}
 use Rattle.kube_server.specs.Connections.{Connection}
 use Rattle.kube_server.specs.declared.server.ServerRefusal.{ServerRefusal}
 use Rattle.kube_server.proofs.HistoryLemmas.{found-in-history, history-front}
@@ -17,7 +17,8 @@ use Rattle.kube_children.specs.declared.change.Change.{Change as ParentChange}
 use Rattle.kube_children.specs.declared.change.Change.TheVariants.{Put, Delete}
 use Rattle.kube_children.specs.declared.round.Round.{Round}
 use Rattle.kube_children.specs.Changes.{IsChanged, put_as}
-use Rattle.kube_children.specs.Kept.{AreNewParents, IsKept, IsNewParent, is_guarded}
+use Rattle.kube_children.specs.Lives.{AreNewParents, IsNewParent, is_guarded}
+use Rattle.kube_children.specs.Kept.{IsKept}
 use Rattle.kube_children.proofs.Lives.{GuardsNone, KeepsGuards, KeepsLives, deleted-more, guarded-more, lives-more, passed-more}
 use Rattle.kube_children.proofs.Keeping.{kept-changed}
 
@@ -43,7 +44,7 @@ record IsPutOver (changes : List (Change DynamicObject)) (o : DynamicObject) : T
 record IsFree (kind : ObjectType) (name : List ℕ) (changes : List (Change DynamicObject)) (o : DynamicObject) : Type 0 where
   pub old : DynamicObject
   pub stands : object_at (key_of o.metadata) (state_of meta_of changes) ≡ Some old
-  pub free : is_guarded kind name old ≡ false
+  pub free : is_guarded name old ≡ false
 
 -- what goes has not the finalizer
 abbrev IsSafe : ObjectType → List ℕ → List (Change DynamicObject) → Change DynamicObject → Type 0
@@ -65,7 +66,7 @@ safe-guards kind name changes es (Modifies o) safe = λ old uid found named guar
     inl (safe.over.uid ∙ ap (λ (x : DynamicObject). x.metadata.uid) same ∙ named, stays)
 safe-guards kind name changes es (Removes o) safe = λ old uid found named guarded.
     let same : safe.old ≡ old = let e : Some safe.old ≡ Some old = sym safe.stands ∙ found in cc in
-    absurd (true≢false (sym guarded ∙ ap (is_guarded kind name) (sym same) ∙ safe.free))
+    absurd (true≢false (sym guarded ∙ ap (is_guarded name) (sym same) ∙ safe.free))
 
 safe-none : (kind : ObjectType) (name : List ℕ) (changes : List (Change DynamicObject)) (change : Change DynamicObject) → IsNewParent name (suc (length changes)) change → IsSafe kind name changes change → GuardsNone kind name changes change
 safe-none kind name changes (Adds o) fresh safe = ap is_some fresh.1

@@ -1,5 +1,5 @@
 -- Takes that are dealt with, one after another.
-use Rattle.std.proofs.Common.{◌≡◌, ℕ, ◌+◌, ◌≤◌, ◌^◌, Bool, true, false, cond, not, ◌&&◌, ◌||◌, List, [], ◌∷◌, ◌++◌, fold, count_by, Option, Some, None, Result, Ok, Err, is_none, refl, sym, ap, subst, ◌∙◌, append_assoc, append-nil, arith}
+use Rattle.std.proofs.Common.{◌≡◌, ℕ, ◌+◌, Bool, true, false, cond, ◌||◌, List, [], ◌∷◌, ◌++◌, fold, count_by, Option, Some, None, Result, Ok, Err, is_none, refl, sym, ap, subst, ◌∙◌, append_assoc, append-nil, arith}
 use Rattle.std.specs.List.{cons_option}
 use Rattle.std.proofs.lemmas.List.Sums.{fold-append, sum_by_from}
 use Rattle.kube_meta.specs.declared.dynamic.DynamicObject.{DynamicObject}
@@ -20,7 +20,7 @@ use Rattle.kube_final.specs.Finalizers.{decision_on}
 use Rattle.kube_children.proofs.Holdings.{step-kind}
 use Rattle.kube_final.specs.declared.finalizer.Decision.{Decision}
 use Rattle.kube_final.specs.declared.finalizer.Decision.TheVariants.{Apply, Cleanup, AddFirst, AddMore, Nothing, Unnamed}
-use Rattle.kube_children.specs.declared.asking.Asked.{Asked}
+use Rattle.kube_children.specs.declared.round.Asked.{Asked}
 use Rattle.kube_children.specs.declared.hand_over.Handled.{Handled}
 use Rattle.kube_children.specs.declared.round.GenFault.{GenFault}
 use Rattle.kube_children.specs.declared.round.Round.{Round}

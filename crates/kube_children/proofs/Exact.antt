@@ -1,6 +1,6 @@
 -- An Apply keeps the children exactly those that are wanted.
 use Rattle.std.proofs.Common.{◌≡◌, ℕ, zero, suc, Bool, true, false, cond, not, ◌&&◌, ◌||◌, List, [], ◌∷◌, ◌++◌, slice_get, Option, Some, None, refl, sym, ap, subst, ◌∙◌, append-nil, true≢false}
-use Rattle.std.specs.List.{AllByRecursion, cons_option, filter_map}
+use Rattle.std.specs.List.{cons_option, filter_map}
 use Rattle.std.specs.Option.{option_eq, option_or}
 use Rattle.std.specs.Str.{bytes_eq}
 use Rattle.std.proofs.lemmas.Slice.Eq.{bytes_eq-Decides}
@@ -18,7 +18,7 @@ use Rattle.kube_history.specs.SettledEvents.{handed_by, last_handed_in}
 use Rattle.kube_server.specs.History.{Key, key_of}
 use Rattle.kube_children.specs.Wanted.{children_of, is_alike, is_only, is_owned_by, owner_of, owners_in, same_child, same_owner, same_owners, wanted}
 use Rattle.kube_children.specs.Branches.{Holding, first_foreign, found_in, is_among, is_foreign, name_in, same_place}
-use Rattle.kube_children.specs.Kept.{IsOneOf}
+use Rattle.kube_children.specs.Exactly.{IsOneOf}
 
 -- ---- the last hand-over, after one event more
 

@@ -1,5 +1,5 @@
 -- What a server holds, as it is seen, after one change more.
-use Rattle.std.proofs.Common.{◌≡◌, ℕ, ◌+◌, Bool, true, false, cond, List, [], ◌∷◌, ◌++◌, length, map, option_map, Option, Some, None, Ordering, Less, Equal, Greater, Global, refl, sym, ap, subst, ◌∙◌, length-append}
+use Rattle.std.proofs.Common.{◌≡◌, ◌+◌, Bool, true, false, cond, List, [], ◌∷◌, ◌++◌, length, map, option_map, Option, Some, None, Ordering, Less, Equal, Greater, Global, refl, sym, ap, subst, ◌∙◌, length-append}
 use Rattle.std.specs.Arc.{arc_value}
 use Rattle.std.specs.Ordering.{match_ordering}
 use Rattle.std.specs.declared.sync.Arc.{Arc}

@@ -1,5 +1,5 @@
 -- What rounds keep, before the first and after a change of the parents.
-use Rattle.std.proofs.Common.{◌≡◌, ℕ, zero, suc, true, false, List, [], ◌∷◌, take, Option, Some, None, refl, sym, ap, subst, ◌∙◌, arith}
+use Rattle.std.proofs.Common.{◌≡◌, ℕ, zero, suc, true, false, List, [], ◌∷◌, take, Some, None, refl, sym, ap, subst, ◌∙◌, arith}
 use Rattle.kube_meta.specs.declared.dynamic.DynamicObject.{DynamicObject}
 use Rattle.kube_meta.specs.Reference.{ObjectType}
 use Rattle.kube_server.specs.History.{Change, Key, object_at, state_at, state_of}
@@ -7,7 +7,8 @@ use Rattle.kube_server.specs.Servers.{ServerState, meta_of}
 use Rattle.kube_server.specs.Connections.{Connection, fresh}
 use Rattle.kube_children.specs.declared.round.Round.{Round}
 use Rattle.kube_children.specs.Branches.{holding}
-use Rattle.kube_children.specs.Kept.{AreLives, AreNewParents, IsGuardedUntilCleaned, IsKept, IsNeverTakenBack, IsPassed}
+use Rattle.kube_children.specs.Lives.{AreLives, AreNewParents, IsGuardedUntilCleaned, IsNeverTakenBack, IsPassed}
+use Rattle.kube_children.specs.Kept.{IsKept}
 use Rattle.kube_history.specs.CoreEvents.{CoreEvent}
 
 -- without changes nothing stands anywhere
@@ -51,7 +52,7 @@ kept-first kind name parents children conn none no-children made =
 
 -- a change of the parents that puts no new one with a uid or with the finalizer
 pub kept-changed : (kind : ObjectType) (name : List ℕ) (old new children : ServerState) (conn : Connection DynamicObject) (es : List (CoreEvent DynamicObject)) (rounds : List Round) → AreNewParents name 0 new.changes
-    → AreLives new.changes → IsNeverTakenBack kind name new.changes → IsGuardedUntilCleaned kind name new.changes es → (k : IsKept kind name old children conn es rounds) → IsPassed kind name new.changes k.revision → IsKept kind name new children conn es rounds
+    → AreLives new.changes → IsNeverTakenBack new.changes → IsGuardedUntilCleaned name new.changes es → (k : IsKept kind name old children conn es rounds) → IsPassed name new.changes k.revision → IsKept kind name new children conn es rounds
 kept-changed kind name old new children conn es rounds fresh-parents lives deleted guarded k passed = record {
   acts = k.acts;
   made = k.made;

@@ -1,5 +1,5 @@
 -- What the lives of parents keep, after one change more of their server.
-use Rattle.std.proofs.Common.{◌≡◌, ◌⊎◌, inl, inr, ℕ, zero, suc, ◌≤◌, ◌<◌, ◌^◌, Bool, true, false, cond, List, [], ◌∷◌, ◌++◌, length, take, slice_get, Option, Some, None, is_some, refl, sym, ap, subst, ◌∙◌, arith, length-append, true≢false}
+use Rattle.std.proofs.Common.{◌≡◌, ◌⊎◌, inl, inr, ℕ, zero, suc, ◌≤◌, ◌<◌, ◌^◌, Bool, true, false, cond, List, [], ◌∷◌, ◌++◌, length, slice_get, Option, Some, None, is_some, refl, sym, ap, subst, ◌∙◌, arith, length-append, true≢false}
 use Rattle.std.specs.Prelude.{codes, decimal}
 use Rattle.std.specs.List.{list_any}
 use Rattle.std.proofs.Math.Seq.{take-length}
@@ -13,7 +13,7 @@ use Rattle.kube_server.specs.History.{Change, Adds, Modifies, Removes, Key, key_
 use Rattle.kube_server.specs.Servers.{made_uid, meta_of}
 use Rattle.kube_server.proofs.HistoryLemmas.{same-equal}
 use Rattle.kube_server.proofs.StateLemmas.{found-more}
-use Rattle.kube_children.specs.Kept.{AreLives, IsBorn, IsGuardedUntilCleaned, IsNeverTakenBack, IsPassed, StandsGuarded, cleans, is_guarded}
+use Rattle.kube_children.specs.Lives.{AreLives, IsBorn, IsGuardedUntilCleaned, IsNeverTakenBack, IsPassed, StandsGuarded, cleans, is_guarded}
 
 -- ---- lists
 
@@ -73,20 +73,20 @@ KeepsLives changes (Removes o) = Unit {0}
 -- what has the finalizer keeps it, or was handed over to be cleaned up
 abbrev pub KeepsGuards : ObjectType → List ℕ → List (Change DynamicObject) → List (CoreEvent DynamicObject) → Change DynamicObject → Type 0
 KeepsGuards kind name changes es (Adds o) = object_at (key_of o.metadata) (state_of meta_of changes) ≡ None
-KeepsGuards kind name changes es (Modifies o) = (old : DynamicObject) (uid : List ℕ) → object_at (key_of o.metadata) (state_of meta_of changes) ≡ Some old → old.metadata.uid ≡ Some uid → is_guarded kind name old ≡ true
-    → StandsGuarded kind name (Some uid) (Some o) ⊎ (list_any (cleans kind name uid) es ≡ true)
-KeepsGuards kind name changes es (Removes o) = (old : DynamicObject) (uid : List ℕ) → object_at (key_of o.metadata) (state_of meta_of changes) ≡ Some old → old.metadata.uid ≡ Some uid → is_guarded kind name old ≡ true
-    → list_any (cleans kind name uid) es ≡ true
+KeepsGuards kind name changes es (Modifies o) = (old : DynamicObject) (uid : List ℕ) → object_at (key_of o.metadata) (state_of meta_of changes) ≡ Some old → old.metadata.uid ≡ Some uid → is_guarded name old ≡ true
+    → StandsGuarded name (Some uid) (Some o) ⊎ (list_any (cleans name uid) es ≡ true)
+KeepsGuards kind name changes es (Removes o) = (old : DynamicObject) (uid : List ℕ) → object_at (key_of o.metadata) (state_of meta_of changes) ≡ Some old → old.metadata.uid ≡ Some uid → is_guarded name old ≡ true
+    → list_any (cleans name uid) es ≡ true
 
 -- what has the finalizer then had it before, of the same uid
 pub record IsGuardedBefore (kind : ObjectType) (name : List ℕ) (changes : List (Change DynamicObject)) (o : DynamicObject) : Type 0 where
   pub old : DynamicObject
   pub stands : object_at (key_of o.metadata) (state_of meta_of changes) ≡ Some old
   pub uid : o.metadata.uid ≡ old.metadata.uid
-  pub guarded : is_guarded kind name o ≡ true → is_guarded kind name old ≡ true
+  pub guarded : is_guarded name o ≡ true → is_guarded name old ≡ true
 
 abbrev pub GuardsNone : ObjectType → List ℕ → List (Change DynamicObject) → Change DynamicObject → Type 0
-GuardsNone kind name changes (Adds o) = is_guarded kind name o ≡ false
+GuardsNone kind name changes (Adds o) = is_guarded name o ≡ false
 GuardsNone kind name changes (Modifies o) = IsGuardedBefore kind name changes o
 GuardsNone kind name changes (Removes o) = Unit {0}
 
@@ -161,7 +161,7 @@ module _ (kind : ObjectType) (name : List ℕ) (changes : List (Change DynamicOb
 
   -- ---- deletions
 
-  pub deleted-more : length after < 2 ^ 64 → AreLives changes → KeepsLives changes change → IsNeverTakenBack kind name changes → IsNeverTakenBack kind name after
+  pub deleted-more : length after < 2 ^ 64 → AreLives changes → KeepsLives changes change → IsNeverTakenBack changes → IsNeverTakenBack after
   deleted-more bound lives keeps deleted key r s o p rises within at-r at-s same deleting = by-revision (cases_lt (length changes) s) (cases_lt (length changes) r)
     where
       old-o : r ≤ length changes → object_at key (state_at meta_of changes r) ≡ Some o
@@ -195,9 +195,9 @@ module _ (kind : ObjectType) (name : List ℕ) (changes : List (Change DynamicOb
 
   -- it stands with the finalizer, or was handed over to be cleaned up
   abbrev StaysOr : List (CoreEvent DynamicObject) → List ℕ → Option DynamicObject → Type 0
-  StaysOr es uid found = StandsGuarded kind name (Some uid) found ⊎ (list_any (cleans kind name uid) es ≡ true)
+  StaysOr es uid found = StandsGuarded name (Some uid) found ⊎ (list_any (cleans name uid) es ≡ true)
 
-  pub guarded-more : (es : List (CoreEvent DynamicObject)) → KeepsGuards kind name changes es change → IsGuardedUntilCleaned kind name changes es → IsGuardedUntilCleaned kind name after es
+  pub guarded-more : (es : List (CoreEvent DynamicObject)) → KeepsGuards kind name changes es change → IsGuardedUntilCleaned name changes es → IsGuardedUntilCleaned name after es
   guarded-more es keeps guarded key r s o uid rises within at-r named has = by-revision (cases_lt (length changes) s) (cases_lt (length changes) r)
     where
       itself : StaysOr es uid (Some o)
@@ -207,11 +207,11 @@ module _ (kind : ObjectType) (name : List ℕ) (changes : List (Change DynamicOb
       put-over q x true is put old = put (same-equal key (key_of q.metadata) is)
       put-over q x false is put old = old
 
-      gone : (q x : DynamicObject) (b : Bool) → same_key key (key_of q.metadata) ≡ b → (key ≡ key_of q.metadata → list_any (cleans kind name uid) es ≡ true) → StaysOr es uid (Some x) → StaysOr es uid (cond b None (Some x))
+      gone : (q x : DynamicObject) (b : Bool) → same_key key (key_of q.metadata) ≡ b → (key ≡ key_of q.metadata → list_any (cleans name uid) es ≡ true) → StaysOr es uid (Some x) → StaysOr es uid (cond b None (Some x))
       gone q x true is removed old = inr (removed (same-equal key (key_of q.metadata) is))
       gone q x false is removed old = old
 
-      by-change : (c : Change DynamicObject) → KeepsGuards kind name changes es c → (x : DynamicObject) → object_at key (state_of meta_of changes) ≡ Some x → StandsGuarded kind name (Some uid) (Some x) → StaysOr es uid (found_after meta_of key (Some x) c)
+      by-change : (c : Change DynamicObject) → KeepsGuards kind name changes es c → (x : DynamicObject) → object_at key (state_of meta_of changes) ≡ Some x → StandsGuarded name (Some uid) (Some x) → StaysOr es uid (found_after meta_of key (Some x) c)
       by-change (Adds q) none x found stays =
           put-over q x (same_key key (key_of q.metadata)) refl (λ here. absurd (let no : None ≡ Some x = sym none ∙ sym (ap (λ k. object_at k (state_of meta_of changes)) here) ∙ found in cc)) (inl stays)
       by-change (Modifies q) over x found stays =
@@ -219,7 +219,7 @@ module _ (kind : ObjectType) (name : List ℕ) (changes : List (Change DynamicOb
       by-change (Removes q) over x found stays =
           gone q x (same_key key (key_of q.metadata)) refl (λ here. over x uid (sym (ap (λ k. object_at k (state_of meta_of changes)) here) ∙ found) stays.0 stays.1) (inl stays)
 
-      from-found : (found : Option DynamicObject) → object_at key (state_of meta_of changes) ≡ found → StandsGuarded kind name (Some uid) found → StaysOr es uid (found_after meta_of key found change)
+      from-found : (found : Option DynamicObject) → object_at key (state_of meta_of changes) ≡ found → StandsGuarded name (Some uid) found → StaysOr es uid (found_after meta_of key found change)
       from-found None is stays = absurd stays
       from-found (Some x) is stays = by-change change keeps x is stays
 
@@ -230,19 +230,19 @@ module _ (kind : ObjectType) (name : List ℕ) (changes : List (Change DynamicOb
       by-revision : (length changes < s) ⊎ (s ≤ length changes) → (length changes < r) ⊎ (r ≤ length changes) → StaysOr es uid (object_at key (state_at meta_of after s))
       by-revision (inr low) high =
           let below : r ≤ length changes = omega (arith, rises, low) in
-          subst (StaysOr es uid) Or es uid (sym (ap (λ cs. object_at key (state_of meta_of cs)) (take-append-le s changes (change ∷ []) low)))
+          subst (StaysOr es uid) (sym (ap (λ cs. object_at key (state_of meta_of cs)) (take-append-le s changes (change ∷ []) low)))
           (guarded key r s o uid rises low (earlier key r o below at-r) named has)
       by-revision (inl above) (inr below) =
           let before : StaysOr es uid (object_at key (state_at meta_of changes (length changes))) = guarded key r (length changes) o uid below (omega arith) (earlier key r o below at-r) named has in
           let newest : StaysOr es uid (object_at key (state_of meta_of changes)) = subst (λ cs. StaysOr es uid (object_at key (state_of meta_of cs))) (take-length changes) before in
-          subst (StaysOr es uid) Or es uid (sym (ap (object_at key) (newest-at s above within) ∙ found-more meta_of key changes change)) (from-before newest)
+          subst (StaysOr es uid) (sym (ap (object_at key) (newest-at s above within) ∙ found-more meta_of key changes change)) (from-before newest)
       by-revision (inl above) (inl top) =
           let one : state_at meta_of after s ≡ state_at meta_of after r = newest-at s above within ∙ sym (newest-at r top (omega (arith, rises, within))) in
-          subst (StaysOr es uid) Or es uid (sym (ap (object_at key) one ∙ at-r)) itself
+          subst (StaysOr es uid) (sym (ap (object_at key) one ∙ at-r)) itself
 
   -- ---- one life under each key
 
-  pub passed-more : (revision : ℕ) → GuardsNone kind name changes change → IsPassed kind name changes revision → IsPassed kind name after revision
+  pub passed-more : (revision : ℕ) → GuardsNone kind name changes change → IsPassed name changes revision → IsPassed name after revision
   passed-more revision none passed key r q o low within at-q has deleting at-o guarded = by-revision (cases_lt (length changes) r)
     where
       newest : length changes < length after
@@ -252,10 +252,10 @@ module _ (kind : ObjectType) (name : List ℕ) (changes : List (Change DynamicOb
       old-q below = earlier key r q below at-q
 
       by-put : (c : Change DynamicObject) → GuardsNone kind name changes c → r ≤ length changes → PutsUnder key o c → q.metadata.uid ≡ o.metadata.uid
-      by-put (Adds n) bare below (here, put) = absurd (true≢false (sym guarded ∙ ap (is_guarded kind name) (sym put) ∙ bare))
+      by-put (Adds n) bare below (here, put) = absurd (true≢false (sym guarded ∙ ap (is_guarded name) (sym put) ∙ bare))
       by-put (Modifies n) m below (here, put) =
           let stays : object_at key (state_of meta_of changes) ≡ Some m.old = ap (λ k. object_at k (state_of meta_of changes)) here ∙ m.stands in
-          let before : is_guarded kind name m.old ≡ true = m.guarded (ap (is_guarded kind name) put ∙ guarded) in
+          let before : is_guarded name m.old ≡ true = m.guarded (ap (is_guarded name) put ∙ guarded) in
           passed key r q m.old low below (old-q below) has deleting (whole key m.old stays) before ∙ sym m.uid ∙ ap (λ (x : DynamicObject). x.metadata.uid) put
       by-put (Removes n) m below puts = absurd puts
 

@@ -1,5 +1,5 @@
 -- What stands under each key after a branch.
-use Rattle.std.proofs.Common.{◌≡◌, ℕ, zero, suc, ◌+◌, Bool, true, false, cond, ◌&&◌, ◌||◌, List, [], ◌∷◌, map, filter, fold, Option, Some, None, slice_get, refl, sym, ap, subst, ◌∙◌}
+use Rattle.std.proofs.Common.{◌≡◌, ℕ, zero, suc, ◌+◌, Bool, true, false, cond, ◌||◌, List, [], ◌∷◌, map, filter, Option, Some, None, slice_get, refl, sym, ap, subst, ◌∙◌}
 use Rattle.std.specs.List.{AllByRecursion, IsDistinct, list_any}
 use Rattle.std.specs.List.Sorted.{IsStrictlySortedBy}
 use Rattle.kube_meta.specs.declared.dynamic.DynamicObject.{DynamicObject}
@@ -14,7 +14,7 @@ use Rattle.kube_server.proofs.StateLemmas.{found-changed}
 use Rattle.kube_server.proofs.WholeLemmas.{found-put, same-itself}
 use Rattle.kube_children.specs.Wanted.{same_child}
 use Rattle.kube_children.specs.Branches.{Holding, found_in, holding, holding_after, is_same_as, is_there, is_unwanted, less_at, less_found, less_objects, less_unwanted, seen_state, unwanted, with_child, with_children}
-use Rattle.kube_children.specs.Kept.{IsHeldAs, IsOneOf}
+use Rattle.kube_children.specs.Exactly.{IsHeldAs, IsOneOf}
 
 -- ---- objects under their own keys, in order
 

@@ -1,5 +1,5 @@
 -- A round, from its asks, its settle and its takes.
-use Rattle.std.proofs.Common.{◌≡◌, ◌≤◌, ◌⊎◌, inl, inr, ℕ, Bool, true, false, ◌||◌, List, [], ◌∷◌, ◌++◌, map, fold, Option, Some, None, refl, sym, ap, subst, ◌∙◌, append_assoc, append-nil, arith, cond, ltb-false, nat_le, nat_lt, ◌^◌}
+use Rattle.std.proofs.Common.{◌≡◌, ◌≤◌, ◌⊎◌, inl, inr, ℕ, Bool, true, false, ◌||◌, List, [], ◌∷◌, ◌++◌, map, fold, Some, None, refl, sym, ap, subst, ◌∙◌, append_assoc, append-nil, arith, cond, ltb-false, nat_le, nat_lt, ◌^◌}
 use Rattle.std.proofs.lemmas.List.Sums.{fold-append}
 use Rattle.std.specs.declared.alloc.Global.{Global}
 use Rattle.std.specs.declared.sync.Arc.{Arc}
@@ -26,7 +26,7 @@ use Rattle.kube_asks.specs.Roots.{RootStands}
 use Rattle.kube_step.specs.Calls.{ArePolled}
 use Rattle.kube_honest.proofs.Reached.{HasLog, log-on}
 use Rattle.kube_honest.proofs.Tellings.{reached-polls}
-use Rattle.kube_children.specs.declared.asking.Asked.{Asked}
+use Rattle.kube_children.specs.declared.round.Asked.{Asked}
 use Rattle.kube_children.specs.declared.round.Round.{Round}
 use Rattle.kube_children.specs.Asking.{AreAsked, MayAsk}
 use Rattle.kube_children.specs.declared.round.GenError.TheVariants.{BadMoment}
@@ -34,7 +34,8 @@ use Rattle.kube_children.specs.Changes.{refusal_of}
 use Rattle.kube_children.specs.Generators.{Generating, IsLive, IsLiveUnlessSpent, IsRound, Past, StandsFor, no_rounds, type_of, with_round, world_of}
 use Rattle.kube_children.specs.Handling.{opened_by, with_dealt}
 use Rattle.kube_children.specs.HandOvers.{AreDealt, Dealt, Servers}
-use Rattle.kube_children.specs.Rounds.{Root, conn_api, conn_of, fed, generator_world, is_held, related_polls, root_polls, root_settings, round_events, round_of, takes_of}
+use Rattle.kube_children.specs.Roots.{Root, conn_api, conn_of, fed, generator_world, is_held, related_polls, root_polls, root_settings}
+use Rattle.kube_children.specs.Rounds.{round_events, round_of, takes_of}
 use Rattle.kube_children.proofs.Dealing.{answers-join, counts-are, dealt-kind, dealt-later, shut-join, takes-answer-nothing, takes-idle, takes-shut-nothing}
 
 -- ---- another API of the root leaves what it stands for

@@ -21,9 +21,9 @@ use Rattle.kube_asks.specs.declared.sets.NoRelated.{NoRelated}
 use Rattle.kube_asks.specs.Asking.{Asking, AskStands, IsPolledAt}
 use Rattle.kube_asks.specs.Roots.{RootStands}
 use Rattle.kube_step.specs.Calls.{ArePolled}
-use Rattle.kube_children.specs.declared.asking.Asked.{Asked}
+use Rattle.kube_children.specs.declared.round.Asked.{Asked}
 use Rattle.kube_children.specs.Generators.{type_of}
-use Rattle.kube_children.specs.Rounds.{Root, generator_world, is_held, related_polls, root_polls, root_settings}
+use Rattle.kube_children.specs.Roots.{Root, generator_world, is_held, related_polls, root_polls, root_settings}
 
 module _ {B : Type 0} (delays : backoff.Ghosts B) (first : B) (kind : ObjectType) where
   -- the root and the core are what these events leave, of which these are the answers, those before the round and those of it

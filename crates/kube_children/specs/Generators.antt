@@ -14,7 +14,7 @@ use Rattle.kube_history.specs.CoreWorld.{core_world}
 use Rattle.kube_history.specs.CoreEvents.{CoreEvent, answers_in, running_of, was_shut}
 use Rattle.kube_history.specs.Agrees.{EachFits}
 use Rattle.kube_server.specs.History.{IsLater}
-use Rattle.kube_server.specs.Servers.{ServerState, meta_of}
+use Rattle.kube_server.specs.Servers.{meta_of}
 use Rattle.kube_core.specs.Cores.{Parts, StandsFor as CoreStands}
 use Rattle.kube_watch.specs.Stands.{settings_in}
 use Rattle.kube_asks.specs.declared.sets.NoRelated.{NoRelated}
@@ -23,7 +23,8 @@ use Rattle.kube_asks.specs.Roots.{RootStands}
 use Rattle.kube_step.specs.Calls.{ArePolled}
 use Rattle.kube_children.specs.declared.round.Round.{Round}
 use Rattle.kube_children.specs.HandOvers.{Servers, Dealt, AreDealt}
-use Rattle.kube_children.specs.Rounds.{Root, conn_of, fed, generator_world, related_polls, root_polls, root_settings, round_events, round_of, IsAskedOut}
+use Rattle.kube_children.specs.Roots.{Root, conn_of, fed, generator_world, related_polls, root_polls, root_settings, IsAskedOut}
+use Rattle.kube_children.specs.Rounds.{round_events, round_of}
 
 -- the finalizer's name, the servers, what asks the parents' one, what decides, the moment of the last round, and whether a round once had no memory
 pub record Generating (B : Type 0) : Type 0 where

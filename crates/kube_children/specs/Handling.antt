@@ -18,7 +18,7 @@ use Rattle.kube_final.specs.declared.finalizer.Error.TheVariants.{ApplyFailed, C
 use Rattle.kube_final.specs.declared.finalizer.PatchFailed.TheVariants.{Refused, Fault}
 use Rattle.kube_final.specs.Finalizers.{Branch, Applies, Cleans, decision_on}
 use Rattle.kube_final.specs.FinalizerPolls.{Answer, Course, Ends, Waits, Sends, answer_by, course}
-use Rattle.kube_children.specs.declared.asking.Asked.{Asked}
+use Rattle.kube_children.specs.declared.round.Asked.{Asked}
 use Rattle.kube_children.specs.declared.hand_over.Handled.{Handled}
 use Rattle.kube_children.specs.declared.round.GenFault.{GenFault}
 use Rattle.kube_children.specs.declared.round.GenFault.TheVariants.{Patch}

@@ -7,20 +7,13 @@ ghost use Rattle.kube_model.specs.History.{Dated};
 ghost use Rattle.kube_history.specs.CoreEvents.{CoreEvent};
 ghost use Rattle.kube_children.specs.Asking.{AreAsked, IsOneAsked, MayAsk};
 
+use crate::round::Asked;
 use kube_asks::{Asks, Backoff, NoRelated, WatchRoot};
 use kube_core::Core;
 use kube_meta::{DynamicObject, Moment, NoMemory};
 use kube_server::Conn;
 use kube_turn::Answer;
 use std::alloc::Global;
-
-/// What a round asked.
-#[derive(Clone, Copy)]
-pub(crate) struct Asked {
-    pub asks: u32,
-    /// Whether the root told not ready.
-    pub not_ready: bool,
-}
 
 /// Asks the root once more, where it is left to ask, and tells the core what it answered. Whether it told not ready.
 ///

@@ -8,9 +8,10 @@ ghost use Rattle.kube_server.specs.Servers.{newest};
 ghost use Rattle.kube_children.specs.declared.round.GenError.TheVariants as errors;
 ghost use Rattle.kube_children.specs.Changes.{IsChanged, is_plain, is_unnamed, names_none, refusal_of};
 ghost use Rattle.kube_children.specs.Generators.{Past, StandsFor, IsRound, no_rounds};
-ghost use Rattle.kube_children.specs.Kept.{AreNewParents, HoldsWhatParentsWant, IsAtRest, Keeps, had_foreign};
+ghost use Rattle.kube_children.specs.Lives.{AreNewParents};
+ghost use Rattle.kube_children.specs.Kept.{HoldsWhatParentsWant, IsAtRest, Keeps, had_foreign};
 ghost use Rattle.kube_watch.specs.Configs.{settings_of};
-ghost use Rattle.kube_children.specs.Rounds.{conn_of, fed, root_settings};
+ghost use Rattle.kube_children.specs.Roots.{conn_of, fed, root_settings};
 
 use crate::asking::ask_all;
 use crate::change::{Change, put_over};

@@ -4,7 +4,6 @@ ghost use Rattle.std.specs.Prelude.{◌≡◌, OnOk};
 ghost use Rattle.kube_children.specs.declared.round.GenError.TheVariants.{NoMemory as out_of_memory};
 ghost use Rattle.kube_children.specs.Handling.{one_more as one_more_of, opened_by, with_handled};
 
-use crate::asking::Asked;
 use crate::hand_over::Handled;
 use kube_api::PatchRefusal;
 use kube_meta::{List, Moment, NoMemory, Text};
@@ -20,6 +19,14 @@ pub enum GenFault {
     /// The patch was refused: the parent is not as it was seen.
     #[error("{0}")]
     Patch(PatchRefusal),
+}
+
+/// What a round asked.
+#[derive(Clone, Copy)]
+pub(crate) struct Asked {
+    pub asks: u32,
+    /// Whether the root told not ready.
+    pub not_ready: bool,
 }
 
 /// What a round did. The counts of hand-overs and patches stand still at 2^32 - 1.

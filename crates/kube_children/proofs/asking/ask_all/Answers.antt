@@ -1,4 +1,4 @@
-use Rattle.std.proofs.Common.{◌≡◌, ◌<◌, ◌≤◌, ◌+◌, ◌++◌, ◌∷◌, [], inl, inr, length, map, Some, None, true, false, refl, sym, ap, subst, ◌∙◌, arith, length-append}
+use Rattle.std.proofs.Common.{◌<◌, ◌+◌, ◌++◌, ◌∷◌, [], inl, inr, length, map, refl, sym, ap, subst, ◌∙◌, arith, length-append}
 use Rattle.kube_model.specs.History.{dated}
 use Rattle.kube_history.specs.CoreEvents.{Answered}
 use Rattle.kube_children.specs.Asking.{IsOneAsked}

@@ -1,9 +1,9 @@
-use Rattle.std.proofs.Common.{◌≡◌, ◌++◌, ◌∷◌, [], Some, None, refl, ap, subst, ◌∙◌}
+use Rattle.std.proofs.Common.{refl, subst}
 use Rattle.std.specs.Option.{option_map}
 use Rattle.kube_turn.specs.Views.{exchange_of}
 use Rattle.kube_asks.specs.Asking.{IsNextAsked}
 use Rattle.kube_children.specs.Generators.{type_of}
-use Rattle.kube_children.specs.Rounds.{generator_world}
+use Rattle.kube_children.specs.Roots.{generator_world}
 use Rattle.kube_children.proofs.Asking.{asked-none, asked-one, world-is}
 use Rattle.kube_children.proofs.asking.ask_one.Goals as goal
 

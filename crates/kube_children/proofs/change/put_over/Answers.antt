@@ -1,4 +1,4 @@
-use Rattle.std.proofs.Common.{Some, ap, ◌∙◌}
+use Rattle.std.proofs.Common.{ap, ◌∙◌}
 use Rattle.kube_meta.specs.Reading.{seen_object}
 use Rattle.kube_children.specs.Changes.{put_as}
 use Rattle.kube_children.proofs.Holdings.{put-kept}

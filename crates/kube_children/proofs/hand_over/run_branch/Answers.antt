@@ -1,4 +1,4 @@
-use Rattle.std.proofs.Common.{Some, ap, ◌∙◌}
+use Rattle.std.proofs.Common.{Some, ap}
 use Rattle.kube_children.specs.Handling.{ended_by}
 use Rattle.kube_children.proofs.hand_over.run_branch.Goals as goal
 

@@ -1,4 +1,4 @@
-use Rattle.std.proofs.Common.{◌≡◌, ◌≤◌, ◌++◌, [], true, false, not, refl, sym, ap, subst, ◌∙◌, arith, append-nil}
+use Rattle.std.proofs.Common.{◌≤◌, ◌++◌, [], true, false, refl, sym, subst, ◌∙◌, arith, append-nil}
 use Rattle.kube_server.specs.Servers.{meta_of}
 use Rattle.kube_core.specs.Cores.{StandsFor}
 use Rattle.kube_children.specs.Generators.{type_of}

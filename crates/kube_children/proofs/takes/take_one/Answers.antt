@@ -1,4 +1,4 @@
-use Rattle.std.proofs.Common.{◌≡◌, ◌++◌, ◌∷◌, [], Some, refl, subst, ◌∙◌}
+use Rattle.std.proofs.Common.{◌++◌, ◌∷◌, [], refl, subst}
 use Rattle.std.specs.Arc.{arc_value}
 use Rattle.kube_history.specs.CoreEvents.{Took}
 use Rattle.kube_server.specs.Servers.{meta_of}

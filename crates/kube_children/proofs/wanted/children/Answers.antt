@@ -1,4 +1,4 @@
-use Rattle.std.proofs.Common.{◌≡◌, List, [], ◌∷◌, ◌++◌, map, sym, ap, ◌∙◌, append_assoc, append-nil}
+use Rattle.std.proofs.Common.{◌≡◌, [], ◌∷◌, ◌++◌, map, sym, ap, ◌∙◌, append_assoc, append-nil}
 use Rattle.serde_json.proofs.Views.{Entry}
 use Rattle.kube_meta.specs.Reading.{seen_object}
 use Rattle.kube_children.specs.Wanted.{child_of}

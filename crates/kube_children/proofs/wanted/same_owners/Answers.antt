@@ -1,6 +1,5 @@
-use Rattle.std.proofs.Common.{◌≡◌, ◌<◌, suc, ◌∷◌, length, drop, get_or, sym, ap, ap₂, subst, ◌∙◌, arith, drop-cons}
-use Rattle.kube_children.specs.Wanted.{same_owners}
-use Rattle.kube_children.proofs.Wanting.{owners-differ, owners-here, owners-of-lengths}
+use Rattle.std.proofs.Common.{sym, arith}
+use Rattle.kube_children.proofs.Wanting.{owners-of-lengths}
 use Rattle.kube_children.proofs.wanted.same_owners.Goals as goal
 
 pub returns-then-len : goal.returns-then-len

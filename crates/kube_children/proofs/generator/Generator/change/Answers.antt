@@ -4,7 +4,7 @@ use Rattle.kube_children.specs.contracts.generator.Generator.{the_view}
 use Rattle.kube_children.specs.declared.change.Change.TheVariants.{Put, Delete}
 use Rattle.kube_children.specs.Generators.{StandsFor}
 use Rattle.kube_children.specs.Kept.{Keeps}
-use Rattle.kube_children.specs.Rounds.{conn_of}
+use Rattle.kube_children.specs.Roots.{conn_of}
 use Rattle.kube_children.proofs.Changing.{kept-either, kind-either}
 use Rattle.kube_children.proofs.Rounding.{live-changed, stands-changed}
 use Rattle.kube_children.proofs.generator.Generator.change.Goals as goal

@@ -1,11 +1,11 @@
-use Rattle.std.proofs.Common.{◌≡◌, [], refl, sym, ap, ◌∙◌}
+use Rattle.std.proofs.Common.{refl, sym, ap, ◌∙◌}
 use Rattle.kube_history.specs.CoreWorld.{core_world}
 use Rattle.kube_backoff.specs.Backoffs.{default_backoff}
 use Rattle.kube_meta.specs.Resources.{resource_type}
 use Rattle.kube_watch.specs.Configs.{settings_of}
 use Rattle.kube_watch.specs.Stands.{settings_in}
 use Rattle.kube_server.proofs.LaterLemmas.{later_equal}
-use Rattle.kube_children.specs.Rounds.{generator_world}
+use Rattle.kube_children.specs.Roots.{generator_world}
 use Rattle.kube_children.proofs.Keeping.{kept-first}
 use Rattle.kube_children.proofs.Rounding.{live-first, stands-first}
 use Rattle.kube_children.proofs.generator.Generator.new.Goals as goal

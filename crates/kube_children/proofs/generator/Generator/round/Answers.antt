@@ -1,4 +1,4 @@
-use Rattle.std.proofs.Common.{◌≡◌, ◌++◌, ◌∷◌, [], map, refl, sym, ap, subst, ◌∙◌, arith}
+use Rattle.std.proofs.Common.{◌++◌, ◌∷◌, [], map, refl, sym, ap, subst, ◌∙◌, arith}
 use Rattle.kube_history.specs.CoreWorld.{core_world}
 use Rattle.kube_history.specs.CoreEvents.{Answered, Settled}
 use Rattle.kube_backoff.specs.Backoffs.{default_backoff}
@@ -6,7 +6,7 @@ use Rattle.kube_children.specs.contracts.generator.Generator.{the_view}
 use Rattle.kube_children.specs.Asking.{MayAsk}
 use Rattle.kube_children.specs.Generators.{IsRound, StandsFor}
 use Rattle.kube_children.specs.Handling.{with_dealt}
-use Rattle.kube_children.specs.Rounds.{generator_world}
+use Rattle.kube_children.specs.Roots.{generator_world}
 use Rattle.kube_children.proofs.Rounding.{live-round, not-refused, opened, rounded}
 use Rattle.kube_children.proofs.generator.Generator.round.Goals as goal
 
