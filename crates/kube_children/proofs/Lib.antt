@@ -1,13 +1,8 @@
 pub mod Wanting
 pub mod Holdings
+pub mod Changed
 pub mod Branching
 pub mod HandingOver
 pub mod Dealing
 pub mod Asking
 pub mod Rounding
-pub mod Lives
-pub mod Keeping
-pub mod Changing
-pub mod Lookups
-pub mod Exact
-pub mod Applying

@@ -1,5 +1,5 @@
 -- A round, from its asks, its settle and its takes.
-use Rattle.std.proofs.Common.{◌≡◌, ◌≤◌, ◌⊎◌, inl, inr, ℕ, Bool, true, false, ◌||◌, List, [], ◌∷◌, ◌++◌, map, fold, Some, None, refl, sym, ap, subst, ◌∙◌, append_assoc, append-nil, arith, cond, ltb-false, nat_le, nat_lt, ◌^◌}
+use Rattle.std.proofs.Common.{◌≡◌, ◌≤◌, ◌⊎◌, inl, inr, ℕ, zero, suc, Bool, true, false, ◌||◌, List, [], ◌∷◌, ◌++◌, map, fold, Some, None, refl, sym, ap, subst, ◌∙◌, append_assoc, append-nil, arith, cond, ltb-false, nat_le, nat_lt, ◌^◌}
 use Rattle.std.proofs.lemmas.List.Sums.{fold-append}
 use Rattle.std.specs.declared.alloc.Global.{Global}
 use Rattle.std.specs.declared.sync.Arc.{Arc}
@@ -8,6 +8,7 @@ use Rattle.kube_meta.specs.declared.dynamic.DynamicObject.{DynamicObject}
 use Rattle.kube_meta.specs.declared.moment.Moment.{Moment}
 use Rattle.kube_meta.specs.Reference.{ObjectType}
 use Rattle.kube_model.specs.History.{Dated, Exchange, dated}
+use Rattle.kube_model.specs.Raw.{ListAsked, NextAsked, RawCall, WatchAsked}
 use Rattle.kube_model.specs.Takes.{Running}
 use Rattle.kube_backoff.specs.declared.backoff.Backoff as backoff
 use Rattle.kube_history.specs.Agrees.{EachFits}
@@ -15,17 +16,15 @@ use Rattle.kube_history.specs.CoreWorld.{core_world}
 use Rattle.kube_history.specs.CoreEvents.{CoreEvent, Answered, Settled, Took, answers_in, running_of, running_with, was_shut}
 use Rattle.kube_server.specs.History.{IsLater}
 use Rattle.kube_server.specs.Servers.{ServerState, meta_of}
-use Rattle.kube_server.specs.Connections.{Connection, IsSameLog}
+use Rattle.kube_server.specs.Connections.{Connection, IsSameLog, left_by}
 use Rattle.kube_server.proofs.LaterLemmas.{later_equal, later_later}
 use Rattle.kube_watch.specs.Stands.{settings_in}
 use Rattle.kube_core.specs.Cores.{Parts, StandsFor as CoreStands}
 use Rattle.kube_asks.specs.declared.sets.NoRelated.{NoRelated}
-use Rattle.kube_asks.specs.Asking.{Asking, AskStands}
+use Rattle.kube_asks.specs.Asking.{Asking, AskStands, IsPolledAt}
 use Rattle.kube_asks.specs.Lending.{with_root_api}
 use Rattle.kube_asks.specs.Roots.{RootStands}
 use Rattle.kube_step.specs.Calls.{ArePolled}
-use Rattle.kube_honest.proofs.Reached.{HasLog, log-on}
-use Rattle.kube_honest.proofs.Tellings.{reached-polls}
 use Rattle.kube_children.specs.declared.round.Asked.{Asked}
 use Rattle.kube_children.specs.declared.round.Round.{Round}
 use Rattle.kube_children.specs.Asking.{AreAsked, MayAsk}
@@ -34,7 +33,7 @@ use Rattle.kube_children.specs.Changes.{refusal_of}
 use Rattle.kube_children.specs.Generators.{Generating, IsLive, IsLiveUnlessSpent, IsRound, Past, StandsFor, no_rounds, type_of, with_round, world_of}
 use Rattle.kube_children.specs.Handling.{opened_by, with_dealt}
 use Rattle.kube_children.specs.HandOvers.{AreDealt, Dealt, Servers}
-use Rattle.kube_children.specs.Roots.{Root, conn_api, conn_of, fed, generator_world, is_held, related_polls, root_polls, root_settings}
+use Rattle.kube_children.specs.Roots.{Root, conn_of, fed, generator_world, is_held, related_polls, root_polls, root_settings}
 use Rattle.kube_children.specs.Rounds.{round_events, round_of, takes_of}
 use Rattle.kube_children.proofs.Dealing.{answers-join, counts-are, dealt-kind, dealt-later, shut-join, takes-answer-nothing, takes-idle, takes-shut-nothing}
 
@@ -230,9 +229,21 @@ module _ {B : Type 0} (delays : backoff.Ghosts B) (first : B) where
 -- ---- until it is spent
 
 -- polls of the root leave the log of its connection
-pub log-kept : (before ds : List (Dated DynamicObject)) (r r' : Root) (s s' : NoRelated) → ArePolled root_polls related_polls before r s ds r' s' → IsSameLog (conn_of r) (conn_of r')
-log-kept before ds r r' s s' p =
-    reached-polls meta_of conn_api (settings_in r.watcher) related_polls (HasLog (conn_of r).changes (conn_of r).compacted) (λ a now raw b. log-on meta_of (conn_of r).changes (conn_of r).compacted a now raw b) before ds r s r' s' (refl, refl) p
+same-log : (call : RawCall) (old new : Connection DynamicObject) → new ≡ left_by meta_of call old → IsSameLog old new
+same-log (ListAsked params) old new e = (ap (λ c. c.changes) e, ap (λ c. c.compacted) e)
+same-log (WatchAsked params version) old new e = (ap (λ c. c.changes) e, ap (λ c. c.compacted) e)
+same-log NextAsked old new e = (ap (λ c. c.changes) e, ap (λ c. c.compacted) e)
+
+one-poll : (done : List (Dated DynamicObject)) (at : ℕ) (x : Exchange DynamicObject) (r r' : Root) (s s' : NoRelated) (source : ℕ) → IsPolledAt root_polls related_polls done at x r s r' s' source → IsSameLog (conn_of r) (conn_of r')
+one-poll done at x r r' s s' zero p = same-log p.0.call.raw.call (conn_of r) (conn_of r') p.0.call.moved.left
+one-poll done at x r r' s s' (suc place) p = absurd p.0
+
+pub log-kept : (done ds : List (Dated DynamicObject)) (r r' : Root) (s s' : NoRelated) → ArePolled root_polls related_polls done r s ds r' s' → IsSameLog (conn_of r) (conn_of r')
+log-kept done [] r r' s s' p = (ap (λ (q : Root). (conn_of q).changes) p.0, ap (λ (q : Root). (conn_of q).compacted) p.0)
+log-kept done (d ∷ ds) r r' s s' p =
+    let one = one-poll done d.at d.exchange r p.0 s p.1 d.exchange.source p.2 in
+    let rest = log-kept (done ++ d ∷ []) ds p.0 r' p.1 s' p.3 in
+    (rest.0 ∙ one.0, rest.1 ∙ one.1)
 
 -- the log of the connection stays in a round, and the parents' log goes on
 pub live-after : (old new : ServerState) (start kept : Connection DynamicObject) → start.changes ≡ old.changes → start.compacted ≡ old.compacted → IsSameLog start kept

@@ -2,14 +2,10 @@
 pub mod Asking
 pub mod Branches
 pub mod Changes
-pub mod Exactly
 pub mod Generators
 pub mod Handling
 pub mod HandOvers
-pub mod Kept
-pub mod Lives
 pub mod Roots
 pub mod Rounds
 pub mod Rows
-pub mod Sights
 pub mod Wanted

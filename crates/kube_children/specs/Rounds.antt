@@ -5,7 +5,6 @@ use Rattle.kube_meta.specs.declared.dynamic.DynamicObject.{DynamicObject}
 use Rattle.kube_meta.specs.Reference.{Reference}
 use Rattle.kube_model.specs.History.{Exchange}
 use Rattle.kube_model.specs.Owed.{is_not_ready}
-use Rattle.kube_backoff.specs.declared.backoff.Backoff as backoff
 use Rattle.kube_history.specs.CoreEvents.{CoreEvent, Answered, Finished, Settled, Took}
 use Rattle.kube_children.specs.declared.hand_over.Handled.{Handled}
 use Rattle.kube_children.specs.declared.round.GenFault.{GenFault}

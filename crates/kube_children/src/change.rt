@@ -9,7 +9,7 @@ ghost use Rattle.kube_server.specs.Servers.{held_under, meta_of, newest, put_cha
 ghost use Rattle.kube_children.specs.Changes.{is_plain, put_as};
 
 use crate::branch::found;
-use kube_api::patch::holds_fraction;
+use crate::fraction::holds_fraction;
 use kube_meta::text::{copy_option, copy_texts};
 use kube_meta::{DynamicObject, List, NoMemory, ObjectMeta, ObjectRef, Text};
 use kube_server::{Server, ServerRefusal};

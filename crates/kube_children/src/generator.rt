@@ -8,8 +8,6 @@ ghost use Rattle.kube_server.specs.Servers.{newest};
 ghost use Rattle.kube_children.specs.declared.round.GenError.TheVariants as errors;
 ghost use Rattle.kube_children.specs.Changes.{IsChanged, is_plain, is_unnamed, names_none, refusal_of};
 ghost use Rattle.kube_children.specs.Generators.{Past, StandsFor, IsRound, no_rounds};
-ghost use Rattle.kube_children.specs.Lives.{AreNewParents};
-ghost use Rattle.kube_children.specs.Kept.{HoldsWhatParentsWant, IsAtRest, Keeps, had_foreign};
 ghost use Rattle.kube_watch.specs.Configs.{settings_of};
 ghost use Rattle.kube_children.specs.Roots.{conn_of, fed, root_settings};
 
@@ -129,7 +127,6 @@ impl Generator {
         ensures finalizer { IfOk result (λ g. g.finalizer ≡ finalizer.now) }
         ensures last { IfOk result (λ g. g.last.0 ≡ 0) }
         ensures stands { IfOk result (λ g. StandsFor ⟦<DefaultBackoff as Backoff>⟧ default_backoff no_rounds g) }
-        ensures kept { IfOk result (λ g. Keeps no_rounds g) }
     {
         let core = Core::new(alloc, parent.clone()?, Config::default(), 1)?;
         let dyntype = parent.clone()?;
@@ -171,8 +168,6 @@ impl Generator {
         ensures rest { self.new ≡ record self.old { servers = record self.old.servers { parents = self.new.servers.parents } } }
         ensures err { OnErr result (self.new ≡ self.old) }
         ensures stands { (past : Past) → StandsFor ⟦<DefaultBackoff as Backoff>⟧ default_backoff past self.old → StandsFor ⟦<DefaultBackoff as Backoff>⟧ default_backoff past self.new }
-        // where the owner of the servers puts no new parent with a uid or with the finalizer
-        ensures kept { (past : Past) → AreNewParents self.new.finalizer 0 self.new.servers.parents.changes → Keeps past self.old → Keeps past self.new }
     {
         match change {
             Change::Put(object) => put_over(alloc, &mut self.parents, object),
@@ -207,10 +202,6 @@ impl Generator {
     pub fn round(&mut self, alloc: Global, now: Moment, budget: u32) -> Result<Round, GenError>
         ensures round { IfOk result (λ r. (past : Past) → StandsFor ⟦<DefaultBackoff as Backoff>⟧ default_backoff past self.old
             → IsRound ⟦<DefaultBackoff as Backoff>⟧ default_backoff past now budget self.old r self.new) }
-        // what rounds keep until one meets an object of another owner
-        ensures kept { IfOk result (λ r. (past : Past) → StandsFor ⟦<DefaultBackoff as Backoff>⟧ default_backoff past self.old → Keeps past self.old
-            → (made : IsRound ⟦<DefaultBackoff as Backoff>⟧ default_backoff past now budget self.old r self.new) → had_foreign made.after.rounds ≡ false
-            → Keeps made.after self.new × (IsAtRest made.after r → HoldsWhatParentsWant self.new)) }
         ensures last { OnOk result (self.new.last ≡ now) }
         ensures moment { (result ≡ Err (errors.BadMoment now self.old.last)) ↔ (self.old.is_spent ≡ false) × ((2 ^ 63 ≤ now.0) ⊎ (now.0 < self.old.last.0)) }
         ensures refused { IfErr result (λ e. (e ≡ errors.NoMemory → ⊥) → self.new ≡ self.old) }

@@ -4,6 +4,7 @@
 mod asking;
 mod branch;
 pub mod change;
+mod fraction;
 pub mod generator;
 mod hand_over;
 pub mod round;

@@ -1,53 +1,34 @@
-use Rattle.std.proofs.Common.{[], sym, subst, arith}
+use Rattle.std.proofs.Common.{sym, subst}
 use Rattle.kube_backoff.specs.Backoffs.{default_backoff}
 use Rattle.kube_children.specs.contracts.generator.Generator.{the_view}
 use Rattle.kube_children.specs.declared.change.Change.TheVariants.{Put, Delete}
 use Rattle.kube_children.specs.Generators.{StandsFor}
-use Rattle.kube_children.specs.Kept.{Keeps}
-use Rattle.kube_children.specs.Roots.{conn_of}
-use Rattle.kube_children.proofs.Changing.{kept-either, kind-either}
+use Rattle.kube_children.proofs.Changed.{changed-kind}
 use Rattle.kube_children.proofs.Rounding.{live-changed, stands-changed}
 use Rattle.kube_children.proofs.generator.Generator.change.Goals as goal
-
--- the root's connection is as it was, so what rounds keep is as the parents' history keeps it
-pub returns-in-Put-clause-kept : goal.returns-in-Put-clause-kept
-returns-in-Put-clause-kept c past fresh k =
-    let old = the_view c.self.inside in
-    kept-either old.finalizer old.servers.parents c.put_over.new.server old.servers.children (conn_of old.asks.root) past.events past.rounds (Put c.in-Put.object) c.args.now.0 c.put_over.result
-    c.put_over.ensures.revision (omega arith) c.put_over.ensures.history c.put_over.ensures.later c.put_over.ensures.step c.put_over.ensures.err fresh (subst (Keeps past) (sym c.self.view_is) k)
-
-pub returns-in-Delete-clause-kept : goal.returns-in-Delete-clause-kept
-returns-in-Delete-clause-kept c past fresh k =
-    let old = the_view c.self.inside in
-    kept-either old.finalizer old.servers.parents c.request_delete.new.self old.servers.children (conn_of old.asks.root) past.events past.rounds (Delete c.in-Delete.reference) c.args.now.0 c.request_delete.result
-    c.request_delete.ensures.revision (omega arith) c.request_delete.ensures.history c.request_delete.ensures.later c.request_delete.ensures.step c.request_delete.ensures.err fresh (subst (Keeps past) (sym c.self.view_is) k)
 
 -- a generator stands for what it did, whatever its parents are
 pub returns-in-Put-clause-stands : goal.returns-in-Put-clause-stands
 returns-in-Put-clause-stands c past s =
     let old = the_view c.self.inside in
-    let same = kind-either old.finalizer old.servers.parents c.put_over.new.server old.servers.children (conn_of old.asks.root) past.events past.rounds (Put c.in-Put.object) c.args.now.0 c.put_over.result
-    c.put_over.ensures.history c.put_over.ensures.later c.put_over.ensures.step c.put_over.ensures.err in
+    let same = changed-kind old.servers.parents c.put_over.new.server (Put c.in-Put.object) c.args.now.0 c.put_over.result c.put_over.ensures.step c.put_over.ensures.err in
     stands-changed _ default_backoff past old c.put_over.new.server same (subst (StandsFor _ default_backoff past) (sym c.self.view_is) s)
 
 pub returns-in-Delete-clause-stands : goal.returns-in-Delete-clause-stands
 returns-in-Delete-clause-stands c past s =
     let old = the_view c.self.inside in
-    let same = kind-either old.finalizer old.servers.parents c.request_delete.new.self old.servers.children (conn_of old.asks.root) past.events past.rounds (Delete c.in-Delete.reference) c.args.now.0 c.request_delete.result
-    c.request_delete.ensures.history c.request_delete.ensures.later c.request_delete.ensures.step c.request_delete.ensures.err in
+    let same = changed-kind old.servers.parents c.request_delete.new.self (Delete c.in-Delete.reference) c.args.now.0 c.request_delete.result c.request_delete.ensures.step c.request_delete.ensures.err in
     stands-changed _ default_backoff past old c.request_delete.new.self same (subst (StandsFor _ default_backoff past) (sym c.self.view_is) s)
 
 -- the parents' log goes on
 pub invariant_of-self-in-Put : goal.invariant_of-self-in-Put
 invariant_of-self-in-Put c =
     let old = the_view c.self.inside in
-    let same = kind-either old.finalizer old.servers.parents c.put_over.new.server old.servers.children (conn_of old.asks.root) [] [] (Put c.in-Put.object) c.args.now.0 c.put_over.result
-    c.put_over.ensures.history c.put_over.ensures.later c.put_over.ensures.step c.put_over.ensures.err in
+    let same = changed-kind old.servers.parents c.put_over.new.server (Put c.in-Put.object) c.args.now.0 c.put_over.result c.put_over.ensures.step c.put_over.ensures.err in
     live-changed _ default_backoff old c.put_over.new.server same c.put_over.ensures.later c.self.invariant
 
 pub invariant_of-self-in-Delete : goal.invariant_of-self-in-Delete
 invariant_of-self-in-Delete c =
     let old = the_view c.self.inside in
-    let same = kind-either old.finalizer old.servers.parents c.request_delete.new.self old.servers.children (conn_of old.asks.root) [] [] (Delete c.in-Delete.reference) c.args.now.0 c.request_delete.result
-    c.request_delete.ensures.history c.request_delete.ensures.later c.request_delete.ensures.step c.request_delete.ensures.err in
+    let same = changed-kind old.servers.parents c.request_delete.new.self (Delete c.in-Delete.reference) c.args.now.0 c.request_delete.result c.request_delete.ensures.step c.request_delete.ensures.err in
     live-changed _ default_backoff old c.request_delete.new.self same c.request_delete.ensures.later c.self.invariant

@@ -6,7 +6,6 @@ use Rattle.kube_watch.specs.Configs.{settings_of}
 use Rattle.kube_watch.specs.Stands.{settings_in}
 use Rattle.kube_server.proofs.LaterLemmas.{later_equal}
 use Rattle.kube_children.specs.Roots.{generator_world}
-use Rattle.kube_children.proofs.Keeping.{kept-first}
 use Rattle.kube_children.proofs.Rounding.{live-first, stands-first}
 use Rattle.kube_children.proofs.generator.Generator.new.Goals as goal
 
@@ -20,9 +19,6 @@ returns-clause-stands c =
     (c.in_ok-core.ensures.stands (core_world (generator_world _ default_backoff _)) (record { key = refl; named = refl; version = refl }) refl refl)
     (c.new-asks.ensures.stands (generator_world _ default_backoff _) _ refl (record { root = c.new-root.ensures.stands; related = λ place h. tt }))
     c.new-asks.ensures.unspent refl
-
-pub returns-clause-kept : goal.returns-clause-kept
-returns-clause-kept c = kept-first _ _ _ _ _ (ap (λ s. s.changes) c.new-parents.ensures) (ap (λ s. s.changes) c.new-children.ensures) (c.new-root.ensures.api ∙ c.in_ok-conn.ensures)
 
 pub invariant_of-result : goal.invariant_of-result
 invariant_of-result c =
