@@ -262,7 +262,7 @@ took-more S kind name at es ds old mid new r r1 r2 dealt counts t =
 
 pub took-last : (S : List (CoreEvent DynamicObject) → Type 0) (kind : ObjectType) (name : List ℕ) (at : ℕ) (es : List (CoreEvent DynamicObject)) (ds : List Dealt) (old mid new : Servers) (r r1 r2 : Round)
     → AreDealt kind name old ds mid → r1 ≡ with_dealt r ds → IsTake S kind name at (es ++ takes_of at ds) false mid r1 new r2
-    → AreDealt kind name old ds new × (r2 ≡ with_dealt r ds) × S (es ++ takes_of at ds ++ Took at None ∷ [])
+    → AreDealt kind name old ds new × (r2 ≡ with_dealt r ds) × S (es ++ (takes_of at ds ++ Took at None ∷ []))
 took-last S kind name at es ds old mid new r r1 r2 dealt counts t = (
   subst (AreDealt kind name old ds) (sym t.0) dealt,
   t.1 ∙ counts,

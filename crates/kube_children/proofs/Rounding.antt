@@ -130,7 +130,7 @@ module _ {B : Type 0} (delays : backoff.Ghosts B) (first : B) where
     kind = old.servers.parents.kind
 
     pub stands-after : new.servers.parents.kind ≡ kind → new.asks ≡ asks → new.is_spent ≡ false
-        → CoreStands type_of meta_of (core_world (generator_world delays first kind)) (((past.events ++ map (Answered at.0) xs) ++ Settled at.0 ∷ []) ++ takes_of at.0 ds ++ Took at.0 None ∷ []) new.core
+        → CoreStands type_of meta_of (core_world (generator_world delays first kind)) (((past.events ++ map (Answered at.0) xs) ++ Settled at.0 ∷ []) ++ (takes_of at.0 ds ++ Took at.0 None ∷ [])) new.core
         → StandsFor delays first after new
     stands-after same asks-are unspent core =
         let may = k.so.may in
@@ -159,7 +159,7 @@ module _ {B : Type 0} (delays : backoff.Ghosts B) (first : B) where
         e ∙ counts-are asked xs ds first-counts
 
     pub rounded : new.finalizer ≡ old.finalizer → new.servers ≡ servers → new.asks ≡ asks → new.is_spent ≡ false → AreDealt kind old.finalizer old.servers ds servers → r ≡ with_dealt (opened_by asked) ds
-        → CoreStands type_of meta_of (core_world (generator_world delays first kind)) (((past.events ++ map (Answered at.0) xs) ++ Settled at.0 ∷ []) ++ takes_of at.0 ds ++ Took at.0 None ∷ []) new.core
+        → CoreStands type_of meta_of (core_world (generator_world delays first kind)) (((past.events ++ map (Answered at.0) xs) ++ Settled at.0 ∷ []) ++ (takes_of at.0 ds ++ Took at.0 None ∷ [])) new.core
         → IsRound delays first past at budget old r new
     rounded named servers-are asks-are unspent dealt counts core =
         let told = told-is counts in

@@ -1,5 +1,5 @@
 -- The children that a parent wants, member by member.
-use Rattle.std.proofs.Common.{◌≡◌, ℕ, suc, ◌+◌, Bool, true, false, ◌&&◌, List, [], ◌∷◌, ◌++◌, map, length, Less, Equal, String, Global, string_bytes, string_cmp, codes, unwrap_or, refl, sym, ap, ap₂, subst, ◌∙◌}
+use Rattle.std.proofs.Common.{◌≡◌, ◌≤◌, ℕ, suc, ◌+◌, Bool, true, false, ◌&&◌, List, [], ◌∷◌, ◌++◌, map, length, Less, Equal, String, Global, string_bytes, string_cmp, codes, unwrap_or, refl, sym, ap, ap₂, subst, ◌∙◌, arith}
 use Rattle.std.specs.Cmp.{tied_itself}
 use Rattle.std.specs.Cmp.Lexicographic.{slice_cmp}
 use Rattle.std.specs.List.{AllByRecursion, IsDistinct}
@@ -52,7 +52,7 @@ apart parent a b less = by-test (same_key (child_key parent (string_bytes a)) (c
     by-test true e =
         let names : child_name (unwrap_or parent.name []) (string_bytes a) ≡ child_name (unwrap_or parent.name []) (string_bytes b) =
         ap (λ (k : Key). k.name) (same-equal (child_key parent (string_bytes a)) (child_key parent (string_bytes b)) e) in
-        let texts : string_bytes a ≡ string_bytes b = same-end (codes "-") (string_bytes a) (string_bytes b) (same-end (unwrap_or parent.name []) (codes "-" ++ string_bytes a) (codes "-" ++ string_bytes b) names) in
+        let texts : string_bytes a ≡ string_bytes b = same-end (unwrap_or parent.name [] ++ codes "-") (string_bytes a) (string_bytes b) names in
         let equal : slice_cmp nat_cmp (string_bytes a) (string_bytes b) ≡ Equal = subst (λ bs. slice_cmp nat_cmp (string_bytes a) bs ≡ Equal) texts (tied_itself nat_list_cmp_total (string_bytes a)) in
         absurd (let no : Less ≡ Equal = sym less ∙ equal in cc)
 
@@ -78,6 +78,11 @@ pub children-apart : (owner : OwnerReference) (parent : ObjectMeta) (items : Lis
     → IsDistinct same_key (map (λ o. key_of o.metadata) items)
 children-apart owner parent items es so sorted =
     subst (IsDistinct same_key) (sym (keys-of-items items ∙ (ap (map (λ d. key_of d.metadata)) so ∙ keys-of-children owner parent es))) (keys-apart parent es sorted)
+
+pub none-apart : (items : List DynamicObject) → items ≡ [] → IsDistinct same_key (map (λ o. key_of o.metadata) items)
+unfolding IsDistinct
+none-apart [] e = tt
+none-apart (o ∷ items) e = absurd (cc)
 
 -- ---- owners, one after another
 
@@ -110,3 +115,8 @@ more-owners x z y a = by-test (same_owner x y)
     by-test : (t : Bool) → (t && false) ≡ false
     by-test true = refl
     by-test false = refl
+
+pub more-than-one : (os : List OwnerReference) (y : OwnerReference) → 2 ≤ length os → same_owners os (y ∷ []) ≡ false
+more-than-one [] y h = absurd (omega (arith, h))
+more-than-one (x ∷ []) y h = absurd (omega (arith, h))
+more-than-one (x ∷ z ∷ os) y h = more-owners x z y os

@@ -33,7 +33,7 @@ takes_of at ds = flat_map (dealt_events at) ds
 
 -- those of a round: what the root answered, one settle, and takes up to the one that finds nothing
 abbrev pub round_events : ℕ → List (Exchange DynamicObject) → List Dealt → List (CoreEvent DynamicObject)
-round_events at xs ds = map (Answered at) xs ++ Settled at ∷ takes_of at ds ++ Took at None ∷ []
+round_events at xs ds = map (Answered at) xs ++ Settled at ∷ (takes_of at ds ++ Took at None ∷ [])
 
 -- ---- what it tells
 

@@ -72,7 +72,7 @@ pub(crate) fn take_all(
     ensures clock { OnOk result (core.new.clock ≡ now) }
     ensures took { OnOk result ((world : CoreWorld Parent) (es : List (CoreEvent Parent)) → StandsFor type_of meta_of world es core.old
         → (ds : List Dealt) × AreDealt parents.old.kind finalizer.now (record { parents = parents.old; children = children.old }) ds (record { parents = parents.new; children = children.new })
-        × (round.new ≡ with_dealt round.old ds) × StandsFor type_of meta_of world (es ++ takes_of now.0 ds ++ Took now.0 None ∷ []) core.new) }
+        × (round.new ≡ with_dealt round.old ds) × StandsFor type_of meta_of world (es ++ (takes_of now.0 ds ++ Took now.0 None ∷ [])) core.new) }
 {
     for _take in 0..u64::MAX {
         let more = take_one(alloc, core, parents, children, finalizer, round, now)?;

@@ -1,6 +1,6 @@
 //! The children that a parent wants.
 
-ghost use Rattle.std.specs.Prelude.{◌≡◌, ◌&&◌, [], Option, Some, None, IfOk, map, option_map, true, false, unwrap_or};
+ghost use Rattle.std.specs.Prelude.{◌≡◌, ◌&&◌, ◌∷◌, [], Option, Some, None, IfOk, map, option_map, true, false, unwrap_or};
 ghost use Rattle.std.specs.List.{IsDistinct};
 ghost use Rattle.serde_json.specs.Data.{object, no_members, member};
 ghost use Rattle.serde_json.specs.View.{view, members_view};

@@ -9,28 +9,40 @@ use Rattle.kube_children.specs.Wanted.{children_at, children_of, wanted}
 use Rattle.kube_children.proofs.Branching.{applied-none, applied-some}
 use Rattle.kube_children.proofs.branch.apply.Goals as goal
 
-children-are : (c : goal.After-in_ok-children) → map seen_object c.in_ok-children.children.items ≡ wanted (resource_type c.args.resource.now) (seen_object c.args.parent.now)
-children-are c =
-    let parent = c.args.parent.now in
-    c.in_ok-children.ensures.children ∙ ap (λ o. children_of o parent.metadata (unwrap_or (children_at (view parent.content)) no_members)) c.in_ok-owner.ensures
-
-foreign-is : (c : goal.After-in_ok-foreign) → c.in_ok-foreign.foreign ≡ first_foreign c.in_ok-owner.owner (holding c.args.server.now) (map seen_object c.in_ok-children.children.items)
-foreign-is c = c.in_ok-foreign.ensures ∙ ap (λ cs. first_foreign c.in_ok-owner.owner (holding c.args.server.now) (map seen_object cs)) c.as_slice.ensures.value
-
 pub returns-in-Some-clause-fault : goal.returns-in-Some-clause-fault
 returns-in-Some-clause-fault c =
-    (applied-some (resource_type c.args.resource.now) (seen_object c.args.parent.now) (holding c.args.server.now) c.in_ok-owner.owner _ c.in_ok-owner.ensures (children-are c) c.in-Some.name (sym c.in-Some.is ∙ foreign-is c)).0
+    let parent = c.args.parent.now in
+    let children-are : map seen_object c.in_ok-children.children.items ≡ wanted (resource_type c.args.resource.now) (seen_object parent) =
+    c.in_ok-children.ensures.children ∙ ap (λ o. children_of o parent.metadata (unwrap_or (children_at (view parent.content)) no_members)) c.in_ok-owner.ensures in
+    let foreign-is : c.in_ok-foreign.foreign ≡ first_foreign c.in_ok-owner.owner (holding c.args.server.now) (map seen_object c.in_ok-children.children.items) =
+    c.in_ok-foreign.ensures ∙ ap (λ cs. first_foreign c.in_ok-owner.owner (holding c.args.server.now) (map seen_object cs)) c.as_slice.ensures.value in
+    (applied-some (resource_type c.args.resource.now) (seen_object c.args.parent.now) (holding c.args.server.now) c.in_ok-owner.owner _ c.in_ok-owner.ensures children-are c.in-Some.name (sym c.in-Some.is ∙ foreign-is)).0
 
 pub returns-in-Some-clause-left : goal.returns-in-Some-clause-left
 returns-in-Some-clause-left c =
-    (applied-some (resource_type c.args.resource.now) (seen_object c.args.parent.now) (holding c.args.server.now) c.in_ok-owner.owner _ c.in_ok-owner.ensures (children-are c) c.in-Some.name (sym c.in-Some.is ∙ foreign-is c)).1
+    let parent = c.args.parent.now in
+    let children-are : map seen_object c.in_ok-children.children.items ≡ wanted (resource_type c.args.resource.now) (seen_object parent) =
+    c.in_ok-children.ensures.children ∙ ap (λ o. children_of o parent.metadata (unwrap_or (children_at (view parent.content)) no_members)) c.in_ok-owner.ensures in
+    let foreign-is : c.in_ok-foreign.foreign ≡ first_foreign c.in_ok-owner.owner (holding c.args.server.now) (map seen_object c.in_ok-children.children.items) =
+    c.in_ok-foreign.ensures ∙ ap (λ cs. first_foreign c.in_ok-owner.owner (holding c.args.server.now) (map seen_object cs)) c.as_slice.ensures.value in
+    (applied-some (resource_type c.args.resource.now) (seen_object c.args.parent.now) (holding c.args.server.now) c.in_ok-owner.owner _ c.in_ok-owner.ensures children-are c.in-Some.name (sym c.in-Some.is ∙ foreign-is)).1
 
 pub returns-clause-fault : goal.returns-clause-fault
 returns-clause-fault c =
-    (applied-none (resource_type c.args.resource.now) (seen_object c.args.parent.now) (holding c.args.server.now) c.in_ok-owner.owner _ c.in_ok-owner.ensures (children-are c) (holding c.make.new.server) (sym c.in-None.is ∙ foreign-is c)
+    let parent = c.args.parent.now in
+    let children-are : map seen_object c.in_ok-children.children.items ≡ wanted (resource_type c.args.resource.now) (seen_object parent) =
+    c.in_ok-children.ensures.children ∙ ap (λ o. children_of o parent.metadata (unwrap_or (children_at (view parent.content)) no_members)) c.in_ok-owner.ensures in
+    let foreign-is : c.in_ok-foreign.foreign ≡ first_foreign c.in_ok-owner.owner (holding c.args.server.now) (map seen_object c.in_ok-children.children.items) =
+    c.in_ok-foreign.ensures ∙ ap (λ cs. first_foreign c.in_ok-owner.owner (holding c.args.server.now) (map seen_object cs)) c.as_slice.ensures.value in
+    (applied-none (resource_type c.args.resource.now) (seen_object c.args.parent.now) (holding c.args.server.now) c.in_ok-owner.owner _ c.in_ok-owner.ensures children-are (holding c.make.new.server) (sym c.in-None.is ∙ foreign-is)
     (c.in_ok-make.ensures.made ∙ ap (λ cs. with_wanted c.in_ok-owner.owner (map seen_object cs) (holding c.args.server.now)) c.as_slice-2.ensures.value)).0
 
 pub returns-clause-left : goal.returns-clause-left
 returns-clause-left c =
-    (applied-none (resource_type c.args.resource.now) (seen_object c.args.parent.now) (holding c.args.server.now) c.in_ok-owner.owner _ c.in_ok-owner.ensures (children-are c) (holding c.make.new.server) (sym c.in-None.is ∙ foreign-is c)
+    let parent = c.args.parent.now in
+    let children-are : map seen_object c.in_ok-children.children.items ≡ wanted (resource_type c.args.resource.now) (seen_object parent) =
+    c.in_ok-children.ensures.children ∙ ap (λ o. children_of o parent.metadata (unwrap_or (children_at (view parent.content)) no_members)) c.in_ok-owner.ensures in
+    let foreign-is : c.in_ok-foreign.foreign ≡ first_foreign c.in_ok-owner.owner (holding c.args.server.now) (map seen_object c.in_ok-children.children.items) =
+    c.in_ok-foreign.ensures ∙ ap (λ cs. first_foreign c.in_ok-owner.owner (holding c.args.server.now) (map seen_object cs)) c.as_slice.ensures.value in
+    (applied-none (resource_type c.args.resource.now) (seen_object c.args.parent.now) (holding c.args.server.now) c.in_ok-owner.owner _ c.in_ok-owner.ensures children-are (holding c.make.new.server) (sym c.in-None.is ∙ foreign-is)
     (c.in_ok-make.ensures.made ∙ ap (λ cs. with_wanted c.in_ok-owner.owner (map seen_object cs) (holding c.args.server.now)) c.as_slice-2.ensures.value)).1

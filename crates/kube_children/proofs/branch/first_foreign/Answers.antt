@@ -5,22 +5,23 @@ use Rattle.kube_children.specs.Branches.{first_foreign, holding}
 use Rattle.kube_children.proofs.Branching.{foreign-here, foreign-next}
 use Rattle.kube_children.proofs.branch.first_foreign.Goals as goal
 
-here : (c : goal.After-in_ok-foreign) → drop c.loop-child.child-index c.args.children.now ≡ c.child-item.result ∷ drop (suc c.loop-child.child-index) c.args.children.now
-here c =
+pub loop-child-preserved : goal.loop-child-preserved
+loop-child-preserved c =
     let children = c.args.children.now in
     let i = c.loop-child.child-index in
     let l : i < length children = omega arith in
-    drop-cons children i c.child-item.result l ∙ ap (λ x. x ∷ drop (suc i) children) (sym c.child-item.is)
-
-pub loop-child-preserved : goal.loop-child-preserved
-loop-child-preserved c =
-    foreign-next c.args.owner.now (holding c.args.server.now) _ c.args.children.now c.loop-child.child-index _ c.child-item.result (omega arith) (here c) (sym c.in_ok-foreign.ensures ∙ c.if-foreign.false) c.loop-child.invariant
+    let here : drop i children ≡ c.child-item.result ∷ drop (suc i) children = drop-cons children i c.child-item.result l ∙ ap (λ x. x ∷ drop (suc i) children) (sym c.child-item.is) in
+    foreign-next c.args.owner.now (holding c.args.server.now) _ c.args.children.now c.loop-child.child-index _ c.child-item.result (omega arith) here (sym c.in_ok-foreign.ensures ∙ c.if-foreign.false) c.loop-child.invariant
 
 pub returns-then-foreign : goal.returns-then-foreign
 returns-then-foreign c =
+    let children = c.args.children.now in
+    let i = c.loop-child.child-index in
+    let l : i < length children = omega arith in
+    let here : drop i children ≡ c.child-item.result ∷ drop (suc i) children = drop-cons children i c.child-item.result l ∙ ap (λ x. x ∷ drop (suc i) children) (sym c.child-item.is) in
     ap Some c.in_ok-name.ensures
     ∙ (sym (foreign-here c.args.owner.now (holding c.args.server.now) (seen_object c.child-item.result) (map seen_object (drop (suc c.loop-child.child-index) c.args.children.now)) (sym c.in_ok-foreign.ensures ∙ c.if-foreign.true))
-    ∙ (ap (λ xs. first_foreign c.args.owner.now (holding c.args.server.now) (map seen_object xs)) (sym (here c)) ∙ c.loop-child.invariant))
+    ∙ (ap (λ xs. first_foreign c.args.owner.now (holding c.args.server.now) (map seen_object xs)) (sym here) ∙ c.loop-child.invariant))
 
 pub returns : goal.returns
 returns c =

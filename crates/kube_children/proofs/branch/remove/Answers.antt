@@ -1,4 +1,4 @@
-use Rattle.std.proofs.Common.{refl, ap, ◌∙◌}
+use Rattle.std.proofs.Common.{Err, ap, ◌∙◌}
 use Rattle.kube_meta.specs.Resources.{dynamic_reference}
 use Rattle.kube_children.specs.Branches.{holding}
 use Rattle.kube_children.proofs.Holdings.{nothing-holding, removed-holding, removed-kind}
@@ -15,10 +15,7 @@ returns-in-Ok-clause-kind c = removed-kind c.args.server.now c.remove.new.self (
 pub returns-in-Err-NotFound-clause-removed : goal.returns-in-Err-NotFound-clause-removed
 returns-in-Err-NotFound-clause-removed c =
     ap holding c.in-Err-NotFound.ensures.err
-    ∙ nothing-holding c.args.server.now (dynamic_reference c.in_ok-key.key) c.args.meta.now c.in_ok-key.ensures (c.in-Err-NotFound.ensures.missing refl)
+    ∙ nothing-holding c.args.server.now (dynamic_reference c.in_ok-key.key) c.args.meta.now c.in_ok-key.ensures (c.in-Err-NotFound.ensures.missing (ap Err c.in-Err-NotFound.field-0-is))
 
 pub returns-in-Err-NotFound-clause-kind : goal.returns-in-Err-NotFound-clause-kind
 returns-in-Err-NotFound-clause-kind c = ap (λ s. s.kind) c.in-Err-NotFound.ensures.err
-
-pub returns-in-Err-clause-kind : goal.returns-in-Err-clause-kind
-returns-in-Err-clause-kind c = ap (λ s. s.kind) c.in-Err.ensures.err

@@ -1,7 +1,9 @@
 use Rattle.std.proofs.Common.{◌≡◌, ◌<◌, suc, ◌∷◌, drop, length, map, sym, ap, ◌∙◌, arith, drop-cons}
+use Rattle.std.specs.Arc.{arc_value}
 use Rattle.std.proofs.lemmas.List.{drop_all}
+use Rattle.kube_meta.specs.declared.dynamic.DynamicObject.{DynamicObject}
 use Rattle.kube_meta.specs.Reading.{seen_object}
-use Rattle.kube_children.specs.Branches.{holding, less_objects, unwanted}
+use Rattle.kube_children.specs.Branches.{holding, is_unwanted, less_objects, less_where, unwanted}
 use Rattle.kube_children.proofs.Branching.{remove-next, seen_shared}
 use Rattle.kube_children.proofs.branch.remove_each.Goals as goal
 
@@ -12,8 +14,11 @@ loop-object-preserved c =
     let object = c.object-item.result in
     let l : i < length objects = omega arith in
     let here : drop i objects ≡ object ∷ drop (suc i) objects = drop-cons objects i object l ∙ ap (λ x. x ∷ drop (suc i) objects) (sym c.object-item.is) in
+    let h = holding c.loop-object.server in
+    let removed : holding c.remove_where.new.server ≡ less_where (is_unwanted c.args.uid.now (map seen_object c.args.children.now) (arc_value object).metadata) h (arc_value object).metadata =
+    c.in_ok-remove_where.ensures.left ∙ ap (λ (d : DynamicObject). less_where (is_unwanted c.args.uid.now (map seen_object c.args.children.now) d.metadata) h d.metadata) c.deref.ensures in
     record {
-      left = remove-next c.args.uid.now (map seen_object c.args.children.now) (holding c.loop-object.server) (holding c.remove_where.new.server) _ objects i _ object (omega arith) here c.in_ok-remove_where.ensures.left c.loop-object.invariant.left;
+      left = remove-next c.args.uid.now (map seen_object c.args.children.now) (holding c.loop-object.server) (holding c.remove_where.new.server) _ objects i _ object (omega arith) here removed c.loop-object.invariant.left;
       kind = c.in_ok-remove_where.ensures.kind ∙ c.loop-object.invariant.kind;
     }
 
