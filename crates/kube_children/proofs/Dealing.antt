@@ -115,9 +115,12 @@ takes-shut-nothing at (d ∷ ds) = shut-join (dealt_events at d) (takes_of at ds
 
 -- ---- what is told
 
+zero-left : (n : ℕ) → n ≡ 0 + n
+zero-left n = omega arith
+
 counted-more : (b : Bool) (n : ℕ) → one_more b (counted n) ≡ counted (cond b 1 0 + n)
 counted-more true n = omega arith
-counted-more false n = refl
+counted-more false n = ap counted (zero-left n)
 
 one-fault : (f : Option GenFault) (fs : List GenFault) → cons_option f [] ++ fs ≡ cons_option f fs
 one-fault None fs = refl
@@ -139,7 +142,11 @@ tally : (r : Round) (ds : List Dealt) (a c p : ℕ) → r.applied ≡ counted a 
       patched = counted (count_by (λ d. d.handled.patched) ds + p);
       failed = r.failed ++ faults_of ds;
     }
-tally r [] a c p ha hc hp = λ i. record r { applied = ha i; cleaned = hc i; patched = hp i; failed = sym (append-nil r.failed) i }
+tally r [] a c p ha hc hp =
+    let applied = ha ∙ ap counted (zero-left a) in
+    let cleaned = hc ∙ ap counted (zero-left c) in
+    let patched = hp ∙ ap counted (zero-left p) in
+    λ i. record r { applied = applied i; cleaned = cleaned i; patched = patched i; failed = sym (append-nil r.failed) i }
 tally r (d ∷ ds) a c p ha hc hp =
     let h = d.handled in
     let n = count_by (λ x. x.handled.applied) ds in

@@ -2,10 +2,11 @@
 
 ghost use Rattle.std.specs.Prelude.{◌≡◌, false, Some, IfOk, OnOk, option_copied, option_map};
 ghost use Rattle.std.specs.Arc.{arc_value};
+ghost use Rattle.kube_meta.specs.Reading.{seen_object};
 ghost use Rattle.kube_meta.specs.Resources.{resource_type};
 ghost use Rattle.kube_final.specs.Finalizers.{branch_of};
-ghost use Rattle.kube_children.specs.Branches.{holding};
-ghost use Rattle.kube_children.specs.Handling.{after_owed, branch_result, fault_told, handled_so, IsPolledOn};
+ghost use Rattle.kube_children.specs.Branches.{after_apply, apply_fault, holding};
+ghost use Rattle.kube_children.specs.Handling.{after_owed, branch_result, ended_by, fault_told, handled_so, IsPolledOn};
 ghost use Rattle.kube_children.specs.HandOvers.{IsHandedOver};
 ghost use Rattle.kube_children.specs.Rounds.{action_after};
 
@@ -34,6 +35,26 @@ pub(crate) struct Handled {
     pub patched: bool,
 }
 
+/// Runs the branch of Apply: how it ended.
+///
+/// Errors: `NoMemory`.
+fn run_apply(
+    alloc: Global,
+    children: &mut Server,
+    resource: &ApiResource,
+    parent: &DynamicObject,
+) -> Result<Result<Action, GenFault>, NoMemory>
+    ensures ended { IfOk result (λ b. b ≡ ended_by (apply_fault (resource_type resource.now) (seen_object parent.now) (holding children.old))) }
+    ensures left { OnOk result (holding children.new ≡ after_apply (resource_type resource.now) (seen_object parent.now) (holding children.old)) }
+    ensures kind { children.new.kind ≡ children.old.kind }
+{
+    let fault = apply(alloc, children, resource, parent)?;
+    match fault {
+        Some(fault) => Ok(Err(fault)),
+        None => Ok(Ok(Action::await_change())),
+    }
+}
+
 /// Runs the branch that a finalizer owes: how it ended, where one is owed.
 ///
 /// Errors: `NoMemory`.
@@ -50,10 +71,8 @@ fn run_branch(
     match owed {
         Some(Event::Apply(parent)) => {
             let parent: &DynamicObject = &parent;
-            match apply(alloc, children, resource, parent)? {
-                Some(fault) => Ok(Some(Err(fault))),
-                None => Ok(Some(Ok(Action::await_change()))),
-            }
+            let ended = run_apply(alloc, children, resource, parent)?;
+            Ok(Some(ended))
         }
         Some(Event::Cleanup(parent)) => {
             let parent: &DynamicObject = &parent;

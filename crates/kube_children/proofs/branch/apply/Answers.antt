@@ -34,7 +34,7 @@ returns-clause-fault c =
     c.in_ok-children.ensures.children ∙ ap (λ o. children_of o parent.metadata (unwrap_or (children_at (view parent.content)) no_members)) c.in_ok-owner.ensures in
     let foreign-is : c.in_ok-foreign.foreign ≡ first_foreign c.in_ok-owner.owner (holding c.args.server.now) (map seen_object c.in_ok-children.children.items) =
     c.in_ok-foreign.ensures ∙ ap (λ cs. first_foreign c.in_ok-owner.owner (holding c.args.server.now) (map seen_object cs)) c.as_slice.ensures.value in
-    (applied-none (resource_type c.args.resource.now) (seen_object c.args.parent.now) (holding c.args.server.now) c.in_ok-owner.owner _ c.in_ok-owner.ensures children-are (holding c.make.new.server) (sym c.in-None.is ∙ foreign-is)
+    (applied-none (resource_type c.args.resource.now) (seen_object c.args.parent.now) (holding c.args.server.now) c.in_ok-owner.owner _ c.in_ok-owner.ensures children-are (holding c.make.new.server) (sym c.in_default.is ∙ foreign-is)
     (c.in_ok-make.ensures.made ∙ ap (λ cs. with_wanted c.in_ok-owner.owner (map seen_object cs) (holding c.args.server.now)) c.as_slice-2.ensures.value)).0
 
 pub returns-clause-left : goal.returns-clause-left
@@ -44,5 +44,5 @@ returns-clause-left c =
     c.in_ok-children.ensures.children ∙ ap (λ o. children_of o parent.metadata (unwrap_or (children_at (view parent.content)) no_members)) c.in_ok-owner.ensures in
     let foreign-is : c.in_ok-foreign.foreign ≡ first_foreign c.in_ok-owner.owner (holding c.args.server.now) (map seen_object c.in_ok-children.children.items) =
     c.in_ok-foreign.ensures ∙ ap (λ cs. first_foreign c.in_ok-owner.owner (holding c.args.server.now) (map seen_object cs)) c.as_slice.ensures.value in
-    (applied-none (resource_type c.args.resource.now) (seen_object c.args.parent.now) (holding c.args.server.now) c.in_ok-owner.owner _ c.in_ok-owner.ensures children-are (holding c.make.new.server) (sym c.in-None.is ∙ foreign-is)
+    (applied-none (resource_type c.args.resource.now) (seen_object c.args.parent.now) (holding c.args.server.now) c.in_ok-owner.owner _ c.in_ok-owner.ensures children-are (holding c.make.new.server) (sym c.in_default.is ∙ foreign-is)
     (c.in_ok-make.ensures.made ∙ ap (λ cs. with_wanted c.in_ok-owner.owner (map seen_object cs) (holding c.args.server.now)) c.as_slice-2.ensures.value)).1

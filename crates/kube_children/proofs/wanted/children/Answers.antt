@@ -24,12 +24,12 @@ loop-member-preserved c =
 pub returns-clause-children : goal.returns-clause-children
 returns-clause-children c =
     let i = c.loop-member.invariant in
-    let whole : c.args.members.now.entries ≡ i.0 = i.1 ∙ (ap (λ es. i.0 ++ es) c.in-None.ensures.over ∙ append-nil i.0) in
+    let whole : c.args.members.now.entries ≡ i.0 = i.1 ∙ (ap (λ es. i.0 ++ es) c.in-None.ensures.steps.0 ∙ append-nil i.0) in
     i.2 ∙ (ap (map (child_at c.args.owner.now c.args.parent.now)) (sym whole) ∙ sym (children-all c.args.owner.now c.args.parent.now c.args.members.now.entries))
 
 pub returns-clause-apart : goal.returns-clause-apart
 returns-clause-apart c =
     let i = c.loop-member.invariant in
-    let whole : c.args.members.now.entries ≡ i.0 = i.1 ∙ (ap (λ es. i.0 ++ es) c.in-None.ensures.over ∙ append-nil i.0) in
+    let whole : c.args.members.now.entries ≡ i.0 = i.1 ∙ (ap (λ es. i.0 ++ es) c.in-None.ensures.steps.0 ∙ append-nil i.0) in
     children-apart c.args.owner.now c.args.parent.now c.loop-member.children.items c.args.members.now.entries
     (i.2 ∙ ap (map (child_at c.args.owner.now c.args.parent.now)) (sym whole)) c.iter-member-items.ensures.ordered

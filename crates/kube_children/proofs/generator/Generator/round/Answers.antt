@@ -14,8 +14,8 @@ use Rattle.kube_children.proofs.generator.Generator.round.Goals as goal
 pub feed-requires : goal.feed-requires
 feed-requires c = (c.self.invariant c.if-spent.false).log
 
-pub ask_all-requires-clause-clock : goal.ask_all-requires-clause-clock
-ask_all-requires-clause-clock c =
+pub ask_all-requires : goal.ask_all-requires
+ask_all-requires c =
     let clock = (c.self.invariant c.if-spent.false).clock in
     let later = not-refused c.args.now c.self.inside.last (sym c.refused.ensures ∙ c.else-refusal.is) in
     omega (arith, clock, later)
