@@ -1,5 +1,5 @@
 -- A hand-over, from its branch and the poll of its finalizer.
-use Rattle.std.proofs.Common.{◌≡◌, ℕ, true, false, List, Option, Some, None, Result, Ok, Err, is_none, refl, sym, ap, subst, ◌∙◌}
+use Rattle.std.proofs.Common.{◌≡◌, inl, inr, ℕ, true, false, List, Option, Some, None, Result, Ok, Err, is_none, refl, sym, ap, subst, ◌∙◌}
 use Rattle.kube_meta.specs.declared.dynamic.DynamicObject.{DynamicObject}
 use Rattle.kube_meta.specs.declared.metadata.ObjectMeta.{ObjectMeta}
 use Rattle.kube_meta.specs.declared.poll.Polled.{Polled}
@@ -17,7 +17,7 @@ use Rattle.kube_final.specs.declared.finalizer.Decision.{Decision}
 use Rattle.kube_final.specs.declared.finalizer.Decision.TheVariants.{Apply, Cleanup, AddFirst, AddMore, Nothing, Unnamed}
 use Rattle.kube_final.specs.declared.finalizer.PatchFailed.TheVariants.{Refused, Fault}
 use Rattle.kube_final.specs.Finalizers.{Branch, branch_on, decision_on}
-use Rattle.kube_final.specs.FinalizerPolls.{Answer, Course, Ends, Waits, Sends, IsPolled, IsPolledBy, Objects, answer_by, applied, course, failed}
+use Rattle.kube_final.specs.FinalizerPolls.{Answer, Course, Ends, Waits, Sends, IsLeftUnasked, IsPolled, IsPolledBy, Objects, answer_by, applied, course, failed}
 use Rattle.kube_final.specs.Guarding.{Guarding, guarding}
 use Rattle.kube_children.specs.declared.hand_over.Handled.{Handled}
 use Rattle.kube_children.specs.declared.round.GenFault.{GenFault}
@@ -171,6 +171,21 @@ polled-so namespace name patch d (Sends action) at old new answer parents over w
     subst (λ n. IsObjectMove parents n at (record { call = PatchAsked name patch; answer = p.patched }) new.server.now) within
     (subst (λ s. IsObjectMove s old.namespace at (record { call = PatchAsked name patch; answer = p.patched }) new.server.now) over p.moved.0) in
     record { patched = p.patched; answers = p.answers; told = move.answer; left = move.left }
+
+-- the server stays borrowed as it was
+same-name : (name : List ℕ) (patch : List Operation) (d : Decision) (course : Course GenFault) (at : ℕ) (old new : ServerObjects) (answer : Polled (Answer GenFault)) → IsPolledBy objects name patch d course at old answer new
+    → new.server.ghost_name ≡ old.server.ghost_name
+same-name name patch d (Ends wanted) at old new answer p = ap (λ (s : ServerObjects). s.server.ghost_name) p.1
+same-name name patch d Waits at old new answer p = ap (λ (s : ServerObjects). s.server.ghost_name) p.1
+same-name name patch d (Sends action) at old new answer p = p.moved.2
+
+pub polled-name : (name : List ℕ) (m : ObjectMeta) (outcome : Option (Option ℕ)) (branch : Option (Result (Option ℕ) GenFault)) (at : ℕ) (old new : ServerObjects) (answer : Polled (Answer GenFault)) → IsPolled objects name m outcome branch at old answer new
+    → new.server.ghost_name ≡ old.server.ghost_name
+polled-name name m outcome branch at old new answer p = same-name (name_in m) (operations_on name m) (decision_on name m) (course (decision_on name m) outcome branch) at old new answer p
+
+pub rested-name : (old new : ServerObjects) → IsLeftUnasked objects old new → new.server.ghost_name ≡ old.server.ghost_name
+rested-name old new (inl same) = ap (λ (s : ServerObjects). s.server.ghost_name) same
+rested-name old new (inr rests) = rests.2
 
 -- a poll over the objects of a server is one over the server
 pub polled-over : (namespace : Option (List ℕ)) (name : List ℕ) (m : ObjectMeta) (outcome : Option (Option ℕ)) (branch : Option (Result (Option ℕ) GenFault)) (at : ℕ) (old new : ServerObjects) (answer : Polled (Answer GenFault)) (parents : ServerState)

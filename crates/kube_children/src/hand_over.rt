@@ -16,7 +16,7 @@ use kube_final::finalizer::Error;
 use kube_final::{Decision, Event, Finalizer, PatchFailed};
 use kube_meta::text::copy_option;
 use kube_meta::{Action, ApiResource, DynamicObject, Moment, NoMemory, Polled, Text};
-use kube_server::Server;
+use kube_server::{Server, ServerObjects};
 use std::alloc::Global;
 use std::sync::Arc;
 
@@ -93,6 +93,24 @@ fn shown(text: &Option<Text>) -> Option<&str>
     }
 }
 
+/// Polls a finalizer over objects of a server.
+///
+/// Errors: `NoMemory`.
+fn poll_over(
+    alloc: Global,
+    objects: &mut ServerObjects<'_>,
+    guard: &mut Finalizer<DynamicObject>,
+    branch: Option<Result<Action, GenFault>>,
+    now: Moment,
+) -> Result<Polled<Result<Action, Error<GenFault>>>, NoMemory>
+    requires unready { guard.old.is_over ≡ false }
+    ensures same_reference { objects.new.server.ghost_name ≡ objects.old.server.ghost_name }
+    ensures polled { IfOk result (λ a. IsPolledOn objects.old.namespace guard.old.name guard.old.object.metadata guard.old.outcome branch now.0 objects.old.server.now a objects.new.server.now) }
+{
+    let answer = guard.poll(alloc, objects, branch, now)?;
+    Ok(answer)
+}
+
 /// Polls a finalizer over the parents of a namespace.
 ///
 /// Errors: `NoMemory`.
@@ -109,7 +127,9 @@ fn poll(
 {
     let namespace = shown(namespace);
     let mut objects = parents.objects_in(alloc, namespace)?;
-    let answer = guard.poll(alloc, &mut objects, branch, now)?;
+    let answer = poll_over(alloc, &mut objects, guard, branch, now)?;
+    // (the borrow of the server ends here)
+    let _server = objects.server;
     Ok(answer)
 }
 

@@ -9,7 +9,7 @@ use Rattle.kube_children.proofs.asking.ask_all.Goals as goal
 pub loop-asks_made-init : goal.loop-asks_made-init
 loop-asks_made-init g c =
     record {
-      clock = c.requires;
+      clock = c.requires.clock;
       asked = λ first kind last before mine es may.
           let start = begun g.B.Backoff first kind (c.args.budget ∷ []) last before mine es c.args.asks.now c.begin.new.self c.args.core.now may
           (ap (λ a. a.root) c.in_ok-begin.ensures.begun) (ap (λ a. a.is_spent) c.in_ok-begin.ensures.begun)

@@ -10,7 +10,7 @@ use Rattle.kube_children.proofs.takes.take_all.Goals as goal
 pub loop-_take-init : goal.loop-_take-init
 loop-_take-init c =
     record {
-      clock = c.requires;
+      clock = c.requires.clock;
       kind = refl;
       stands = λ world es s. ([], refl, refl, subst (λ fs. StandsFor type_of meta_of world fs c.args.core.now) (sym (append-nil es)) s);
     }

@@ -16,7 +16,7 @@ returns-in-Started-clause-took c world es s =
     let took = subst (λ x. StandsFor type_of meta_of world (es ++ Took at (taken_of type_of x) ∷ []) c.take.new.self) c.in-Started.is (c.in_ok-taken.ensures.stands world es s) in
     let finished = c.finish-_ran.ensures.stands world _ took in (
       _,
-      c.in_ok-handled-in-Started.ensures,
+      c.in_ok-handled-in-Started.ensures.handed,
       c.in_ok-add-in-Started.ensures,
       found-take (λ fs. StandsFor type_of meta_of world fs c.finish-_ran.new.self) es at _ o h c.finish-_ran.result refl (c.finish-_ran.ensures.ran world _ took)
           (rw (c.is_none.ensures, c.action.ensures) at finished),
@@ -24,7 +24,7 @@ returns-in-Started-clause-took c world es s =
 
 pub returns-in-Started-clause-kind : goal.returns-in-Started-clause-kind
 returns-in-Started-clause-kind c =
-    handed-kind c.args.parents.now.kind c.args.finalizer.now (arc_value c.in-Started.object) _ _ c.in_ok-handled-in-Started.handled c.in_ok-handled-in-Started.ensures
+    handed-kind c.args.parents.now.kind c.args.finalizer.now (arc_value c.in-Started.object) _ _ c.in_ok-handled-in-Started.handled c.in_ok-handled-in-Started.ensures.handed
 
 pub returns-in-NotFound-clause-took : goal.returns-in-NotFound-clause-took
 returns-in-NotFound-clause-took c world es s =
