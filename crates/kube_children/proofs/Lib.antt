@@ -4,5 +4,5 @@ pub mod Changed
 pub mod Branching
 pub mod HandingOver
 pub mod Dealing
-pub mod Asking
+pub mod Asks
 pub mod Rounding

@@ -111,6 +111,14 @@ fn poll_over(
     Ok(answer)
 }
 
+/// The server that its objects were borrowed from.
+fn given_back<'a>(objects: ServerObjects<'a>) -> &'a mut Server
+    ensures same_reference { result.ghost_name ≡ objects.entry.server.ghost_name }
+    ensures server { result.now ≡ objects.entry.server.now }
+{
+    objects.server
+}
+
 /// Polls a finalizer over the parents of a namespace.
 ///
 /// Errors: `NoMemory`.
@@ -128,8 +136,7 @@ fn poll(
     let namespace = shown(namespace);
     let mut objects = parents.objects_in(alloc, namespace)?;
     let answer = poll_over(alloc, &mut objects, guard, branch, now)?;
-    // (the borrow of the server ends here)
-    let _server = objects.server;
+    let _server = given_back(objects);
     Ok(answer)
 }
 

@@ -2,7 +2,7 @@ use Rattle.std.proofs.Common.{◌<◌, ◌+◌, ◌++◌, ◌∷◌, [], inl, in
 use Rattle.kube_model.specs.History.{dated}
 use Rattle.kube_history.specs.CoreEvents.{Answered}
 use Rattle.kube_children.specs.Asking.{IsOneAsked}
-use Rattle.kube_children.proofs.Asking.{asked-begun, asked-last, asked-more, asked-out, told-so}
+use Rattle.kube_children.proofs.Asks.{asked-begun, asked-last, asked-more, asked-out, told-so}
 use Rattle.kube_children.proofs.Rounding.{begun}
 use Rattle.kube_children.proofs.asking.ask_all.Goals as goal
 

@@ -4,7 +4,7 @@ use Rattle.kube_turn.specs.Views.{exchange_of}
 use Rattle.kube_asks.specs.Asking.{IsNextAsked}
 use Rattle.kube_children.specs.Generators.{type_of}
 use Rattle.kube_children.specs.Roots.{generator_world}
-use Rattle.kube_children.proofs.Asking.{asked-none, asked-one, world-is}
+use Rattle.kube_children.proofs.Asks.{asked-none, asked-one, world-is}
 use Rattle.kube_children.proofs.asking.ask_one.Goals as goal
 
 -- (the clauses of the asks, at the one root and no related source)
