@@ -1,5 +1,5 @@
 -- A generator, what it has been through, and what it stands for. B is the type of its backoff's states. (Crate: `Controller` with `finalizer`.)
-use Rattle.std.specs.Prelude.{◌≡◌, ◌≤◌, ℕ, Bool, false, List, [], ◌∷◌, ◌++◌, length}
+use Rattle.std.specs.Prelude.{◌≡◌, ◌≤◌, ℕ, Bool, false, List, [], ◌∷◌, ◌++◌, length, ⊤}
 use Rattle.std.specs.declared.alloc.Global.{Global}
 use Rattle.std.specs.declared.sync.Arc.{Arc}
 use Rattle.kube_meta.specs.declared.dynamic.ApiResource.{ApiResource}

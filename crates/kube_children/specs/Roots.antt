@@ -1,4 +1,22 @@
 -- The world of a generator, and the root that asks the parents' server. B is the type of its backoff's states. (Crate: `Controller`, `watcher`.)
+use Rattle.std.specs.Prelude.{◌≡◌, ◌⊎◌, ℕ, Bool, true, false, ◌||◌, List, [], ◌∷◌, Option, Some, None}
+use Rattle.kube_meta.specs.declared.dynamic.DynamicObject.{DynamicObject}
+use Rattle.kube_meta.specs.Keys.{key_of, is_named}
+use Rattle.kube_meta.specs.Reference.{ObjectType}
+use Rattle.kube_model.specs.History.{Dated, Exchange}
+use Rattle.kube_model.specs.Pause.{gave_up, is_paused}
+use Rattle.kube_model.specs.World.{World, Settings, Watched}
+use Rattle.kube_backoff.specs.declared.backoff.Backoff as backoff
+use Rattle.kube_server.specs.Connections.{Connection, IsMove}
+use Rattle.kube_server.specs.Servers.{ServerState, meta_of}
+use Rattle.kube_watch.specs.Calls.{version_of}
+use Rattle.kube_watch.specs.Polls.{Api}
+use Rattle.kube_watch.specs.Stands.{api_of}
+use Rattle.kube_asks.specs.declared.sets.NoRelated.{NoRelated}
+use Rattle.kube_asks.specs.Lending.{with_root_api}
+use Rattle.kube_asks.specs.Roots.{IsRootPoll, RootWatching}
+use Rattle.kube_children.specs.declared.round.Round.{Round}
+
 -- ---- the world of a generator
 
 -- it lists and watches without a window; there is no limit and no debounce

@@ -53,7 +53,7 @@ pub struct Generator {
 }
 
 impl Model for Generator {
-    ghost use Rattle.kube_backoff.specs.Backoffs.{Exponential, ResetTimer};
+    ghost use Rattle.kube_backoff.specs.Backoffs.{Exponential, ResetTimer, default_backoff};
     ghost use Rattle.kube_children.specs.Generators.{Generating, IsLiveUnlessSpent};
 
     ghost Value = { Generating (ResetTimer Exponential) };
