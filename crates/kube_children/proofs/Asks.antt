@@ -1,6 +1,6 @@
 -- Asks of a round, each of the one root and told to the core.
 use Rattle.std.proofs.Common.{◌≡◌, ◌≤◌, ◌<◌, ℕ, zero, suc, ◌+◌, ◌-◌, Bool, true, false, cond, not, ◌&&◌, ◌||◌, List, [], ◌∷◌, ◌++◌, map, length, find, Some, None, refl, sym, ap, subst, ◌∙◌, append_assoc, append-nil, arith}
-use Rattle.std.specs.Prelude.{⊤}
+use Rattle.std.specs.Prelude.{⊤, ◌==◌}
 use Rattle.std.proofs.lemmas.List.{map-append}
 use Rattle.std.specs.List.{AllByRecursion, list_any, range_with_len}
 use Rattle.std.specs.declared.alloc.Global.{Global}
@@ -129,7 +129,7 @@ module _ {B : Type 0} (delays : backoff.Ghosts B) (first : B) (kind : ObjectType
       let x = one.0 in
       let events : (es ++ map (Answered at) xs) ++ Answered at x ∷ [] ≡ es ++ map (Answered at) (xs ++ x ∷ []) =
       append_assoc es (map (Answered at) xs) (Answered at x ∷ []) ∙ ap (λ fs. es ++ fs) (sym (map-append (Answered at) xs (x ∷ []))) in
-      let step : ArePolled root_polls related_polls (before ++ dated at xs) b.root b.related (dated_now at x ∷ []) c.root c.related = (c.root, c.related, one.3, refl, refl) in (
+      let step : ArePolled root_polls related_polls (before ++ dated at xs) b.root b.related (dated_now at x ∷ []) c.root c.related = (c.root, c.related, one.3, (refl, refl)) in (
         x,
         one.1,
         record {
@@ -174,7 +174,10 @@ module _ {B : Type 0} (delays : backoff.Ghosts B) (first : B) (kind : ObjectType
 
   own-all : (at : ℕ) (xs : List (Exchange DynamicObject)) → AllByRecursion (λ x. x.source ≡ 0) xs → dated_of 0 (dated at xs) ≡ dated at xs
   own-all at [] all = refl
-  own-all at (x ∷ xs) all = rw all.0 (ap (λ ds. record { at = at; exchange = x } ∷ ds) (own-all at xs all.1))
+  own-all at (x ∷ xs) all =
+      let d : Dated DynamicObject = record { at = at; exchange = x } in
+      ap (λ b. cond {A = List (Dated DynamicObject)} b (d ∷ dated_of 0 (dated at xs)) (dated_of 0 (dated at xs))) (ap (λ n. n == 0) all.0)
+      ∙ ap (λ ds. d ∷ ds) (own-all at xs all.1)
 
   told-all : (at : ℕ) (xs : List (Exchange DynamicObject)) → list_any (λ d. is_not_ready d.exchange.answer) (dated at xs) ≡ list_any (λ x. is_not_ready x.answer) xs
   told-all at [] = refl
@@ -193,7 +196,7 @@ module _ {B : Type 0} (delays : backoff.Ghosts B) (first : B) (kind : ObjectType
   none-found : (p : ℕ → Bool) → find p (0 ∷ []) ≡ None → p 0 ≡ false
   none-found p e = by-test (p 0) e
     where
-      by-test : (b : Bool) → cond b (Some 0) None ≡ None → b ≡ false
+      by-test : (b : Bool) → cond {A = Option ℕ} b (Some 0) None ≡ None → b ≡ false
       by-test true e = absurd (cc)
       by-test false e = refl
 
@@ -210,7 +213,7 @@ module _ {B : Type 0} (delays : backoff.Ghosts B) (first : B) (kind : ObjectType
       mine : List (Dated DynamicObject)
       mine = dated at xs
 
-      quiet : is_quiet w before mine 0 ≡ false
+      quiet : is_quiet w (budget ∷ []) before mine 0 ≡ false
       quiet =
           let told : told_not_ready 0 mine ≡ false = ap (λ ds. list_any (λ d. is_not_ready d.exchange.answer) ds) (own-all at xs k.own) ∙ (told-all at xs ∙ ready) in
           rw told refl
@@ -226,5 +229,5 @@ module _ {B : Type 0} (delays : backoff.Ghosts B) (first : B) (kind : ObjectType
           let order : in_turn w (before ++ mine) ≡ 0 ∷ [] = k.may.asks_stand.kept.order ∙ one-in-turn b.kept.after k.may.asks_stand.kept.small in
           let found : find (may_be_asked w (budget ∷ []) before mine) (0 ∷ []) ≡ None =
           ap (find (may_be_asked w (budget ∷ []) before mine)) (sym order) ∙ (ap (λ p. cond p None (find (may_be_asked w (budget ∷ []) before mine) (in_turn w (before ++ mine)))) (sym e) ∙ none) in
-          let spent = spent-budget (has_budget (budget ∷ []) mine 0) (is_quiet w before mine 0) (none-found (may_be_asked w (budget ∷ []) before mine) found) quiet in
+          let spent = spent-budget (has_budget (budget ∷ []) mine 0) (is_quiet w (budget ∷ []) before mine 0) (none-found (may_be_asked w (budget ∷ []) before mine) found) quiet in
           absurd (let no : true ≡ false = sym has ∙ spent in cc)

@@ -4,6 +4,7 @@ ghost use Rattle.std.specs.Prelude.{◌≡◌, ◌≤◌, ◌++◌, [], List, �
 ghost use Rattle.kube_meta.specs.declared.dynamic.DynamicObject.{DynamicObject as Parent};
 ghost use Rattle.kube_meta.specs.Reference.{ObjectType};
 ghost use Rattle.kube_model.specs.History.{Dated};
+ghost use Rattle.kube_model.specs.Owed.{is_not_ready};
 ghost use Rattle.kube_history.specs.CoreEvents.{CoreEvent};
 ghost use Rattle.kube_children.specs.Asking.{AreAsked, IsOneAsked, MayAsk};
 
@@ -14,6 +15,13 @@ use kube_meta::{DynamicObject, Moment, NoMemory};
 use kube_server::Conn;
 use kube_turn::Answer;
 use std::alloc::Global;
+
+/// Whether an answer tells that there is nothing yet.
+fn is_unready(answer: &Answer) -> bool
+    ensures { result ≡ is_not_ready answer.now }
+{
+    matches!(answer, Answer::NotReady)
+}
 
 /// Asks the root once more, where it is left to ask, and tells the core what it answered. Whether it told not ready.
 ///
@@ -37,7 +45,8 @@ fn ask_one<B: Backoff>(
         return Ok(None);
     };
     core.answer(alloc, &exchange, now)?;
-    Ok(Some(matches!(&exchange.answer, Answer::NotReady)))
+    let told = is_unready(&exchange.answer);
+    Ok(Some(told))
 }
 
 /// Asks the root up to so many times, and tells the core what it answers.

@@ -25,11 +25,11 @@ pub loop-asks_made-preserved : goal.loop-asks_made-preserved
 loop-asks_made-preserved g c =
     let i = c.loop-asks_made.invariant in
     record {
-      clock = c.in_ok-ask_one.ensures.clock;
+      clock = c.in_ok-told.ensures.clock;
       asked = λ first kind last before mine es may.
           let k = i.asked first kind last before mine es may in
           let one = subst (λ o. IsOneAsked g.B.Backoff first kind (c.args.budget ∷ []) (before ++ mine) (dated c.args.now.0 k.0) (es ++ map (Answered c.args.now.0) k.0) c.args.now.0 c.loop-asks_made.asks o c.ask_one.new.asks c.ask_one.new.core) c.in-Some.is
-          (c.in_ok-ask_one.ensures.asked first kind (c.args.budget ∷ []) (before ++ mine) (dated c.args.now.0 k.0) (es ++ map (Answered c.args.now.0) k.0) k.1.may) in
+          (c.in_ok-told.ensures.asked first kind (c.args.budget ∷ []) (before ++ mine) (dated c.args.now.0 k.0) (es ++ map (Answered c.args.now.0) k.0) k.1.may) in
           let more = asked-more g.B.Backoff first kind c.args.budget (before ++ mine) es c.args.now.0 _ c.loop-asks_made.asks c.ask_one.new.asks k.0 c.loop-asks_made.core c.ask_one.new.core c.in-Some.told k.1 one in
           let count = k.2 in
           let long = length-append k.0 (more.0 ∷ []) in
@@ -41,7 +41,7 @@ returns-in-None-clause-asked g c first kind last before mine es may =
     let k = c.loop-asks_made.invariant.asked first kind last before mine es may in
     let at = c.args.now.0 in
     let none = subst (λ o. IsOneAsked g.B.Backoff first kind (c.args.budget ∷ []) (before ++ mine) (dated at k.0) (es ++ map (Answered at) k.0) at c.loop-asks_made.asks o c.ask_one.new.asks c.ask_one.new.core) c.in-None.is
-    (c.in_ok-ask_one.ensures.asked first kind (c.args.budget ∷ []) (before ++ mine) (dated at k.0) (es ++ map (Answered at) k.0) k.1.may) in
+    (c.in_ok-told.ensures.asked first kind (c.args.budget ∷ []) (before ++ mine) (dated at k.0) (es ++ map (Answered at) k.0) k.1.may) in
     let so = asked-last g.B.Backoff first kind c.args.budget (before ++ mine) es at _ c.loop-asks_made.asks c.ask_one.new.asks k.0 c.loop-asks_made.core c.ask_one.new.core k.1 none in
     let count = k.2 in
     let less : length k.0 < c.args.budget = omega (arith, count) in

@@ -7,17 +7,17 @@ use Rattle.kube_children.specs.Rounds.{takes_of}
 use Rattle.kube_children.proofs.Dealing.{took-last, took-more}
 use Rattle.kube_children.proofs.takes.take_all.Goals as goal
 
-pub loop-_take-init : goal.loop-_take-init
-loop-_take-init c =
+pub loop-take-init : goal.loop-take-init
+loop-take-init c =
     record {
       clock = c.requires.clock;
       kind = refl;
       stands = λ world es s. ([], refl, refl, subst (λ fs. StandsFor type_of meta_of world fs c.args.core.now) (sym (append-nil es)) s);
     }
 
-pub loop-_take-preserved : goal.loop-_take-preserved
-loop-_take-preserved c =
-    let i = c.loop-_take.invariant in
+pub loop-take-preserved : goal.loop-take-preserved
+loop-take-preserved c =
+    let i = c.loop-take.invariant in
     let e = c.in_ok-more.ensures in
     let at = c.args.now.0 in
     record {
@@ -26,20 +26,20 @@ loop-_take-preserved c =
       stands = λ world es s.
           let k = i.stands world es s in
           let S = λ fs. StandsFor type_of meta_of world fs c.take_one.new.core in
-          took-more S c.args.parents.now.kind c.args.finalizer.now at es k.0 _ _ _ c.args.round.now c.loop-_take.round c.take_one.new.round k.1 k.2
-          (subst (λ t. IsTake S t c.args.finalizer.now at (es ++ takes_of at k.0) true _ c.loop-_take.round _ c.take_one.new.round) i.kind
-          (subst (λ b. IsTake S c.loop-_take.parents.kind c.args.finalizer.now at (es ++ takes_of at k.0) b _ c.loop-_take.round _ c.take_one.new.round) c.if-not-more.false (e.took world (es ++ takes_of at k.0) k.3)));
+          took-more S c.args.parents.now.kind c.args.finalizer.now at es k.0 _ _ _ c.args.round.now c.loop-take.round c.take_one.new.round k.1 k.2
+          (subst (λ t. IsTake S t c.args.finalizer.now at (es ++ takes_of at k.0) true _ c.loop-take.round _ c.take_one.new.round) i.kind
+          (subst (λ b. IsTake S c.loop-take.parents.kind c.args.finalizer.now at (es ++ takes_of at k.0) b _ c.loop-take.round _ c.take_one.new.round) c.if-not-more.false (e.took world (es ++ takes_of at k.0) k.3)));
     }
 
 pub returns-then-not-more-clause-took : goal.returns-then-not-more-clause-took
 returns-then-not-more-clause-took c world es s =
-    let i = c.loop-_take.invariant in
+    let i = c.loop-take.invariant in
     let e = c.in_ok-more.ensures in
     let at = c.args.now.0 in
     let k = i.stands world es s in
     let S = λ fs. StandsFor type_of meta_of world fs c.take_one.new.core in (
       k.0,
-      took-last S c.args.parents.now.kind c.args.finalizer.now at es k.0 _ _ _ c.args.round.now c.loop-_take.round c.take_one.new.round k.1 k.2
-          (subst (λ t. IsTake S t c.args.finalizer.now at (es ++ takes_of at k.0) false _ c.loop-_take.round _ c.take_one.new.round) i.kind
-          (subst (λ b. IsTake S c.loop-_take.parents.kind c.args.finalizer.now at (es ++ takes_of at k.0) b _ c.loop-_take.round _ c.take_one.new.round) c.if-not-more.true (e.took world (es ++ takes_of at k.0) k.3))),
+      took-last S c.args.parents.now.kind c.args.finalizer.now at es k.0 _ _ _ c.args.round.now c.loop-take.round c.take_one.new.round k.1 k.2
+          (subst (λ t. IsTake S t c.args.finalizer.now at (es ++ takes_of at k.0) false _ c.loop-take.round _ c.take_one.new.round) i.kind
+          (subst (λ b. IsTake S c.loop-take.parents.kind c.args.finalizer.now at (es ++ takes_of at k.0) b _ c.loop-take.round _ c.take_one.new.round) c.if-not-more.true (e.took world (es ++ takes_of at k.0) k.3))),
     )

@@ -11,8 +11,8 @@ use Rattle.kube_children.specs.Rounds.{takes_of}
 use Rattle.kube_children.proofs.takes.take_all.Given as goal
 
 -- as far as the loop has come
-abbrev pub invariant-loop-_take : goal.invariant-loop-_take
-invariant-loop-_take l =
+abbrev pub invariant-loop-take : goal.invariant-loop-take
+invariant-loop-take l =
     record {
       clock : l.core.clock.0 ≤ l.now.0;
       kind : l.parents.kind ≡ l.fn.parents.kind;

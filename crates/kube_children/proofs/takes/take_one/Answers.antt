@@ -14,11 +14,11 @@ returns-in-Started-clause-took c world es s =
     let at = c.args.now.0 in
     let h = c.in_ok-handled-in-Started.handled in
     let took = subst (λ x. StandsFor type_of meta_of world (es ++ Took at (taken_of type_of x) ∷ []) c.take.new.self) c.in-Started.is (c.in_ok-taken.ensures.stands world es s) in
-    let finished = c.finish-_ran.ensures.stands world _ took in (
+    let finished = c.finish-ran.ensures.stands world _ took in (
       _,
       c.in_ok-handled-in-Started.ensures.handed,
       c.in_ok-add-in-Started.ensures,
-      found-take (λ fs. StandsFor type_of meta_of world fs c.finish-_ran.new.self) es at _ o h c.finish-_ran.result refl (c.finish-_ran.ensures.ran world _ took)
+      found-take (λ fs. StandsFor type_of meta_of world fs c.finish-ran.new.self) es at _ o h c.finish-ran.result refl (c.finish-ran.ensures.ran world _ took)
           (rw (c.is_none.ensures, c.action.ensures) at finished),
     )
 
@@ -31,7 +31,7 @@ returns-in-NotFound-clause-took c world es s =
     let took = subst (λ x. StandsFor type_of meta_of world (es ++ Took c.args.now.0 (taken_of type_of x) ∷ []) c.take.new.self) c.in-NotFound.is (c.in_ok-taken.ensures.stands world es s) in
     missed-take (λ fs. StandsFor type_of meta_of world fs c.take.new.self) c.args.parents.now.kind c.args.finalizer.now es c.args.now.0 _ _ c.args.round.now refl took
 
-pub returns-in-Nothing-clause-took : goal.returns-in-Nothing-clause-took
-returns-in-Nothing-clause-took c world es s =
+pub returns-clause-took : goal.returns-clause-took
+returns-clause-took c world es s =
     let took = subst (λ x. StandsFor type_of meta_of world (es ++ Took c.args.now.0 (taken_of type_of x) ∷ []) c.take.new.self) c.in-Nothing.is (c.in_ok-taken.ensures.stands world es s) in
     (refl, refl, took)
