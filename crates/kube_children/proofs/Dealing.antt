@@ -245,6 +245,11 @@ found-take S es at t o h ran found runs-so s =
     let joined : S (es ++ Took at (Some t) ∷ finish true) = subst S (append_assoc es (Took at (Some t) ∷ []) (finish true)) (subst (λ b. S ((es ++ Took at (Some t) ∷ []) ++ finish b)) ran-true s) in
     subst (λ x. S (es ++ Took at (Some t) ∷ finish_of at t.message.reference x h)) (sym found) joined
 
+-- a finish by other words
+pub finished-so : (S : List (CoreEvent DynamicObject) → Type 0) (es : List (CoreEvent DynamicObject)) (at : ℕ) (r : Reference) (ok ok' : Bool) (a a' : Option ℕ) (ran : Bool) → ok ≡ ok' → a ≡ a'
+    → S (es ++ Finished at r ok a ran ∷ []) → S (es ++ Finished at r ok' a' ran ∷ [])
+finished-so S es at r ok ok' a a' ran e f s = subst (λ x. S (es ++ Finished at r ok' x ran ∷ [])) f (subst (λ b. S (es ++ Finished at r b a ran ∷ [])) e s)
+
 -- nothing was found
 pub missed-take : (S : List (CoreEvent DynamicObject) → Type 0) (kind : ObjectType) (name : List ℕ) (es : List (CoreEvent DynamicObject)) (at : ℕ) (t : Taken DynamicObject) (s : Servers) (r : Round) → t.object ≡ None
     → S (es ++ Took at (Some t) ∷ []) → IsTake S kind name at es true s r s r

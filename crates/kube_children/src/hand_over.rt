@@ -1,6 +1,6 @@
 //! A parent that is handed over: the branch that its finalizer owes, and the patch.
 
-ghost use Rattle.std.specs.Prelude.{◌≡◌, false, Some, IfOk, OnOk, option_copied, option_map};
+ghost use Rattle.std.specs.Prelude.{◌≡◌, false, Some, is_none, IfOk, OnOk, option_copied, option_map};
 ghost use Rattle.std.specs.Arc.{arc_value};
 ghost use Rattle.kube_meta.specs.Reading.{seen_object};
 ghost use Rattle.kube_meta.specs.Resources.{resource_type};
@@ -179,6 +179,13 @@ fn done(decision: Decision, fault: Option<GenFault>) -> Handled
 }
 
 impl Handled {
+    /// Whether nothing failed.
+    pub(crate) fn is_sound(&self) -> bool
+        ensures { result ≡ is_none self.now.fault }
+    {
+        self.fault.is_none()
+    }
+
     /// When the parent is to be handed over again.
     pub(crate) fn action(&self) -> Action
         ensures { result ≡ action_after self.now.fault }

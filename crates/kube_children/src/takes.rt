@@ -47,7 +47,7 @@ fn take_one(
             ..
         } => {
             let handled = hand_over(alloc, parents, children, finalizer, object, now)?;
-            let _ran = core.finish(&reference, handled.fault.is_none(), handled.action(), now);
+            let _ran = core.finish(&reference, handled.is_sound(), handled.action(), now);
             round.add(handled)?;
             Ok(true)
         }

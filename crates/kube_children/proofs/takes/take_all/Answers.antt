@@ -1,4 +1,6 @@
-use Rattle.std.proofs.Common.{◌≤◌, ◌++◌, [], true, false, refl, sym, subst, ◌∙◌, arith, append-nil}
+use Rattle.std.proofs.Common.{List, ◌≤◌, ◌++◌, [], true, false, refl, sym, subst, ◌∙◌, arith, append-nil}
+use Rattle.kube_meta.specs.declared.dynamic.DynamicObject.{DynamicObject}
+use Rattle.kube_history.specs.CoreEvents.{CoreEvent}
 use Rattle.kube_server.specs.Servers.{meta_of}
 use Rattle.kube_core.specs.Cores.{StandsFor}
 use Rattle.kube_children.specs.Generators.{type_of}
@@ -25,7 +27,7 @@ loop-take-preserved c =
       kind = e.kind ∙ i.kind;
       stands = λ world es s.
           let k = i.stands world es s in
-          let S = λ fs. StandsFor type_of meta_of world fs c.take_one.new.core in
+          let S : List (CoreEvent DynamicObject) → Type 0 = λ fs. StandsFor type_of meta_of world fs c.take_one.new.core in
           took-more S c.args.parents.now.kind c.args.finalizer.now at es k.0 _ _ _ c.args.round.now c.loop-take.round c.take_one.new.round k.1 k.2
           (subst (λ t. IsTake S t c.args.finalizer.now at (es ++ takes_of at k.0) true _ c.loop-take.round _ c.take_one.new.round) i.kind
           (subst (λ b. IsTake S c.loop-take.parents.kind c.args.finalizer.now at (es ++ takes_of at k.0) b _ c.loop-take.round _ c.take_one.new.round) c.if-not-more.false (e.took world (es ++ takes_of at k.0) k.3)));
@@ -37,7 +39,7 @@ returns-then-not-more-clause-took c world es s =
     let e = c.in_ok-more.ensures in
     let at = c.args.now.0 in
     let k = i.stands world es s in
-    let S = λ fs. StandsFor type_of meta_of world fs c.take_one.new.core in (
+    let S : List (CoreEvent DynamicObject) → Type 0 = λ fs. StandsFor type_of meta_of world fs c.take_one.new.core in (
       k.0,
       took-last S c.args.parents.now.kind c.args.finalizer.now at es k.0 _ _ _ c.args.round.now c.loop-take.round c.take_one.new.round k.1 k.2
           (subst (λ t. IsTake S t c.args.finalizer.now at (es ++ takes_of at k.0) false _ c.loop-take.round _ c.take_one.new.round) i.kind

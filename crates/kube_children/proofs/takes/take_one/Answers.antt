@@ -1,11 +1,13 @@
-use Rattle.std.proofs.Common.{◌++◌, ◌∷◌, [], refl, subst}
+use Rattle.std.proofs.Common.{List, ◌++◌, ◌∷◌, [], is_none, refl, subst}
 use Rattle.std.specs.Arc.{arc_value}
-use Rattle.kube_history.specs.CoreEvents.{Took}
+use Rattle.kube_meta.specs.declared.dynamic.DynamicObject.{DynamicObject}
+use Rattle.kube_history.specs.CoreEvents.{CoreEvent, Took}
 use Rattle.kube_server.specs.Servers.{meta_of}
 use Rattle.kube_core.specs.Cores.{StandsFor}
 use Rattle.kube_turn.specs.Views.{taken_of}
+use Rattle.kube_children.specs.Rounds.{action_after}
 use Rattle.kube_children.specs.Generators.{type_of}
-use Rattle.kube_children.proofs.Dealing.{found-take, handed-kind, missed-take}
+use Rattle.kube_children.proofs.Dealing.{finished-so, found-take, handed-kind, missed-take}
 use Rattle.kube_children.proofs.takes.take_one.Goals as goal
 
 pub returns-in-Started-clause-took : goal.returns-in-Started-clause-took
@@ -14,12 +16,13 @@ returns-in-Started-clause-took c world es s =
     let at = c.args.now.0 in
     let h = c.in_ok-handled-in-Started.handled in
     let took = subst (λ x. StandsFor type_of meta_of world (es ++ Took at (taken_of type_of x) ∷ []) c.take.new.self) c.in-Started.is (c.in_ok-taken.ensures.stands world es s) in
+    let S : List (CoreEvent DynamicObject) → Type 0 = λ fs. StandsFor type_of meta_of world fs c.finish-ran.new.self in
     let finished = c.finish-ran.ensures.stands world _ took in (
       _,
       c.in_ok-handled-in-Started.ensures.handed,
       c.in_ok-add-in-Started.ensures,
-      found-take (λ fs. StandsFor type_of meta_of world fs c.finish-ran.new.self) es at _ o h c.finish-ran.result refl (c.finish-ran.ensures.ran world _ took)
-          (rw (c.is_none.ensures, c.action.ensures) at finished),
+      found-take S es at _ o h c.finish-ran.result refl (c.finish-ran.ensures.ran world _ took)
+          (finished-so S _ at _ _ (is_none h.fault) _ (action_after h.fault) c.finish-ran.result c.is_sound.ensures c.action.ensures finished),
     )
 
 pub returns-in-Started-clause-kind : goal.returns-in-Started-clause-kind
