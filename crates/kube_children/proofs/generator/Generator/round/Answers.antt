@@ -15,10 +15,12 @@ pub feed-requires : goal.feed-requires
 feed-requires c = (c.self.invariant c.if-spent.false).log
 
 pub ask_all-requires : goal.ask_all-requires
-ask_all-requires c = record { clock =
-    let clock = (c.self.invariant c.if-spent.false).clock in
-    let later = not-refused c.args.now c.self.inside.last (sym c.refused.ensures ∙ c.else-refusal.is) in
-    omega (arith, clock, later); }
+ask_all-requires c = record {
+  clock =
+      let clock = (c.self.invariant c.if-spent.false).clock in
+      let later = not-refused c.args.now c.self.inside.last (sym c.refused.ensures ∙ c.in_default.is) in
+      omega (arith, clock, later);
+}
 
 -- what the round added, over the parts as they were
 pub returns-clause-round : goal.returns-clause-round
