@@ -1,6 +1,6 @@
 //! The asks of a round.
 
-ghost use Rattle.std.specs.Prelude.{◌≡◌, ◌≤◌, ◌++◌, [], List, ℕ, IfOk, OnOk};
+ghost use Rattle.std.specs.Prelude.{◌≡◌, ◌≤◌, ◌||◌, ◌++◌, [], List, ℕ, IfOk, OnOk};
 ghost use Rattle.kube_meta.specs.declared.dynamic.DynamicObject.{DynamicObject as Parent};
 ghost use Rattle.kube_meta.specs.Reference.{ObjectType};
 ghost use Rattle.kube_model.specs.History.{Dated};
@@ -21,6 +21,12 @@ fn is_unready(answer: &Answer) -> bool
     ensures { result ≡ is_not_ready answer.now }
 {
     matches!(answer, Answer::NotReady)
+}
+
+fn either(left: bool, right: bool) -> bool
+    ensures { result ≡ (left || right) }
+{
+    left || right
 }
 
 /// Asks the root once more, where it is left to ask, and tells the core what it answered. Whether it told not ready.
@@ -70,7 +76,10 @@ pub(crate) fn ask_all<B: Backoff>(
     let mut not_ready = false;
     for asks_made in 0..budget {
         match ask_one(alloc, asks, core, now)? {
-            Some(told) => not_ready = not_ready || told,
+            Some(told) => {
+                let now_told = either(not_ready, told);
+                not_ready = now_told;
+            }
             None => {
                 return Ok(Asked {
                     asks: asks_made,

@@ -33,7 +33,7 @@ loop-asks_made-preserved g c =
           let more = asked-more g.B.Backoff first kind c.args.budget (before ++ mine) es c.args.now.0 _ c.loop-asks_made.asks c.ask_one.new.asks k.0 c.loop-asks_made.core c.ask_one.new.core c.in-Some.told k.1 one in
           let count = k.2 in
           let long = length-append k.0 (more.0 ∷ []) in
-          (k.0 ++ more.0 ∷ [], more.2, omega (arith, count, long), told-so g.B.Backoff first kind c.in-Some.told c.loop-asks_made.not_ready k.0 more.0 k.3 more.1);
+          (k.0 ++ more.0 ∷ [], more.2, omega (arith, count, long), c.either-now_told.ensures ∙ told-so g.B.Backoff first kind c.in-Some.told c.loop-asks_made.not_ready k.0 more.0 k.3 more.1);
     }
 
 pub returns-in-None-clause-asked : goal.returns-in-None-clause-asked
