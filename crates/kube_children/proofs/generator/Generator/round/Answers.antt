@@ -3,7 +3,7 @@ use Rattle.kube_history.specs.CoreWorld.{core_world}
 use Rattle.kube_history.specs.CoreEvents.{Answered, Settled}
 use Rattle.kube_backoff.specs.Backoffs.{default_backoff}
 use Rattle.kube_children.specs.contracts.generator.Generator.{the_view}
-use Rattle.kube_children.specs.Asking.{MayAsk}
+use Rattle.kube_children.specs.Asking.{AreAsked, MayAsk}
 use Rattle.kube_children.specs.Generators.{IsRound, StandsFor}
 use Rattle.kube_children.specs.Handling.{with_dealt}
 use Rattle.kube_children.specs.Roots.{generator_world}
@@ -12,12 +12,12 @@ use Rattle.kube_children.proofs.generator.Generator.round.Goals as goal
 
 -- what an unspent generator stands for
 pub feed-requires : goal.feed-requires
-feed-requires c = (c.self.invariant c.if-spent.false).log
+feed-requires c = (c.self.invariant c.if-self.false).log
 
 pub ask_all-requires : goal.ask_all-requires
 ask_all-requires c = record {
   clock =
-      let clock = (c.self.invariant c.if-spent.false).clock in
+      let clock = (c.self.invariant c.if-self.false).clock in
       let later = not-refused c.args.now c.self.inside.last (sym c.refused.ensures ∙ c.in_default.is) in
       omega (arith, clock, later);
 }
@@ -30,7 +30,8 @@ returns-clause-round c past stands =
     let kind = old.servers.parents.kind in
     let at = c.args.now in
     let may = subst (λ a. MayAsk _ default_backoff kind s.budget s.before s.mine past.events a old.core) (sym c.in_ok-feed.ensures) (opened _ default_backoff past old s) in
-    let k = c.in_ok-asked.ensures.asked default_backoff kind s.budget s.before s.mine past.events may in
+    let k = subst (λ a. AreAsked _ default_backoff kind c.args.budget (s.before ++ s.mine) past.events at.0 a c.in_ok-asked.asked c.ask_all.new.asks c.ask_all.new.core) c.in_ok-feed.ensures
+    (c.in_ok-asked.ensures.asked default_backoff kind s.budget s.before s.mine past.events may) in
     let world = core_world (generator_world _ default_backoff kind) in
     let settled = c.settle.ensures.stands world (past.events ++ map (Answered at.0) k.exchanges) k.so.may.core_stands in
     let took = c.in_ok-take_all.ensures.took world ((past.events ++ map (Answered at.0) k.exchanges) ++ Settled at.0 ∷ []) settled in
@@ -39,16 +40,17 @@ returns-clause-round c past stands =
     refl refl refl refl took.1 (took.2 ∙ ap (λ r. with_dealt r took.0) c.opened-round.ensures) took.3)
 
 -- and the generator stands for that, as long as it is not spent
-pub invariant_of-self-then : goal.invariant_of-self-then
-invariant_of-self-then c =
+pub invariant_of-self : goal.invariant_of-self
+invariant_of-self c =
     let old = the_view c.self.inside in
-    let l = c.self.invariant c.if-spent.false in
+    let l = c.self.invariant c.if-self.false in
     let kind = old.servers.parents.kind in
     let at = c.args.now in
     let past = l.past in
     let s = l.stands in
     let may = subst (λ a. MayAsk _ default_backoff kind s.budget s.before s.mine past.events a old.core) (sym c.in_ok-feed.ensures) (opened _ default_backoff past old s) in
-    let k = c.in_ok-asked.ensures.asked default_backoff kind s.budget s.before s.mine past.events may in
+    let k = subst (λ a. AreAsked _ default_backoff kind c.args.budget (s.before ++ s.mine) past.events at.0 a c.in_ok-asked.asked c.ask_all.new.asks c.ask_all.new.core) c.in_ok-feed.ensures
+    (c.in_ok-asked.ensures.asked default_backoff kind s.budget s.before s.mine past.events may) in
     let world = core_world (generator_world _ default_backoff kind) in
     let settled = c.settle.ensures.stands world (past.events ++ map (Answered at.0) k.exchanges) k.so.may.core_stands in
     let took = c.in_ok-take_all.ensures.took world ((past.events ++ map (Answered at.0) k.exchanges) ++ Settled at.0 ∷ []) settled in
