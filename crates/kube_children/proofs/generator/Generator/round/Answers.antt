@@ -6,6 +6,7 @@ use Rattle.kube_children.specs.contracts.generator.Generator.{the_view}
 use Rattle.kube_children.specs.Asking.{AreAsked, MayAsk}
 use Rattle.kube_children.specs.Generators.{IsRound, StandsFor}
 use Rattle.kube_children.specs.Handling.{with_dealt}
+use Rattle.kube_children.specs.HandOvers.{AreDealt}
 use Rattle.kube_children.specs.Roots.{generator_world}
 use Rattle.kube_children.proofs.Rounding.{live-round, not-refused, opened, rounded}
 use Rattle.kube_children.proofs.generator.Generator.round.Goals as goal
@@ -35,13 +36,14 @@ returns-clause-round c past stands =
     let world = core_world (generator_world _ default_backoff kind) in
     let settled = c.settle.ensures.stands world (past.events ++ map (Answered at.0) k.exchanges) k.so.may.core_stands in
     let took = c.in_ok-take_all.ensures.took world ((past.events ++ map (Answered at.0) k.exchanges) ++ Settled at.0 ∷ []) settled in
+    let dealt = subst (λ f. AreDealt kind f old.servers took.0 (record { parents = c.take_all.new.parents; children = c.take_all.new.children })) c.as_str.ensures took.1 in
     subst (λ g. IsRound _ default_backoff past at c.args.budget g c.take_all.new.round _) c.self.view_is
     (rounded _ default_backoff past at c.args.budget old s c.in_ok-asked.asked c.ask_all.new.asks c.ask_all.new.core k took.0 (record { parents = c.take_all.new.parents; children = c.take_all.new.children }) c.take_all.new.round _
-    refl refl refl refl took.1 (took.2 ∙ ap (λ r. with_dealt r took.0) c.opened-round.ensures) took.3)
+    refl refl refl refl dealt (took.2 ∙ ap (λ r. with_dealt r took.0) c.opened-round.ensures) took.3)
 
 -- and the generator stands for that, as long as it is not spent
-pub invariant_of-self : goal.invariant_of-self
-invariant_of-self c =
+pub invariant_of-self-2 : goal.invariant_of-self-2
+invariant_of-self-2 c =
     let old = the_view c.self.inside in
     let l = c.self.invariant c.if-self.false in
     let kind = old.servers.parents.kind in
@@ -54,7 +56,8 @@ invariant_of-self c =
     let world = core_world (generator_world _ default_backoff kind) in
     let settled = c.settle.ensures.stands world (past.events ++ map (Answered at.0) k.exchanges) k.so.may.core_stands in
     let took = c.in_ok-take_all.ensures.took world ((past.events ++ map (Answered at.0) k.exchanges) ++ Settled at.0 ∷ []) settled in
+    let dealt = subst (λ f. AreDealt kind f old.servers took.0 (record { parents = c.take_all.new.parents; children = c.take_all.new.children })) c.as_str.ensures took.1 in
     live-round _ default_backoff past at c.args.budget old c.take_all.new.round _
     (rounded _ default_backoff past at c.args.budget old s c.in_ok-asked.asked c.ask_all.new.asks c.ask_all.new.core k took.0 (record { parents = c.take_all.new.parents; children = c.take_all.new.children }) c.take_all.new.round _
-    refl refl refl refl took.1 (took.2 ∙ ap (λ r. with_dealt r took.0) c.opened-round.ensures) took.3)
+    refl refl refl refl dealt (took.2 ∙ ap (λ r. with_dealt r took.0) c.opened-round.ensures) took.3)
     c.in_ok-take_all.ensures.clock refl
