@@ -22,12 +22,6 @@ returns-in-Delete-clause-stands c past s =
     stands-changed delays default_backoff past old c.request_delete.new.self same (subst (StandsFor delays default_backoff past) (sym c.self.view_is) s)
 
 -- the parents' log goes on
-pub invariant_of-self-in-Put : goal.invariant_of-self-in-Put
-invariant_of-self-in-Put c =
-    let old = the_view c.self.inside in
-    let same = changed-kind old.servers.parents c.put_over.new.server (Put c.in-Put.object) c.args.now.0 c.put_over.result c.put_over.ensures.step c.put_over.ensures.err in
-    live-changed delays default_backoff old c.put_over.new.server same c.put_over.ensures.later c.self.invariant
-
 pub invariant_of-self-in-Delete : goal.invariant_of-self-in-Delete
 invariant_of-self-in-Delete c =
     let old = the_view c.self.inside in
