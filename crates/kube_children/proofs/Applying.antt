@@ -86,7 +86,7 @@ left-over uid children h q x well found = by-found (object_at q h.objects) refl
 -- ---- an Apply
 
 module _ (kind : ObjectType) (name : List ℕ) (es after : List (CoreEvent DynamicObject)) (o : DynamicObject) (h : Holding)
-    (handed : (k : Reference) → last_under kind name after k ≡ cond (same_reference (reference_to kind o.metadata) k) (Some o) (last_under kind name es k)) where
+    (handed : (k : Reference) → last_under kind after k ≡ cond (same_reference (reference_to kind o.metadata) k) (Some o) (last_under kind es k)) where
   abbrev own_key : Reference
   own_key = reference_to kind o.metadata
 
@@ -94,21 +94,21 @@ module _ (kind : ObjectType) (name : List ℕ) (es after : List (CoreEvent Dynam
   owner = owner_of kind o.metadata
 
   -- under another key the last hand-over is as it was
-  before-it : (k : Reference) (q : DynamicObject) → same_reference own_key k ≡ false → last_under kind name after k ≡ Some q → last_under kind name es k ≡ Some q
-  before-it k q e l = sym (handed k ∙ ap (λ b. cond b (Some o) (last_under kind name es k)) e) ∙ l
+  before-it : (k : Reference) (q : DynamicObject) → same_reference own_key k ≡ false → last_under kind after k ≡ Some q → last_under kind es k ≡ Some q
+  before-it k q e l = sym (handed k ∙ ap (λ b. cond b (Some o) (last_under kind es k)) e) ∙ l
 
-  since-it : (k : Reference) (q : DynamicObject) → same_reference own_key k ≡ false → last_under kind name es k ≡ Some q → last_under kind name after k ≡ Some q
-  since-it k q e l = handed k ∙ (ap (λ b. cond b (Some o) (last_under kind name es k)) e ∙ l)
+  since-it : (k : Reference) (q : DynamicObject) → same_reference own_key k ≡ false → last_under kind es k ≡ Some q → last_under kind after k ≡ Some q
+  since-it k q e l = handed k ∙ (ap (λ b. cond b (Some o) (last_under kind es k)) e ∙ l)
 
   -- and under its own key it is this one
-  is-it : (k : Reference) (q : DynamicObject) → same_reference own_key k ≡ true → last_under kind name after k ≡ Some q → q ≡ o
+  is-it : (k : Reference) (q : DynamicObject) → same_reference own_key k ≡ true → last_under kind after k ≡ Some q → q ≡ o
   is-it k q e l =
-      let both : Some o ≡ Some q = sym (handed k ∙ ap (λ b. cond b (Some o) (last_under kind name es k)) e) ∙ l in
+      let both : Some o ≡ Some q = sym (handed k ∙ ap (λ b. cond b (Some o) (last_under kind es k)) e) ∙ l in
       cc
 
   module _ (children : List ObjectData) (well : IsWell h) (themselves : AreThemselves children) (apart : IsDistinct same_key (keys children)) (sound : first_foreign owner h children ≡ None)
-      (others : (k : Reference) (q : DynamicObject) → last_under kind name es k ≡ Some q → decision_on name q.metadata ≡ Apply → same_reference own_key k ≡ false → bytes_eq (owner_of kind q.metadata).uid owner.uid ≡ false)
-      (one-life : (k : Reference) (q : DynamicObject) → last_under kind name es k ≡ Some q → decision_on name q.metadata ≡ Apply → same_reference own_key k ≡ true → (owner_of kind q.metadata).uid ≡ owner.uid)
+      (others : (k : Reference) (q : DynamicObject) → last_under kind es k ≡ Some q → decision_on name q.metadata ≡ Apply → same_reference own_key k ≡ false → bytes_eq (owner_of kind q.metadata).uid owner.uid ≡ false)
+      (one-life : (k : Reference) (q : DynamicObject) → last_under kind es k ≡ Some q → decision_on name q.metadata ≡ Apply → same_reference own_key k ≡ true → (owner_of kind q.metadata).uid ≡ owner.uid)
       (exact : HoldsExactly (IsWantedLast kind name es) h) where
     abbrev brought : Holding
     brought = with_children h children
@@ -117,7 +117,7 @@ module _ (kind : ObjectType) (name : List ℕ) (es after : List (CoreEvent Dynam
     brought-well = children-well h children themselves well
 
     -- a child of another parent stays
-    stays : (child : ObjectData) → IsWantedLast kind name es child → (q : DynamicObject) (k : Reference) → last_under kind name es k ≡ Some q → decision_on name q.metadata ≡ Apply → IsOneOf (wanted kind (seen_object q)) child
+    stays : (child : ObjectData) → IsWantedLast kind name es child → (q : DynamicObject) (k : Reference) → last_under kind es k ≡ Some q → decision_on name q.metadata ≡ Apply → IsOneOf (wanted kind (seen_object q)) child
         → same_reference own_key k ≡ false → IsHeldAs child (found_in (less_unwanted owner.uid children brought) child.metadata)
     stays child wants q k l applies one other = by-found (found_in h child.metadata) refl (exact.there child wants)
       where
@@ -172,7 +172,7 @@ module _ (kind : ObjectType) (name : List ℕ) (es after : List (CoreEvent Dynam
             by-choice : ((c : ObjectData) × IsOneOf children c × (key_of c.metadata ≡ key)) ⊎ IsNoKeyOf key children → (child : ObjectData) × IsWantedLast kind name after child × (key_of child.metadata ≡ key) × (same_child x child ≡ true)
             by-choice (inl c) =
                 let in-place : found_in brought c.0.metadata ≡ Some x = ap (λ k. object_at k brought.objects) c.2 ∙ left.0 in
-                let last-is : last_under kind name after own_key ≡ Some o = handed own_key ∙ ap (λ b. cond b (Some o) (last_under kind name es own_key)) (same_reference_equiv.refl own_key) in (
+                let last-is : last_under kind after own_key ≡ Some o = handed own_key ∙ ap (λ b. cond b (Some o) (last_under kind es own_key)) (same_reference_equiv.refl own_key) in (
                   c.0,
                   record { key = own_key; parent = o; handed = last-is; applies = applies; among = subst (λ cs. IsOneOf cs c.0) are c.1 },
                   c.2,

@@ -6,6 +6,10 @@ pub mod Dealing
 pub mod Asking
 pub mod Rounding
 pub mod Lives
+pub mod Decisions
+pub mod Orders
+pub mod Refinalized
+pub mod HandedOn
 pub mod Keeping
 pub mod Changing
 pub mod Lookups

@@ -13,7 +13,7 @@ use Rattle.kube_server.specs.History.{Change, Adds, Modifies, Removes, Key, key_
 use Rattle.kube_server.specs.Servers.{made_uid, meta_of}
 use Rattle.kube_server.proofs.HistoryLemmas.{same-equal}
 use Rattle.kube_server.proofs.StateLemmas.{found-more}
-use Rattle.kube_children.specs.Lives.{AreLives, IsBorn, IsGuardedUntilCleaned, IsNeverTakenBack, IsPassed, StandsGuarded, cleans, is_guarded}
+use Rattle.kube_children.specs.Lives.{AreLives, AreParents, IsBorn, IsGuardedUntilCleaned, IsNeverTakenBack, IsOfUid, IsOneLife, IsParent, IsPassed, IsWritten, StandsGuarded, cleans, is_guarded}
 
 -- ---- lists
 
@@ -159,37 +159,97 @@ module _ (kind : ObjectType) (name : List ℕ) (changes : List (Change DynamicOb
       by-revision (inl above) = by-newest above (found-newest key r p above within found)
       by-revision (inr below) = born-later key r r p (omega arith) (lives key r p below (earlier key r p below found))
 
+  -- ---- objects under their keys
+
+  abbrev PutsParent : Change DynamicObject → Type 0
+  PutsParent (Adds o) = (is_some o.metadata.name ≡ true) × IsWritten o
+  PutsParent (Modifies o) = (is_some o.metadata.name ≡ true) × IsWritten o
+  PutsParent (Removes o) = Unit {0}
+
+  pub parents-more : PutsParent change → AreParents changes → AreParents after
+  parents-more puts parents key r p within found = by-revision (cases_lt (length changes) r)
+    where
+      is-it : (o : DynamicObject) → (is_some o.metadata.name ≡ true) × IsWritten o → (key ≡ key_of o.metadata) × (o ≡ p) → IsParent key p
+      is-it o both (here, put) = subst (IsParent key) put (record { place = sym here; named = both.0; written = both.1 })
+
+      by-put : (c : Change DynamicObject) → PutsParent c → PutsUnder key p c → IsParent key p
+      by-put (Adds o) both h = is-it o both h
+      by-put (Modifies o) both h = is-it o both h
+      by-put (Removes o) both h = absurd h
+
+      by-newest : (object_at key (state_of meta_of changes) ≡ Some p) ⊎ PutsUnder key p change → IsParent key p
+      by-newest (inl before) = parents key (length changes) p (omega arith) (whole key p before)
+      by-newest (inr h) = by-put change puts h
+
+      by-revision : (length changes < r) ⊎ (r ≤ length changes) → IsParent key p
+      by-revision (inl above) = by-newest (found-newest key r p above within found)
+      by-revision (inr below) = parents key r p below (earlier key r p below found)
+
+  -- ---- where what is new under a key came from
+
+  -- of the uid of one that stood there before: from what stood there last
+  record IsFrom (key : Key) (p : DynamicObject) : Type 0 where
+    old : DynamicObject
+    stands : object_at key (state_of meta_of changes) ≡ Some old
+    uid : p.metadata.uid ≡ old.metadata.uid
+    deleting : is_some old.metadata.deletion_timestamp ≡ true → is_some p.metadata.deletion_timestamp ≡ true
+
+  came-from : length after < 2 ^ 64 → AreLives changes → KeepsLives changes change → (key : Key) (r s : ℕ) (o p : DynamicObject) → r ≤ length changes → object_at key (state_at meta_of changes r) ≡ Some o
+      → length changes < s → s ≤ length after → object_at key (state_at meta_of after s) ≡ Some p → o.metadata.uid ≡ p.metadata.uid → IsFrom key p
+  came-from bound lives keeps key r s o p below at-r above within at-s same = by-newest (found-newest key s p above within at-s)
+    where
+      by-put : (c : Change DynamicObject) → KeepsLives changes c → PutsUnder key p c → IsFrom key p
+      by-put (Adds q) uid (here, put) =
+          let b : IsBorn changes key r o = lives key r o below at-r in
+          let made : Some (made_uid (suc b.born)) ≡ Some (made_uid (suc (length changes))) = sym b.uid ∙ same ∙ ap (λ (x : DynamicObject). x.metadata.uid) (sym put) ∙ uid in
+          let one : suc b.born ≡ suc (length changes) = uids-apart (suc b.born) (suc (length changes)) (omega (arith, b.before, below, bound, longer)) (omega (arith, bound, longer)) made in
+          absurd (omega (arith, one, b.before, below))
+      by-put (Modifies q) life (here, put) = record {
+        old = life.old;
+        stands = ap (λ k. object_at k (state_of meta_of changes)) here ∙ life.stands;
+        uid = ap (λ (x : DynamicObject). x.metadata.uid) (sym put) ∙ life.uid;
+        deleting = λ d. subst (λ (x : DynamicObject). is_some x.metadata.deletion_timestamp ≡ true) put (life.deleting d);
+      }
+      by-put (Removes q) life puts = absurd puts
+
+      by-newest : (object_at key (state_of meta_of changes) ≡ Some p) ⊎ PutsUnder key p change → IsFrom key p
+      by-newest (inl before) = record { old = p; stands = before; uid = refl; deleting = λ d. d }
+      by-newest (inr puts) = by-put change keeps puts
+
   -- ---- deletions
 
   pub deleted-more : length after < 2 ^ 64 → AreLives changes → KeepsLives changes change → IsNeverTakenBack changes → IsNeverTakenBack after
   deleted-more bound lives keeps deleted key r s o p rises within at-r at-s same deleting = by-revision (cases_lt (length changes) s) (cases_lt (length changes) r)
     where
-      old-o : r ≤ length changes → object_at key (state_at meta_of changes r) ≡ Some o
-      old-o below = earlier key r o below at-r
-
-      by-put : (c : Change DynamicObject) → KeepsLives changes c → r ≤ length changes → PutsUnder key p c → is_some p.metadata.deletion_timestamp ≡ true
-      by-put (Adds q) uid below (here, put) =
-          let b : IsBorn changes key r o = lives key r o below (old-o below) in
-          let made : Some (made_uid (suc b.born)) ≡ Some (made_uid (suc (length changes))) = sym b.uid ∙ same ∙ ap (λ (x : DynamicObject). x.metadata.uid) (sym put) ∙ uid in
-          let one : suc b.born ≡ suc (length changes) = uids-apart (suc b.born) (suc (length changes)) (omega (arith, b.before, below, bound, longer)) (omega (arith, bound, longer)) made in
-          absurd (omega (arith, one, b.before, below))
-      by-put (Modifies q) life below (here, put) =
-          let stays : object_at key (state_of meta_of changes) ≡ Some life.old = ap (λ k. object_at k (state_of meta_of changes)) here ∙ life.stands in
-          let uid : o.metadata.uid ≡ life.old.metadata.uid = same ∙ ap (λ (x : DynamicObject). x.metadata.uid) (sym put) ∙ life.uid in
-          let before : is_some life.old.metadata.deletion_timestamp ≡ true = deleted key r (length changes) o life.old below (omega arith) (old-o below) (whole key life.old stays) uid deleting in
-          subst (λ (x : DynamicObject). is_some x.metadata.deletion_timestamp ≡ true) put (life.deleting before)
-      by-put (Removes q) life below puts = absurd puts
-
-      by-newest : r ≤ length changes → (object_at key (state_of meta_of changes) ≡ Some p) ⊎ PutsUnder key p change → is_some p.metadata.deletion_timestamp ≡ true
-      by-newest below (inl before) = deleted key r (length changes) o p below (omega arith) (old-o below) (whole key p before) same deleting
-      by-newest below (inr puts) = by-put change keeps below puts
-
       by-revision : (length changes < s) ⊎ (s ≤ length changes) → (length changes < r) ⊎ (r ≤ length changes) → is_some p.metadata.deletion_timestamp ≡ true
-      by-revision (inr low) high = deleted key r s o p rises low (old-o (omega (arith, rises, low))) (earlier key s p low at-s) same deleting
-      by-revision (inl above) (inr below) = by-newest below (found-newest key s p above within at-s)
+      by-revision (inr low) high = deleted key r s o p rises low (earlier key r o (omega (arith, rises, low)) at-r) (earlier key s p low at-s) same deleting
+      by-revision (inl above) (inr below) =
+          let before = earlier key r o below at-r in
+          let f : IsFrom key p = came-from bound lives keeps key r s o p below before above within at-s same in
+          f.deleting (deleted key r (length changes) o f.old below (omega arith) before (whole key f.old f.stands) (same ∙ f.uid) deleting)
       by-revision (inl above) (inl top) =
           let one : Some o ≡ Some p = sym at-r ∙ ap (object_at key) (newest-at r top (omega (arith, rises, within)) ∙ sym (newest-at s above within)) ∙ at-s in
           subst (λ (x : DynamicObject). is_some x.metadata.deletion_timestamp ≡ true) (some-same o p one) deleting
+
+  -- ---- one life
+
+  pub one-life-more : length after < 2 ^ 64 → AreLives changes → KeepsLives changes change → IsOneLife changes → IsOneLife after
+  one-life-more bound lives keeps life key r m s o p low high within at-r at-s same = by-revision (cases_lt (length changes) s) (cases_lt (length changes) m)
+    where
+      old-state : m ≤ length changes → IsOfUid o.metadata.uid (object_at key (state_at meta_of changes m)) → IsOfUid o.metadata.uid (object_at key (state_at meta_of after m))
+      old-state below h = subst (IsOfUid o.metadata.uid) (sym (ap (λ cs. object_at key (state_of meta_of cs)) (take-append-le m changes (change ∷ []) below))) h
+
+      by-revision : (length changes < s) ⊎ (s ≤ length changes) → (length changes < m) ⊎ (m ≤ length changes) → IsOfUid o.metadata.uid (object_at key (state_at meta_of after m))
+      by-revision (inr below-s) either =
+          let below : m ≤ length changes = omega (arith, high, below-s) in
+          old-state below (life key r m s o p low high below-s (earlier key r o (omega (arith, low, below)) at-r) (earlier key s p below-s at-s) same)
+      by-revision (inl above) (inr below) =
+          let before = earlier key r o (omega (arith, low, below)) at-r in
+          let f : IsFrom key p = came-from bound lives keeps key r s o p (omega (arith, low, below)) before above within at-s same in
+          old-state below (life key r m (length changes) o f.old low below (omega arith) before (whole key f.old f.stands) (same ∙ f.uid))
+      by-revision (inl above) (inl top) =
+          let one : object_at key (state_at meta_of after m) ≡ Some p = ap (object_at key) (newest-at m top (omega (arith, high, within)) ∙ sym (newest-at s above within)) ∙ at-s in
+          subst (IsOfUid o.metadata.uid) (sym one) (sym same)
 
   -- ---- finalizers
 
@@ -262,6 +322,37 @@ module _ (kind : ObjectType) (name : List ℕ) (changes : List (Change DynamicOb
       by-newest : r ≤ length changes → (object_at key (state_of meta_of changes) ≡ Some o) ⊎ PutsUnder key o change → q.metadata.uid ≡ o.metadata.uid
       by-newest below (inl before) = passed key r q o low below (old-q below) has deleting (whole key o before) guarded
       by-newest below (inr puts) = by-put change none below puts
+
+      by-revision : (length changes < r) ⊎ (r ≤ length changes) → q.metadata.uid ≡ o.metadata.uid
+      by-revision (inr below) = by-newest below (found-newest key (length after) o newest (omega arith) at-o)
+      by-revision (inl above) =
+          let one : Some q ≡ Some o = sym at-q ∙ ap (object_at key) (newest-at r above within ∙ sym (newest-at (length after) newest (omega arith))) ∙ at-o in
+          ap (λ (x : DynamicObject). x.metadata.uid) (some-same q o one)
+
+  -- what was guarded and being deleted under the key of a change is none, or of the life that is there
+  abbrev IsFreeOfPassed : ℕ → Change DynamicObject → Type 0
+  IsFreeOfPassed revision (Adds o) = is_guarded name o ≡ false
+  IsFreeOfPassed revision (Modifies o) = (r : ℕ) (q : DynamicObject) → revision ≤ r → r ≤ length changes → object_at (key_of o.metadata) (state_at meta_of changes r) ≡ Some q → is_guarded name q ≡ true
+      → is_some q.metadata.deletion_timestamp ≡ true → ⊥
+  IsFreeOfPassed revision (Removes o) = Unit {0}
+
+  pub passed-freely : (revision : ℕ) → IsFreeOfPassed revision change → IsPassed name changes revision → IsPassed name after revision
+  passed-freely revision free passed key r q o low within at-q has deleting at-o guarded = by-revision (cases_lt (length changes) r)
+    where
+      newest : length changes < length after
+      newest = omega (arith, longer)
+
+      old-q : r ≤ length changes → object_at key (state_at meta_of changes r) ≡ Some q
+      old-q below = earlier key r q below at-q
+
+      by-put : (c : Change DynamicObject) → IsFreeOfPassed revision c → r ≤ length changes → PutsUnder key o c → q.metadata.uid ≡ o.metadata.uid
+      by-put (Adds n) bare below (here, put) = absurd (true≢false (sym guarded ∙ ap (is_guarded name) (sym put) ∙ bare))
+      by-put (Modifies n) none below (here, put) = absurd (none r q low below (ap (λ k. object_at k (state_at meta_of changes r)) (sym here) ∙ old-q below) has deleting)
+      by-put (Removes n) m below puts = absurd puts
+
+      by-newest : r ≤ length changes → (object_at key (state_of meta_of changes) ≡ Some o) ⊎ PutsUnder key o change → q.metadata.uid ≡ o.metadata.uid
+      by-newest below (inl before) = passed key r q o low below (old-q below) has deleting (whole key o before) guarded
+      by-newest below (inr puts) = by-put change free below puts
 
       by-revision : (length changes < r) ⊎ (r ≤ length changes) → q.metadata.uid ≡ o.metadata.uid
       by-revision (inr below) = by-newest below (found-newest key (length after) o newest (omega arith) at-o)

@@ -1,5 +1,6 @@
 -- The children that the last hand-overs want, and those that the parents want, and when a server holds exactly these. (Kubernetes API concept "owners and dependents".)
 use Rattle.std.specs.Prelude.{◌≡◌, ℕ, true, List, Option, Some, None, is_some, slice_get}
+use Rattle.std.specs.List.{AllByRecursion}
 use Rattle.kube_meta.specs.declared.dynamic.DynamicObject.{DynamicObject}
 use Rattle.kube_meta.specs.Keys.{is_named, key_of as reference_to}
 use Rattle.kube_meta.specs.Reference.{ObjectType, Reference}
@@ -7,12 +8,12 @@ use Rattle.kube_meta.specs.Reading.{ObjectData, seen_object}
 use Rattle.kube_history.specs.CoreWorld.{CoreWorld}
 use Rattle.kube_history.specs.CoreEvents.{CoreEvent}
 use Rattle.kube_history.specs.SettledEvents.{last_handed_in}
-use Rattle.kube_server.specs.History.{Key, key_of, object_at}
+use Rattle.kube_server.specs.History.{Key, State, key_of, object_at}
 use Rattle.kube_server.specs.Servers.{ServerState, held_under}
 use Rattle.kube_final.specs.declared.finalizer.Decision.TheVariants.{Apply}
 use Rattle.kube_final.specs.Finalizers.{decision_on, finalizers_in, first_index}
-use Rattle.kube_children.specs.Wanted.{owner_of, wanted, is_owned_by, same_child}
-use Rattle.kube_children.specs.Branches.{Holding, found_in, is_among}
+use Rattle.kube_children.specs.Wanted.{wanted, same_child}
+use Rattle.kube_children.specs.Branches.{Holding, found_in}
 
 -- ---- children that are wanted
 
@@ -23,6 +24,10 @@ IsOneOf children child = (index : ℕ) × (slice_get children index ≡ Some chi
 abbrev pub IsHeldAs : ObjectData → Option ObjectData → Type 0
 IsHeldAs child None = ⊥
 IsHeldAs child (Some o) = same_child o child ≡ true
+
+-- each object stands under its own key, and has a name
+abbrev pub AreKeyed : State ObjectData → Type 0
+AreKeyed objects = AllByRecursion (λ e. (e.0 ≡ key_of e.1.metadata) × (is_named e.1.metadata ≡ true)) objects
 
 -- the children that are held, by their equality, are exactly those that are wanted
 pub record HoldsExactly (Wants : ObjectData → Type 0) (h : Holding) : Type 0 where
@@ -40,16 +45,16 @@ parents_core kind = record {
   debounce = 0;
 }
 
-module _ (kind : ObjectType) (name : List ℕ) where
-  -- the object that was handed over last under a key
-  abbrev pub last_under : List (CoreEvent DynamicObject) → Reference → Option DynamicObject
-  last_under es r = last_handed_in (parents_core kind) es r
+-- the object that was handed over last under a key
+abbrev pub last_under : ObjectType → List (CoreEvent DynamicObject) → Reference → Option DynamicObject
+last_under kind es r = last_handed_in (parents_core kind) es r
 
+module _ (kind : ObjectType) (name : List ℕ) where
   -- the last hand-over of some key was an Apply, and the object that was handed over wants this child
   pub record IsWantedLast (es : List (CoreEvent DynamicObject)) (child : ObjectData) : Type 0 where
     pub key : Reference
     pub parent : DynamicObject
-    pub handed : last_under es key ≡ Some parent
+    pub handed : last_under kind es key ≡ Some parent
     pub applies : decision_on name parent.metadata ≡ Apply
     pub among : IsOneOf (wanted kind (seen_object parent)) child
 
@@ -61,19 +66,3 @@ module _ (kind : ObjectType) (name : List ℕ) where
     pub guarded : is_some (first_index name (finalizers_in parent.metadata)) ≡ true
     pub stays : parent.metadata.deletion_timestamp ≡ None
     pub among : IsOneOf (wanted kind parent) child
-
-  -- ---- children
-
-  -- a child that is there is of a parent whose last hand-over was an Apply, owned by it alone, and stands in the place of one that it wants
-  pub record IsChildOf (es : List (CoreEvent DynamicObject)) (o : ObjectData) : Type 0 where
-    pub key : Reference
-    pub parent : DynamicObject
-    pub handed : last_under es key ≡ Some parent
-    pub applies : decision_on name parent.metadata ≡ Apply
-    pub owned : is_owned_by (owner_of kind parent.metadata) o.metadata ≡ true
-    pub among : is_among (wanted kind (seen_object parent)) o.metadata ≡ true
-
-  -- no two that were handed over last as an Apply, under different keys, want a child in one place
-  pub record AreApart (es : List (CoreEvent DynamicObject)) : Type 0 where
-    pub apart : (a b : Reference) (p q : DynamicObject) → last_under es a ≡ Some p → last_under es b ≡ Some q → decision_on name p.metadata ≡ Apply → decision_on name q.metadata ≡ Apply
-        → (c d : ObjectData) → IsOneOf (wanted kind (seen_object p)) c → IsOneOf (wanted kind (seen_object q)) d → key_of c.metadata ≡ key_of d.metadata → p.metadata.uid ≡ q.metadata.uid

@@ -1,27 +1,24 @@
 -- What rounds keep of two servers: the children are those that the parents' last hand-overs want. (Kubernetes API concepts: "finalizers", "owners and dependents", "resource versions".)
-use Rattle.std.specs.Prelude.{◌≡◌, ℕ, ◌≤◌, Bool, true, false, List, length, Some}
+use Rattle.std.specs.Prelude.{◌≡◌, ℕ, ◌≤◌, Bool, true, false, List, length}
 use Rattle.std.specs.List.{fold, list_any}
 use Rattle.kube_meta.specs.Keys.{key_of as reference_to}
 use Rattle.kube_meta.specs.declared.dynamic.DynamicObject.{DynamicObject}
 use Rattle.kube_meta.specs.Reference.{ObjectType, Reference}
-use Rattle.kube_meta.specs.Reading.{ObjectData}
 use Rattle.kube_model.specs.Recorded.{AreRecorded}
 use Rattle.kube_model.specs.Store.{is_ready}
 use Rattle.kube_history.specs.CoreEvents.{CoreEvent, cache_of, root_answers}
 use Rattle.kube_history.specs.SettledEvents.{has_entry}
-use Rattle.kube_server.specs.History.{Key, object_at}
 use Rattle.kube_server.specs.Servers.{ServerState, meta_of}
 use Rattle.kube_server.specs.Connections.{Act, Connection, acted, fresh, selected_by}
 use Rattle.kube_watch.specs.Calls.{version_of}
 use Rattle.kube_honest.specs.States.{selection_by, IsStateAt}
 use Rattle.kube_children.specs.declared.round.Round.{Round}
 use Rattle.kube_children.specs.Branches.{holding}
-use Rattle.kube_children.specs.Exactly.{AreApart, HoldsExactly, IsChildOf, IsWantedLast, IsWantedNow, parents_core}
+use Rattle.kube_children.specs.Exactly.{AreKeyed, HoldsExactly, IsWantedLast, IsWantedNow, parents_core}
 use Rattle.kube_children.specs.Generators.{Generating, Past}
-use Rattle.kube_children.specs.Lives.{AreLives, AreNewParents, IsGuardedUntilCleaned, IsNeverTakenBack, IsPassed}
 use Rattle.kube_children.specs.Roots.{conn_of, root_settings}
+use Rattle.kube_children.specs.Sights.{AreInOrder}
 use Rattle.kube_children.specs.Rounds.{is_foreign_fault}
-use Rattle.kube_children.specs.Sights.{AreSights, AreStaged}
 
 -- ---- faults so far
 
@@ -47,20 +44,12 @@ module _ (kind : ObjectType) (name : List ℕ) where
     pub known : revision ≤ length conn.changes
     pub stored : is_ready (root_answers es) ≡ true
         → IsStateAt (λ o. reference_to kind o.metadata) meta_of (selected_by meta_of) conn.changes (selection_by root_settings) revision (cache_of (parents_core kind) es)
-    pub sights : AreSights conn.changes 0 es revision
     -- (4) where the first list is complete, and no round had a fault, nothing is left to come
     pub quiet : is_ready (root_answers es) ≡ true → had_fault rounds ≡ false → (r : Reference) → has_entry (parents_core kind) es r ≡ false
-    -- (5) each parent that is new has the uid of its revision, and keeps it, so no two lives share one
-    pub parents_new : AreNewParents name 0 parents.changes
-    pub lives : AreLives parents.changes
-    -- (6) hand-overs of each life come in its order; a deletion is never taken back, and a finalizer stays until its cleanup
-    pub staged : (uid : List ℕ) → AreStaged name uid 0 es
-    pub deleted : IsNeverTakenBack parents.changes
-    pub guarded : IsGuardedUntilCleaned name parents.changes es
-    pub passed : IsPassed name parents.changes revision
-    -- (7) each child has one owner, whose last hand-over wants it; and these want children in places of their own
-    pub owned : (key : Key) (o : ObjectData) → object_at key (holding children).objects ≡ Some o → IsChildOf kind name es o
-    pub apart : AreApart kind name es
+    -- (5) and (6) no two lives share a uid, and hand-overs of each life come in its order
+    pub order : AreInOrder kind name parents.changes es revision
+    -- (7) each child stands under its own key, and has a name
+    pub keyed : AreKeyed (holding children).objects
     -- (8) each child that a last hand-over wants is there
     pub exact : HoldsExactly (IsWantedLast kind name es) (holding children)
 

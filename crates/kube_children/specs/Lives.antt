@@ -1,9 +1,11 @@
 -- The lives of parents: what the owner of the servers sees to, uids, deletions and finalizers. (Kubernetes API concepts: "object names and IDs", "finalizers".)
-use Rattle.std.specs.Prelude.{◌≡◌, ◌⊎◌, ℕ, suc, ◌≤◌, ◌<◌, Bool, true, false, ◌&&◌, List, [], ◌∷◌, length, Option, Some, None, is_some, slice_get}
+use Rattle.std.specs.Prelude.{◌≡◌, ◌⊎◌, ℕ, suc, ◌≤◌, ◌<◌, Bool, true, false, ◌&&◌, List, [], ◌∷◌, length, Option, Some, None, is_some, slice_get, IfSome}
 use Rattle.std.specs.List.{list_any}
 use Rattle.std.specs.Option.{option_eq}
 use Rattle.std.specs.Str.{bytes_eq}
+use Rattle.serde_json.specs.View.{view}
 use Rattle.kube_meta.specs.declared.dynamic.DynamicObject.{DynamicObject}
+use Rattle.kube_meta.specs.Writing.{IsContent, IsSmall}
 use Rattle.kube_history.specs.CoreEvents.{CoreEvent, Took}
 use Rattle.kube_server.specs.History.{Key, Change, Adds, Modifies, Removes, key_of, object_at, state_at}
 use Rattle.kube_server.specs.Servers.{made_uid, meta_of}
@@ -13,16 +15,29 @@ use Rattle.kube_final.specs.Finalizers.{decision_on, finalizers_in, first_index}
 
 -- ---- the premise: what the owner of the servers sees to
 
--- a parent that is new brings no uid, so that it gets that of its revision, and not the finalizer's name
+-- a parent is as one that was read: its content has no members named as types or metadata and no fractions, and its generation is an `i64`
+abbrev pub IsWritten : DynamicObject → Type 0
+IsWritten o = IsContent (view o.content) × IfSome o.metadata.generation IsSmall
+
+-- one that is new brings no uid, so that it gets that of its revision, and not the finalizer's name
 abbrev pub IsNewParent : List ℕ → ℕ → Change DynamicObject → Type 0
-IsNewParent name r (Adds o) = (o.metadata.uid ≡ Some (made_uid r)) × (first_index name (finalizers_in o.metadata) ≡ None)
-IsNewParent name r (Modifies o) = Unit {0}
+IsNewParent name r (Adds o) = (o.metadata.uid ≡ Some (made_uid r)) × (first_index name (finalizers_in o.metadata) ≡ None) × IsWritten o
+IsNewParent name r (Modifies o) = IsWritten o
 IsNewParent name r (Removes o) = Unit {0}
 
 -- so it is of each change after a revision
 abbrev pub AreNewParents : List ℕ → ℕ → List (Change DynamicObject) → Type 0
 AreNewParents name r [] = Unit {0}
 AreNewParents name r (change ∷ changes) = IsNewParent name (suc r) change × AreNewParents name (suc r) changes
+
+-- what stands under a key is of that key, has a name, and is as one that was read
+pub record IsParent (key : Key) (o : DynamicObject) : Type 0 where
+  pub place : key_of o.metadata ≡ key
+  pub named : is_some o.metadata.name ≡ true
+  pub written : IsWritten o
+
+abbrev pub AreParents : List (Change DynamicObject) → Type 0
+AreParents changes = (key : Key) (r : ℕ) (o : DynamicObject) → r ≤ length changes → object_at key (state_at meta_of changes r) ≡ Some o → IsParent key o
 
 -- what stands under a key at a revision has the uid of an earlier one, which added it there
 pub record IsBorn (changes : List (Change DynamicObject)) (key : Key) (r : ℕ) (o : DynamicObject) : Type 0 where
@@ -43,6 +58,18 @@ AreLives changes = (key : Key) (r : ℕ) (o : DynamicObject) → r ≤ length ch
 abbrev pub IsNeverTakenBack : List (Change DynamicObject) → Type 0
 IsNeverTakenBack changes = (key : Key) (r s : ℕ) (o p : DynamicObject) → r ≤ s → s ≤ length changes → object_at key (state_at meta_of changes r) ≡ Some o → object_at key (state_at meta_of changes s) ≡ Some p
     → o.metadata.uid ≡ p.metadata.uid → is_some o.metadata.deletion_timestamp ≡ true → is_some p.metadata.deletion_timestamp ≡ true
+
+-- ---- one life
+
+-- an object of this uid was found
+abbrev pub IsOfUid : Option (List ℕ) → Option DynamicObject → Type 0
+IsOfUid uid None = ⊥
+IsOfUid uid (Some o) = o.metadata.uid ≡ uid
+
+-- what stands under a key at two revisions, of one uid, stands there in between
+abbrev pub IsOneLife : List (Change DynamicObject) → Type 0
+IsOneLife changes = (key : Key) (r m s : ℕ) (o p : DynamicObject) → r ≤ m → m ≤ s → s ≤ length changes → object_at key (state_at meta_of changes r) ≡ Some o → object_at key (state_at meta_of changes s) ≡ Some p
+    → o.metadata.uid ≡ p.metadata.uid → IsOfUid o.metadata.uid (object_at key (state_at meta_of changes m))
 
 -- ---- the finalizer of a name
 

@@ -1,12 +1,15 @@
--- The order in which parents are handed over: what they are seen as, and how far each life has come. (Crate: `finalizer::Event`.)
-use Rattle.std.specs.Prelude.{◌≡◌, ℕ, ◌≤◌, List, [], ◌∷◌, Option, Some, None}
+-- What hand-overs saw of the parents, and the order of each life. (Crate: `finalizer::Event`.)
+use Rattle.std.specs.Prelude.{◌≡◌, ℕ, ◌≤◌, false, length, List, [], ◌∷◌, Option, Some, None}
+use Rattle.std.specs.List.{list_any}
+use Rattle.kube_meta.specs.Reference.{ObjectType, Reference}
 use Rattle.kube_meta.specs.declared.dynamic.DynamicObject.{DynamicObject}
 use Rattle.kube_history.specs.CoreEvents.{CoreEvent, Took}
 use Rattle.kube_server.specs.History.{Change, key_of, object_at, state_at}
 use Rattle.kube_server.specs.Servers.{meta_of}
-use Rattle.kube_final.specs.declared.finalizer.Decision.{Decision}
-use Rattle.kube_final.specs.declared.finalizer.Decision.TheVariants.{Apply, Cleanup, AddFirst, AddMore, Nothing, Unnamed}
+use Rattle.kube_final.specs.declared.finalizer.Decision.TheVariants.{Apply}
 use Rattle.kube_final.specs.Finalizers.{decision_on}
+use Rattle.kube_children.specs.Exactly.{last_under}
+use Rattle.kube_children.specs.Lives.{AreLives, AreNewParents, AreParents, IsGuardedUntilCleaned, IsNeverTakenBack, IsOneLife, IsPassed, cleans}
 
 -- ---- sights
 
@@ -21,30 +24,25 @@ AreSights changes low [] high = low ≤ high
 AreSights changes low (Took at (Some t) ∷ es) high = (r : ℕ) × (low ≤ r) × IsSight changes r t.object × AreSights changes r es high
 AreSights changes low (_ ∷ es) high = AreSights changes low es high
 
--- ---- stages
+-- ---- the order of each life
 
--- how far a life has come: the finalizer is to be added, the branch of Apply is owed, or it is being deleted, and that of Cleanup is owed or nothing
-abbrev pub stage_of : Decision → ℕ
-stage_of AddFirst = 0
-stage_of AddMore = 0
-stage_of Apply = 1
-stage_of (Cleanup i) = 2
-stage_of Nothing = 2
-stage_of Unnamed = 2
+module _ (kind : ObjectType) (name : List ℕ) where
+  -- no life of which the last hand-over was an Apply was ever handed over to be cleaned up
+  abbrev pub AreUncleaned : List (CoreEvent DynamicObject) → Type 0
+  AreUncleaned es = (k : Reference) (q : DynamicObject) (uid : List ℕ) → last_under kind es k ≡ Some q → decision_on name q.metadata ≡ Apply → q.metadata.uid ≡ Some uid → list_any (cleans name uid) es ≡ false
 
--- an object of a uid was found
-abbrev pub of_uid : List ℕ → Option DynamicObject → Type 0
-of_uid uid None = ⊥
-of_uid uid (Some o) = o.metadata.uid ≡ Some uid
-
-module _ (name : List ℕ) where
-  abbrev pub stage_on : Option DynamicObject → ℕ
-  stage_on None = 0
-  stage_on (Some o) = stage_of (decision_on name o.metadata)
-
-  -- hand-overs of a uid come in the order of its life, after this stage
-  abbrev pub AreStaged : List ℕ → ℕ → List (CoreEvent DynamicObject) → Type 0
-  AreStaged uid stage [] = Unit {0}
-  AreStaged uid stage (Took at (Some t) ∷ es) =
-      (of_uid uid t.object → (stage ≤ stage_on t.object) × AreStaged uid (stage_on t.object) es) × ((of_uid uid t.object → ⊥) → AreStaged uid stage es)
-  AreStaged uid stage (_ ∷ es) = AreStaged uid stage es
+  -- what hand-overs saw of these parents, up to a revision
+  pub record AreInOrder (changes : List (Change DynamicObject)) (es : List (CoreEvent DynamicObject)) (revision : ℕ) : Type 0 where
+    -- each parent that is new has the uid of its revision, and keeps it, so no two lives share one
+    pub parents_new : AreNewParents name 0 changes
+    pub lives : AreLives changes
+    pub one_life : IsOneLife changes
+    pub parents : AreParents changes
+    -- a deletion is never taken back, and a finalizer stays until its cleanup
+    pub deleted : IsNeverTakenBack changes
+    pub guarded : IsGuardedUntilCleaned name changes es
+    pub passed : IsPassed name changes revision
+    -- hand-overs see revisions that never fall
+    pub known : revision ≤ length changes
+    pub sights : AreSights changes 0 es revision
+    pub uncleaned : AreUncleaned es
