@@ -149,10 +149,8 @@ pub fn is_equal(alloc: Global, left: &Value, right: &Value) -> Result<bool, NoMe
     Ok(left.to_string(alloc)? == right.to_string(alloc)?)
 }
 
-/// Whether a value holds a number that is neither a `u64` nor an `i64`. Such values are equal to none, and no object that is
-/// read holds one.
 #[cycle(fraction)]
-pub fn holds_fraction(value: &Value) -> bool
+fn holds_fraction(value: &Value) -> bool
     ensures { result ≡ has_float (view value.now) }
 {
     match value {

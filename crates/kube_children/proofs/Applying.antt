@@ -14,7 +14,8 @@ use Rattle.kube_meta.specs.ReferenceLaws.{same_reference_equiv}
 use Rattle.kube_history.specs.CoreEvents.{CoreEvent}
 use Rattle.kube_server.specs.History.{Key, key_of, same_key, object_at}
 use Rattle.kube_server.specs.Servers.{data_meta}
-use Rattle.kube_server.proofs.HistoryLemmas.{found-keyed, same-equal}
+use Rattle.kube_server.proofs.HistoryLemmas.{same-equal}
+use Rattle.kube_children.proofs.Found.{found-keyed}
 use Rattle.kube_server.proofs.WholeLemmas.{same-itself}
 use Rattle.kube_final.specs.declared.finalizer.Decision.TheVariants.{Apply}
 use Rattle.kube_final.specs.Finalizers.{decision_on}

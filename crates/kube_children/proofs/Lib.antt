@@ -12,6 +12,7 @@ pub mod Refinalized
 pub mod HandedOn
 pub mod Keeping
 pub mod Changing
+pub mod Found
 pub mod Lookups
 pub mod Exact
 pub mod Applying

@@ -8,9 +8,9 @@ use Rattle.kube_meta.specs.Keys.{is_named}
 use Rattle.kube_meta.specs.Reading.{ObjectData}
 use Rattle.kube_server.specs.History.{Key, key_of, key_cmp, same_key, State, object_at, objects_of, object_of, changed, state_of, IsHistory}
 use Rattle.kube_server.specs.Servers.{ServerState, meta_of, data_meta, put_object, put_over, removal}
-use Rattle.kube_server.proofs.HistoryLemmas.{AllKeyed, found-keyed, keyed-changed, keyed-state, same-equal}
+use Rattle.kube_server.proofs.HistoryLemmas.{AllKeyed, keyed-changed, keyed-state, same-equal}
+use Rattle.kube_children.proofs.Found.{found-changed, found-keyed}
 use Rattle.kube_server.proofs.OrderLemmas.{IsAscending, IsBelow, ascending-changed, keys_of, states-ascend}
-use Rattle.kube_server.proofs.StateLemmas.{found-changed}
 use Rattle.kube_server.proofs.WholeLemmas.{found-put, same-itself}
 use Rattle.kube_children.specs.Wanted.{same_child}
 use Rattle.kube_children.specs.Branches.{Holding, found_in, holding, holding_after, is_same_as, is_there, is_unwanted, less_at, less_found, less_objects, less_unwanted, seen_state, unwanted, with_child, with_children}

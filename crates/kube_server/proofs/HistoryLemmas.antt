@@ -138,7 +138,7 @@ found-when meta key object p ps true e k more h =
     subst (λ q. IsKeyed meta q) (λ i. (here i, one i)) (record { key = k.key; named = k.named })
 found-when meta key object p ps false e k more h = more h
 
-pub found-keyed : {V : Type 0} (meta : V → ObjectMeta) (key : Key) (object : V) (state : State V)
+found-keyed : {V : Type 0} (meta : V → ObjectMeta) (key : Key) (object : V) (state : State V)
     → AllKeyed meta state → object_at key state ≡ Some object → IsKeyed meta (key, object)
 found-keyed meta key object [] k h = cc
 found-keyed meta key object (p ∷ ps) k h =

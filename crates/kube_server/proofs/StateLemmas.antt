@@ -55,7 +55,7 @@ found-without q key (e ∷ es) up = without-step q key e es (same_key key e.0) r
 
 -- ---- a look-up after any change
 
-pub found-changed : {V : Type 0} (meta : V → ObjectMeta) (q : Key) (state : State V) (change : Change V) → IsAscending state → object_at q (changed meta state change) ≡ found_after meta q (object_at q state) change
+found-changed : {V : Type 0} (meta : V → ObjectMeta) (q : Key) (state : State V) (change : Change V) → IsAscending state → object_at q (changed meta state change) ≡ found_after meta q (object_at q state) change
 found-changed meta q state (Adds o) up = found-put q (key_of (meta o)) o state
 found-changed meta q state (Modifies o) up = found-put q (key_of (meta o)) o state
 found-changed meta q state (Removes o) up = found-without q (key_of (meta o)) state up
