@@ -10,15 +10,15 @@ use Rattle.std.proofs.lemmas.List.Elements.{All-contains, All-contains_itself, A
 use Rattle.kube_meta.specs.declared.metadata.ObjectMeta.{ObjectMeta}
 use Rattle.kube_meta.specs.Keys.{key_of}
 use Rattle.kube_meta.specs.Reference.{ObjectType, Reference, same_reference, without_namespace}
-use Rattle.kube_model.specs.World.{World, Streamed, feed_of}
-use Rattle.kube_model.specs.History.{Dated, Exchange, Message, Step, Taken, Turn, dated, dated_of, exchanges}
+use Rattle.kube_model.specs.World.{World, Streamed, feed_of, priority_of}
+use Rattle.kube_model.specs.History.{Dated, Exchange, Message, Prioritized, Step, Taken, Turn, dated, dated_of, exchanges}
 use Rattle.kube_model.specs.Fits.{updated}
 use Rattle.kube_model.specs.Pause.{gave_up}
 use Rattle.kube_model.specs.Settled.{IsSettledAt}
 use Rattle.kube_model.specs.Shutdowns.{is_shut}
 use Rattle.kube_model.specs.Store.{found, put, store_of, stored_under}
 use Rattle.kube_model.specs.Traces.{IsRecord, IsTrace, Made, step, steps}
-use Rattle.kube_model.proofs.Alls.{all-append, all-both, all-left, all-map, all-of_map, all-right}
+use Rattle.kube_model.proofs.Alls.{all-append, all-both, all-into_map, all-left, all-map, all-of_map, all-right}
 use Rattle.kube_model.proofs.HandedOver.{IsLookUp}
 use Rattle.kube_model.proofs.Histories.{exchanges-push, gave_up-before, shut-before}
 use Rattle.kube_model.proofs.SettledSteps.{IsDue, Waits, due-asked, due-still, each-waits, settled-due}
@@ -82,10 +82,13 @@ module _ {V : Type 0} (key : V → Reference) where
 
 -- what is requested of a stream's objects
 module _ {O B : Type 0} (w : World O B) (streamed : feed_of w 0 ≡ Streamed) (Q : Message → Type 0) where
-  own-requested : (at : ℕ) (xs : List (Exchange O)) → AllByRecursion (IsStreamOfRoot w streamed) (dated at xs) → AllByRecursion Q (flat_map (λ x. x.requests) xs)
+  abbrev Named : Prioritized → Type 0
+  Named q = Q q.message
+
+  own-requested : (at : ℕ) (xs : List (Exchange O)) → AllByRecursion (IsStreamOfRoot w streamed) (dated at xs) → AllByRecursion Named (flat_map (λ x. x.requests) xs)
       → AllByRecursion (λ o. Q (updated w o)) (flat_map (λ (d : Dated O). d.exchange.items) (dated_of 0 (dated at xs)))
   own-requested at [] f q = tt
-  own-requested at (x ∷ xs) f q = go x.source refl (own-requested at xs f.1 (all-right Q x.requests (flat_map (λ x. x.requests) xs) q))
+  own-requested at (x ∷ xs) f q = go x.source refl (own-requested at xs f.1 (all-right Named x.requests (flat_map (λ x. x.requests) xs) q))
     where
       d : Dated O
       d = record { at = at; exchange = x }
@@ -95,7 +98,7 @@ module _ {O B : Type 0} (w : World O B) (streamed : feed_of w 0 ≡ Streamed) (Q
       go zero e more =
           subst (λ ds. AllByRecursion (λ o. Q (updated w o)) (flat_map (λ (d : Dated O). d.exchange.items) ds)) (sym (mine d (dated at xs) e))
           (all-append (λ o. Q (updated w o)) x.items (flat_map (λ (d : Dated O). d.exchange.items) (dated_of 0 (dated at xs)))
-          (all-of_map Q (updated w) x.items (subst (AllByRecursion Q) (f.0 e).requests (all-left Q x.requests (flat_map (λ x. x.requests) xs) q))) more)
+          (all-of_map Q (updated w) x.items (subst (AllByRecursion Q) (f.0 e).requests (all-into_map Q (λ q. q.message) x.requests (all-left Named x.requests (flat_map (λ x. x.requests) xs) q)))) more)
       go (suc place) e more =
           subst (λ ds. AllByRecursion (λ o. Q (updated w o)) (flat_map (λ (d : Dated O). d.exchange.items) ds)) (sym (theirs d (dated at xs) place e)) more
 
@@ -108,7 +111,7 @@ module _ {St V S B : Type 0} (polls : St → ℕ → ℕ → Answer (Event (Arc 
   Root = RootFeeding (SettlingOf St V)
 
   abbrev PollsOfRoot : Root → List (Dated V) → ℕ → Exchange V → Root → Type 0
-  PollsOfRoot = RootPolls polls Takes NeverUnnamed arc_value is_named
+  PollsOfRoot = RootPolls polls Takes NeverUnnamed arc_value is_named (priority_of w 0)
 
   -- answers of the stream
   came-holds : (P : V → Type 0) (s : St) (l : List (Arc V Global)) (came : List (ℕ × Answer (Event (Arc V Global)))) (given : List (Told (Arc V Global))) (r : St) (u : List (Arc V Global))
@@ -151,7 +154,7 @@ module _ {St V S B : Type 0} (polls : St → ℕ → ℕ → Answer (Event (Arc 
     own = dated_of 0 (dated m.0.at m.0.exchanges)
 
     given : Given polls Takes NeverUnnamed arc_value is_named r.feeding.stream own q.feeding.stream
-    given = polls-given polls Takes NeverUnnamed arc_value is_named (dated_of 0 (exchanges h)) own r q up.sound (root-polls PollsOfRoot related_polls (exchanges h) (dated m.0.at m.0.exchanges) r q s u polled)
+    given = polls-given polls Takes NeverUnnamed arc_value is_named (priority_of w 0) (dated_of 0 (exchanges h)) own r q up.sound (root-polls PollsOfRoot related_polls (exchanges h) (dated m.0.at m.0.exchanges) r q s u polled)
 
     far : GivenSoFar polls Takes NeverUnnamed r.feeding.stream given.polls_made q.feeding.stream
     far = given-so-far polls Takes NeverUnnamed r.feeding.stream q.feeding.stream given.polls_made given.polled given.sound
@@ -290,7 +293,7 @@ module _ {V B St : Type 0} (writer_of : St → Writing V) (w : World V B) where
 module _ {A V S B : Type 0} (meta : V → ObjectMeta) (is_named : V → Bool) (api : Api A V) (related_polls : S → ℕ → List (Dated V) → ℕ → Exchange V → S → Type 0) (w : World V B) where
   pub watcher-reconciled : (policies : ℕ → ℕ → V → Option ℕ) (ts : List Turn) (ms : List (Made V)) → feed_of w 0 ≡ Streamed → IsTrace w policies [] ts ms → is_shut (steps ts ms) ≡ false
       → gave_up w (exchanges (steps ts ms)) ≡ false → (old new : RootFeeding (Settling A V)) (s u : S) → IsUnpolled old → (reflecting_writer old).kept ≡ nothing → w.key ≡ key_in meta old
-      → ArePublishedTurns (λ a. a.writer) (FedPolls meta is_named api) related_polls [] old s ms new u
+      → ArePublishedTurns (λ a. a.writer) (FedPolls meta is_named api (priority_of w 0)) related_polls [] old s ms new u
       → IsReconciled meta api w (steps ts ms) old (dated_of 0 (dated_in (map (λ (m : Made V). m.0) ms))) new
   watcher-reconciled policies ts ms streamed trace unshut going old new s u unpolled empty keyed turns = record {
     alike = alike;
@@ -308,8 +311,8 @@ module _ {A V S B : Type 0} (meta : V → ObjectMeta) (is_named : V → Bool) (a
 
       alike : RequestsAlike meta api w old ds new
       alike =
-          fed-alike meta is_named api w old ds new unpolled (trace-streamed w streamed policies ts ms trace)
-          (root-polls (FedPolls meta is_named api) related_polls [] (dated_in (map (λ (m : Made V). m.0) ms)) old new s u (published-polled writer_of (FedPolls meta is_named api) related_polls [] old new s u ms turns))
+          fed-alike meta is_named api (priority_of w 0) w old ds new unpolled (trace-streamed w streamed policies ts ms trace)
+          (root-polls (FedPolls meta is_named api (priority_of w 0)) related_polls [] (dated_in (map (λ (m : Made V). m.0) ms)) old new s u (published-polled writer_of (FedPolls meta is_named api (priority_of w 0)) related_polls [] old new s u ms turns))
 
       kept : IsSettledOrComing writer_of w (steps ts ms) new
       kept =

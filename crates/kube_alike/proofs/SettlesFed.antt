@@ -13,12 +13,12 @@ use Rattle.kube_meta.specs.declared.poll.Next.TheVariants.{Item, NotReady, Spent
 use Rattle.kube_model.specs.declared.call.Answer.{Answer as CallAnswer}
 use Rattle.kube_model.specs.declared.call.Answer.TheVariants as answers
 use Rattle.kube_model.specs.World.{Settings, World}
-use Rattle.kube_model.specs.History.{Dated, Exchange}
+use Rattle.kube_model.specs.History.{Dated, Exchange, messages_of}
 use Rattle.kube_model.specs.Owed.{is_not_ready}
 use Rattle.kube_model.specs.Fits.{IsOfStream, updated}
 use Rattle.kube_model.specs.Named.{is_given_named}
 use Rattle.kube_model.specs.Store.{store_of}
-use Rattle.kube_model.specs.Streams.{IsStreamed}
+use Rattle.kube_model.specs.Streams.{IsStreamed, StreamAnswer}
 use Rattle.kube_watch.specs.declared.stream.StreamFault.TheVariants.{NoMemory, Unnamed}
 use Rattle.kube_watch.specs.Asking.{Said, fault_in}
 use Rattle.kube_watch.specs.Order.{AreMade}
@@ -31,6 +31,8 @@ use Rattle.kube_reflect.specs.Exchanged.{all_keyed}
 use Rattle.kube_reflect.proofs.Exchanging.{all-leave, made-come}
 use Rattle.kube_streams.specs.Adapts.{Adapted, Adapting, Advanced, GivenSoFar, Polled, Told, all_told, told_in}
 use Rattle.kube_streams.proofs.Given.{given-so-far}
+use Rattle.kube_asks.specs.Asking.{IsPolledWith}
+use Rattle.kube_asks.specs.Sources.{with_priority}
 use Rattle.kube_fed.specs.declared.feeding.Standing.{Standing}
 use Rattle.kube_fed.specs.declared.feeding.Standing.TheVariants.{Open, Ended, Failed}
 use Rattle.kube_fed.specs.declared.feeding.Feeding.{Feeding}
@@ -70,12 +72,23 @@ module _ {J V : Type 0} (value : J → V) (is_named : V → Bool) (x : Exchange 
   recorded-sound (Err Unnamed) r = absurd (subst HasAnswer r.0.answer tt)
   recorded-sound (Err NoMemory) r = absurd r
 
+-- so it is of one for which a priority was set
+module _ {J V : Type 0} (value : J → V) (is_named : V → Bool) (set : Option ℕ) (made : Exchange V) where
+  came-passed : (came : Option (StreamAnswer V)) → Came (λ came. IsStreamed came made × (is_given_named is_named came ≡ true)) came
+      → Came (λ came. IsStreamed came (with_priority set made) × (is_given_named is_named came ≡ true)) came
+  came-passed None r = absurd r
+  came-passed (Some came) r = (record { call = r.0.call; answer = r.0.answer; items = r.0.items; error = r.0.error }, r.1)
+
+  recorded-passed : (x : Exchange V) → x ≡ with_priority set made → (answer : Answer J) → IsRecordedFrom value is_named made answer → IsRecordedFrom value is_named x answer
+  recorded-passed x is answer r = subst (λ y. IsRecordedFrom value is_named y answer) (sym is) (came-passed (stream_answer value answer) r)
+
 module _ {S T I J V : Type 0} (polls : S → ℕ → ℕ → Answer I → S → Type 0) (takes : ℕ → T → Told I → List (Told J) → T → Type 0) (unnamed : T → Told I → Type 0) (value : J → V) (is_named : V → Bool) where
   abbrev StreamPolls : Adapting S T J → ℕ → ℕ → Answer J → Adapting S T J → Type 0
   StreamPolls = Said (λ a now fuel answer b. Adapted polls takes unnamed a.fault a now fuel answer b) (λ a. None)
 
-  abbrev pub RootPolls : RootFeeding (Adapting S T J) → List (Dated V) → ℕ → Exchange V → RootFeeding (Adapting S T J) → Type 0
-  RootPolls old own now x new = IsFedPoll StreamPolls value is_named IsStreamed now old.feeding x new.feeding
+  -- a poll of a root for which this priority was set, if one was
+  abbrev pub RootPolls : Option ℕ → RootFeeding (Adapting S T J) → List (Dated V) → ℕ → Exchange V → RootFeeding (Adapting S T J) → Type 0
+  RootPolls set = IsPolledWith set (λ old own now x new. IsFedPoll StreamPolls value is_named IsStreamed now old.feeding x new.feeding)
 
   -- the root's stream was polled, and its exchanges have what was given
   pub record Given (a : Adapting S T J) (ds : List (Dated V)) (b : Adapting S T J) : Type 0 where
@@ -114,33 +127,36 @@ module _ {S T I J V : Type 0} (polls : S → ℕ → ℕ → Answer I → S → 
     items = ap₂ (λ x y. x ++ y) (items-given value is_named d.exchange answer recorded ∙ ap (λ e. map value (objects_in (told_in e))) silent) rest.items;
   }
 
-  pub polls-given : (before ds : List (Dated V)) (r r' : RootFeeding (Adapting S T J)) → r.feeding.stream.fault ≡ None → ArePolls RootPolls before r ds r' → Given r.feeding.stream ds r'.feeding.stream
-  polls-given before [] r r' none p = record {
+  pub polls-given : (set : Option ℕ) (before ds : List (Dated V)) (r r' : RootFeeding (Adapting S T J)) → r.feeding.stream.fault ≡ None → ArePolls (RootPolls set) before r ds r' → Given r.feeding.stream ds r'.feeding.stream
+  polls-given set before [] r r' none p = record {
     polls_made = [];
     polled = ap (λ (x : RootFeeding (Adapting S T J)). x.feeding.stream) p;
     sound = ap (λ (x : RootFeeding (Adapting S T J)). x.feeding.stream.fault) p ∙ none;
     items = refl;
   }
-  polls-given before (d ∷ ds) r r' none p = go r.feeding.standing p.1.asked (λ sound. polls-given (before ++ d ∷ []) ds p.0 r' sound p.2)
+  polls-given set before (d ∷ ds) r r' none p = go r.feeding.standing p.1.2.asked (λ sound. polls-given set (before ++ d ∷ []) ds p.0 r' sound p.2)
     where
+      recorded : IsRecordedFrom value is_named d.exchange p.1.2.answer
+      recorded = recorded-passed value is_named set p.1.0 d.exchange p.1.1 p.1.2.answer p.1.2.recorded
+
       m : RootFeeding (Adapting S T J)
       m = p.0
 
-      go : (s : Standing) → IsAskedAs StreamPolls s d.at r.feeding p.1.answer m.feeding → (m.feeding.stream.fault ≡ None → Given m.feeding.stream ds r'.feeding.stream)
+      go : (s : Standing) → IsAskedAs StreamPolls s d.at r.feeding p.1.2.answer m.feeding → (m.feeding.stream.fault ≡ None → Given m.feeding.stream ds r'.feeding.stream)
           → Given r.feeding.stream (d ∷ ds) r'.feeding.stream
-      go Open q more = one-given r.feeding.stream m.feeding.stream r'.feeding.stream d ds 1 p.1.answer none p.1.recorded q.0.0 more
+      go Open q more = one-given r.feeding.stream m.feeding.stream r'.feeding.stream d ds 1 p.1.2.answer none recorded q.0.0 more
       go Ended q more =
-          none-given r.feeding.stream m.feeding.stream r'.feeding.stream d ds p.1.answer p.1.recorded q.0 (ap (λ (f : Feeding (Adapting S T J)). f.stream) q.1)
+          none-given r.feeding.stream m.feeding.stream r'.feeding.stream d ds p.1.2.answer recorded q.0 (ap (λ (f : Feeding (Adapting S T J)). f.stream) q.1)
           (more (ap (λ (f : Feeding (Adapting S T J)). f.stream.fault) q.1 ∙ none))
       go (Failed fault) q more =
-          absurd (let f : Some fault ≡ None = sym (ap (λ e. fault_in e) q.0) ∙ recorded-sound value is_named d.exchange p.1.answer p.1.recorded in cc)
+          absurd (let f : Some fault ≡ None = sym (ap (λ e. fault_in e) q.0) ∙ recorded-sound value is_named d.exchange p.1.2.answer recorded in cc)
 
 -- ---- what is requested
 
 module _ {O B : Type 0} (w : World O B) where
   -- a stream's objects are requested as they come
   requests-of-items : (ds : List (Dated O)) → AllByRecursion (λ d. IsOfStream w d.exchange) ds
-      → flat_map (λ (d : Dated O). d.exchange.requests) ds ≡ map (updated w) (flat_map (λ (d : Dated O). d.exchange.items) ds)
+      → flat_map (λ (d : Dated O). messages_of d.exchange.requests) ds ≡ map (updated w) (flat_map (λ (d : Dated O). d.exchange.items) ds)
   requests-of-items [] h = refl
   requests-of-items (d ∷ ds) h =
       ap₂ (λ a b. a ++ b) h.0.requests (requests-of-items ds h.1)
@@ -165,9 +181,9 @@ module _ {O R : Type 0} (polls : R → List (Dated O) → ℕ → Exchange O →
 ready-is : (a b : CallAnswer) → Some a ≡ Some b → is_not_ready b ≡ false → is_not_ready a ≡ true → ⊥
 ready-is a b e f n = true≢false (sym n ∙ (ap is_not_ready (some-is a b e) ∙ f))
 
-module _ {A V : Type 0} (meta : V → ObjectMeta) (is_named : V → Bool) (api : Api A V) where
+module _ {A V : Type 0} (meta : V → ObjectMeta) (is_named : V → Bool) (api : Api A V) (set : Option ℕ) where
   abbrev pub FedPolls : RootFeeding (Settling A V) → List (Dated V) → ℕ → Exchange V → RootFeeding (Settling A V) → Type 0
-  FedPolls = RootPolls (ApplyPolls meta api) Takes NeverUnnamed arc_value is_named
+  FedPolls = RootPolls (ApplyPolls meta api) Takes NeverUnnamed arc_value is_named set
 
   -- what was given and what was heard
   record Reached (a : Settling A V) (ds : List (Dated V)) (b : Settling A V) : Type 0 where
@@ -179,7 +195,7 @@ module _ {A V : Type 0} (meta : V → ObjectMeta) (is_named : V → Bool) (api :
   reached old ds new unpolled polled =
       let a : Settling A V = old.feeding.stream in
       let b : Settling A V = new.feeding.stream in
-      let fed = polls-given (ApplyPolls meta api) Takes NeverUnnamed arc_value is_named [] ds old new unpolled.sound polled in
+      let fed = polls-given (ApplyPolls meta api) Takes NeverUnnamed arc_value is_named set [] ds old new unpolled.sound polled in
       let so_far = given-so-far (ApplyPolls meta api) Takes NeverUnnamed a b fed.polls_made fed.polled fed.sound in
       record {
         fed = fed;
@@ -195,7 +211,8 @@ module _ {A V : Type 0} (meta : V → ObjectMeta) (is_named : V → Bool) (api :
   one-rests : (own ds : List (Dated V)) (d : Dated V) (m new : RootFeeding (Settling A V)) → m.feeding.standing ≡ Open → m.feeding.stream.fault ≡ None → StandsFor ds (watcher_in m.feeding.stream)
       → FedPolls m own d.at d.exchange new → (new.feeding.standing ≡ Open) × (is_not_ready d.exchange.answer ≡ true → IsDry new.feeding.stream)
   one-rests own ds d m new is_open sound stands p =
-      go p.answer (subst (λ s. IsAskedAs (StreamPolls (ApplyPolls meta api) Takes NeverUnnamed arc_value is_named) s d.at m.feeding p.answer new.feeding) is_open p.asked) p.recorded
+      go p.2.answer (subst (λ s. IsAskedAs (StreamPolls (ApplyPolls meta api) Takes NeverUnnamed arc_value is_named) s d.at m.feeding p.2.answer new.feeding) is_open p.2.asked)
+      (recorded-passed arc_value is_named set p.0 d.exchange p.1 p.2.answer p.2.recorded)
     where
       advanced : (answer : Answer (Arc V Global)) → Adapted (ApplyPolls meta api) Takes NeverUnnamed m.feeding.stream.fault m.feeding.stream d.at 1 answer new.feeding.stream
           → Advanced (ApplyPolls meta api) Takes NeverUnnamed m.feeding.stream.waiting m.feeding.stream d.at 1 answer new.feeding.stream
@@ -223,9 +240,9 @@ module _ {A V : Type 0} (meta : V → ObjectMeta) (is_named : V → Bool) (api :
       let one = one-rests front r.all.heard.asked d m q.0 is_open r.fed.sound r.all.heard.watches q.1 in
       rests-after old (front ++ d ∷ []) (e ∷ es) q.0 new unpolled (polls-then FedPolls [] front d old m q.0 p q.1) one.0 q.2 h
 
-module _ {A V B : Type 0} (meta : V → ObjectMeta) (is_named : V → Bool) (api : Api A V) (w : World V B) where
+module _ {A V B : Type 0} (meta : V → ObjectMeta) (is_named : V → Bool) (api : Api A V) (set : Option ℕ) (w : World V B) where
   pub fed-alike : (old : RootFeeding (Settling A V)) (ds : List (Dated V)) (new : RootFeeding (Settling A V)) → IsUnpolled old → AllByRecursion (λ d. IsOfStream w d.exchange) ds
-      → ArePolls (FedPolls meta is_named api) [] old ds new → RequestsAlike meta api w old ds new
+      → ArePolls (FedPolls meta is_named api set) [] old ds new → RequestsAlike meta api w old ds new
   fed-alike old ds new unpolled streamed polled = record {
     asked = heard.asked;
     owed = heard.owed;
@@ -250,8 +267,8 @@ module _ {A V B : Type 0} (meta : V → ObjectMeta) (is_named : V → Bool) (api
       settings : Settings
       settings = settings_in (watcher_in a)
 
-      all : Reached meta is_named api a ds b
-      all = reached meta is_named api old ds new unpolled polled
+      all : Reached meta is_named api set a ds b
+      all = reached meta is_named api set old ds new unpolled polled
 
       given : Given (ApplyPolls meta api) Takes NeverUnnamed arc_value is_named a ds b
       given = all.fed
@@ -276,8 +293,8 @@ module _ {A V B : Type 0} (meta : V → ObjectMeta) (is_named : V → Bool) (api
       listed-so : map arc_value b.adapt ≡ listed_through [] (map told_of heard.came)
       listed-so = ap (map arc_value) (heard.lists ∙ ap (λ l. listed_through l heard.came) unpolled.listed) ∙ through-shared [] heard.came
 
-      dry : is_at_rest ds ≡ true → IsDry meta is_named api new.feeding.stream
-      dry = rests-after meta is_named api old [] ds old new unpolled refl unpolled.is_open polled
+      dry : is_at_rest ds ≡ true → IsDry meta is_named api set new.feeding.stream
+      dry = rests-after meta is_named api set old [] ds old new unpolled refl unpolled.is_open polled
 
       -- all that the exchanges tell was applied to the writer
       stored-so : a.stream.writer.kept ≡ nothing → waiting_in (watcher_in b) ≡ []

@@ -116,11 +116,11 @@ module _ {O : Type 0} where
 -- What a watched root notes of events, and what is listed and given of them.
 module _ {O : Type 0} (upd : O → Message) where
   -- the list under way is the same, and so is what was requested and given
-  record Alike (n : Noted) (l given : List O) : Type 0 where
+  record Alike (n : Noted Message) (l given : List O) : Type 0 where
     pub listing : n.listing ≡ map upd l
     pub requests : n.requests ≡ map upd given
 
-  alike-after : (b : Bool) (n : Noted) (l given : List O) (es : List (Event O)) → (b ≡ false → given ≡ []) → IsWholeOnce b es → Alike n l given
+  alike-after : (b : Bool) (n : Noted Message) (l given : List O) (es : List (Event O)) → (b ≡ false → given ≡ []) → IsWholeOnce b es → Alike n l given
       → Alike (fold (after_event upd) n es) (listed_through l (map Ok es)) (given ++ objects_in (all_settled l (map Ok es)))
   alike-after b n l given [] none h a = record { listing = a.listing; requests = a.requests ∙ ap (map upd) (sym (append-nil given)) }
   alike-after b n l given (Apply o ∷ es) none h a =

@@ -2,7 +2,7 @@
 use Rattle.std.proofs.Common.{◌≡◌, ℕ, false, List, [], ◌∷◌, ◌++◌, Option, Some, None, if◌then◌else◌, refl, sym, ap, ◌∙◌, arith}
 use Rattle.std.proofs.lemmas.Bool.Decides.{nat_tests}
 use Rattle.kube_meta.specs.Reference.{Reference}
-use Rattle.kube_model.specs.History.{Message, Taken}
+use Rattle.kube_model.specs.History.{Prioritized, Taken}
 use Rattle.kube_model.specs.Stored.{AreLookedUp}
 use Rattle.kube_model.specs.Takes.{found_in, found_so, found_with, has_room, within_room}
 use Rattle.kube_alike.specs.Starts.{AreFoundIn}
@@ -19,11 +19,11 @@ module _ {O : Type 0} (limit running : ℕ) where
       ap (λ b. (if b then t ∷ [] else []) ++ within_room limit running (found_with n t.object) ts) h
       ∙ none-taken (found_with n t.object) ts (full-stays n t.object h)
 
-  pub looked-up-taken : (key : O → Reference) (store : List O) (n : ℕ) (ms : List Message) (os : List (Option O)) → AreLookedUp limit running n ms os → AreFoundIn key store ms os
+  pub looked-up-taken : (key : O → Reference) (store : List O) (n : ℕ) (ms : List Prioritized) (os : List (Option O)) → AreLookedUp limit running n ms os → AreFoundIn key store ms os
       → within_room limit running n (found_so os ms) ≡ within_room limit running n (found_in key store ms)
   looked-up-taken key store n [] [] l f = refl
   looked-up-taken key store n [] (o ∷ os) l f = refl
   looked-up-taken key store n (m ∷ ms) [] l f = sym (none-taken n (found_in key store (m ∷ ms)) l)
   looked-up-taken key store n (m ∷ ms) (o ∷ os) l f =
-      ap (λ ts. (if has_room limit running n then record { message = m; object = o } ∷ [] else []) ++ ts) (looked-up-taken key store (found_with n o) ms os l.1 f.1)
-      ∙ ap (λ p. (if has_room limit running n then record { message = m; object = p } ∷ [] else []) ++ within_room limit running (found_with n p) (found_in key store ms)) f.0
+      ap (λ ts. (if has_room limit running n then record { message = m.message; priority = m.priority; object = o } ∷ [] else []) ++ ts) (looked-up-taken key store (found_with n o) ms os l.1 f.1)
+      ∙ ap (λ p. (if has_room limit running n then record { message = m.message; priority = m.priority; object = p } ∷ [] else []) ++ within_room limit running (found_with n p) (found_in key store ms)) f.0

@@ -7,14 +7,14 @@ use Rattle.kube_meta.specs.Reference.{reference_before}
 use Rattle.kube_model.specs.Reason.{BulkReconcile}
 use Rattle.kube_model.specs.World.{World, Feed, Watched, Streamed, Queued, is_watched, feed_of}
 use Rattle.kube_model.specs.Reads.{Reads, told_ready}
-use Rattle.kube_model.specs.History.{Message, same_message, Exchange, Outcome, Succeeded, Failed, Finish, Finished, Turn, TurnRecord, Step, exchanges, exchanges_with, exchanges_of}
+use Rattle.kube_model.specs.History.{Prioritized, same_message, Exchange, Outcome, Succeeded, Failed, Finish, Finished, Turn, TurnRecord, Step, exchanges, exchanges_with, exchanges_of}
 use Rattle.kube_model.specs.Pause.{gave_up}
 use Rattle.kube_model.specs.Queue.{sorted_by, waiting}
 use Rattle.kube_model.specs.Requests.{events_of, named_requests, reload_requests, requested_and_settled, requested_at, requests_of_finish, requests_of_turn, took, turn_events, waiting_in}
 use Rattle.kube_model.specs.Shutdowns.{asks_shutdown, is_closed, is_forced, is_over, is_shut}
 use Rattle.kube_model.specs.Store.{is_ready, store_of}
 use Rattle.kube_model.specs.Stored.{AreLookedUp, Stored, may_take, read_by, store_after, store_in, stored_by, stored_in, was_ready}
-use Rattle.kube_model.specs.Takes.{Running, candidates, found_in, running, started, taken_of, unfinished}
+use Rattle.kube_model.specs.Takes.{Running, candidates, found_in, prioritized, running, started, taken_of, unfinished}
 use Rattle.kube_model.specs.Traces.{AreFinishesOf, IsActionOf, IsRecord, IsTrace, Made, handed_over, has_ended, step, steps}
 use Rattle.kube_model.specs.Turns.{AreReads, ReadsFit, is_last, looked_up_in, running_in, taken_in}
 use Rattle.kube_model.proofs.Histories.{events-push, exchanges-push, running-push}
@@ -161,10 +161,10 @@ module _ {O B B' : Type 0} (w : World O B) (w' : World O B') where
             let store : (stored_in w' h' t' m'.1 m'.0.exchanges).reloaded ≡ (stored_in w h t m.1 m.0.exchanges).reloaded =
             ap (λ (s : Stored O). s.reloaded) stored'
             ∙ (was-read (store_after w h) m'.1.reloaded [] made alike.reloaded ∙ sym (watched-reloaded w h t m.1 m.0.exchanges (feed_of w 0) set.watched)) in
-            λ i. if (same i).reload then map (λ r. requested_at (same i).at (record { reference = r; reason = BulkReconcile })) (sorted_by reference_before (map (set.key i) (store i))) else []
+            λ i. if (same i).reload then map (λ r. requested_at (same i).at (record { message = record { reference = r; reason = BulkReconcile }; priority = 0 })) (sorted_by reference_before (map (set.key i) (store i))) else []
         go false e =
-            ap (λ b. if b then map (λ r. requested_at t'.at (record { reference = r; reason = BulkReconcile })) (sorted_by reference_before (map w'.key (stored_in w' h' t' m'.1 m'.0.exchanges).reloaded)) else []) (ap (λ (u : Turn). u.reload) same ∙ e)
-            ∙ sym (ap (λ b. if b then map (λ r. requested_at t.at (record { reference = r; reason = BulkReconcile })) (sorted_by reference_before (map w.key (stored_in w h t m.1 m.0.exchanges).reloaded)) else []) e)
+            ap (λ b. if b then map (λ r. requested_at t'.at (record { message = record { reference = r; reason = BulkReconcile }; priority = 0 })) (sorted_by reference_before (map w'.key (stored_in w' h' t' m'.1 m'.0.exchanges).reloaded)) else []) (ap (λ (u : Turn). u.reload) same ∙ e)
+            ∙ sym (ap (λ b. if b then map (λ r. requested_at t.at (record { message = record { reference = r; reason = BulkReconcile }; priority = 0 })) (sorted_by reference_before (map w.key (stored_in w h t m.1 m.0.exchanges).reloaded)) else []) e)
 
     requests : is_closed w h t ≡ false → requests_of_turn w' (stored_in w' h' t' m'.1 m'.0.exchanges).reloaded t' m'.0.finished m'.0.exchanges
         ≡ requests_of_turn w (stored_in w h t m.1 m.0.exchanges).reloaded t m.0.finished m.0.exchanges
@@ -192,7 +192,7 @@ module _ {O B B' : Type 0} (w : World O B) (w' : World O B') where
       where
         go : (b : Bool) → may_take w h t m.1 m.0.exchanges ≡ b → taken_in w' h' t' m'.1 m'.0.finished m'.0.exchanges ≡ taken_in w h t m.1 m.0.finished m.0.exchanges
         go true e =
-            let messages : List Message = map (λ z. z.entry.message) (candidates (running_in w' h' t') (waiting_in w' h' t' m'.1 m'.0.finished m'.0.exchanges)) in
+            let messages : List Prioritized = map prioritized (candidates (running_in w' h' t') (waiting_in w' h' t' m'.1 m'.0.finished m'.0.exchanges)) in
             let asked : looked_up_in w' h' t' m'.1 m'.0.finished m'.0.exchanges ≡ messages = ap (λ b. if b then messages else []) (may ∙ e) in
             let rooms =
             looked-up-taken w'.limit (length (running_in w' h' t')) w.key (store_after w (h ++ step t m ∷ [])) 0 messages m'.1.looked_up

@@ -12,7 +12,7 @@ use Rattle.kube_model.specs.declared.call.Call.TheVariants.{List as ListCall, Wa
 use Rattle.kube_model.specs.declared.call.Answer.TheVariants.{Page, Opened, Added, Modified, Deleted, Bookmark}
 use Rattle.kube_model.specs.declared.error.Error.TheVariants.{NoResourceVersion}
 use Rattle.kube_model.specs.World.{Settings, World, default_settings}
-use Rattle.kube_model.specs.History.{Dated, Exchange, Message}
+use Rattle.kube_model.specs.History.{Dated, Exchange, Message, messages_of}
 use Rattle.kube_model.specs.Cuts.{last}
 use Rattle.kube_model.specs.Owed.{is_not_ready}
 use Rattle.kube_model.specs.Fits.{requests_of_watch, updated}
@@ -112,7 +112,7 @@ pub record RequestsAlike {A V B : Type 0} (meta : V → ObjectMeta) (api : Api A
   pub owed : AreOwed (settings_in (watcher_in old.feeding.stream)) [] asked
   pub called : AreCalled api (settings_in (watcher_in old.feeding.stream)) (api_of (watcher_in old.feeding.stream)) asked (api_of (watcher_in new.feeding.stream))
   pub watches : StandsFor asked (watcher_in new.feeding.stream)
-  pub requests : flat_map (λ d. d.exchange.requests) ds ++ map (updated w) (still_to_give new.feeding.stream) ≡ requests_after w [] (exchanges_in asked)
+  pub requests : flat_map (λ d. messages_of d.exchange.requests) ds ++ map (updated w) (still_to_give new.feeding.stream) ≡ requests_after w [] (exchanges_in asked)
   pub rest : is_at_rest ds ≡ true → still_to_give new.feeding.stream ≡ []
   pub kind : (reflecting_writer new).kind ≡ (reflecting_writer old).kind
   pub stored : (reflecting_writer old).kept ≡ nothing → is_at_rest ds ≡ true → (reflecting_writer new).kept.cache ≡ all_keyed (key_in meta old) (store_of (key_in meta old) (exchanges_in asked))

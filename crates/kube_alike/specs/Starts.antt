@@ -4,7 +4,7 @@ use Rattle.std.specs.List.{flat_map, AllByRecursion}
 use Rattle.kube_meta.specs.Reference.{Reference}
 use Rattle.kube_model.specs.World.{World, is_watched, feed_of}
 use Rattle.kube_model.specs.Reads.{failure_in}
-use Rattle.kube_model.specs.History.{Message, Turn, Step, exchanges, exchanges_of}
+use Rattle.kube_model.specs.History.{Prioritized, Turn, Step, exchanges, exchanges_of}
 use Rattle.kube_model.specs.Pause.{gave_up}
 use Rattle.kube_model.specs.Shutdowns.{is_over}
 use Rattle.kube_model.specs.Store.{found, is_ready}
@@ -20,8 +20,8 @@ what_is_asked t = record t { budget = []; show = false }
 abbrev pub AreSameTurns : List Turn → List Turn → Type 0
 AreSameTurns ts ts' = map what_is_asked ts' ≡ map what_is_asked ts
 
--- what the exchanges of a turn request, in order
-abbrev pub requests_in : {O : Type 0} → Step O → List Message
+-- what the exchanges of a turn request, with its priorities, in order
+abbrev pub requests_in : {O : Type 0} → Step O → List Prioritized
 requests_in s = flat_map (λ x. x.requests) s.made.exchanges
 
 -- a read, where it was made, answered what is stored
@@ -30,7 +30,7 @@ IsReadOf stored None = Unit {0}
 IsReadOf stored (Some answer) = answer ≡ stored
 
 -- each look-up of these messages answered what is found of its message in a store
-abbrev pub AreFoundIn : {O : Type 0} → (O → Reference) → List O → List Message → List (Option O) → Type 0
+abbrev pub AreFoundIn : {O : Type 0} → (O → Reference) → List O → List Prioritized → List (Option O) → Type 0
 AreFoundIn key store messages answers = AllByRecursion (λ f. f.object ≡ found key store f.message.reference) (found_so answers messages)
 
 -- w watches its root, and w' is fed and reads a store
@@ -45,7 +45,7 @@ module _ {O B B' : Type 0} (w : World O B) (w' : World O B') where
 
   -- a turn went alike in both: s is that of the one that watches, after h, and s' that of the one that is fed, after h'
   pub record IsAlike (h : List (Step O)) (s : Step O) (h' : List (Step O)) (s' : Step O) : Type 0 where
-    -- both request the same messages in the same order
+    -- both request the same messages with the same priorities, in the same order
     pub requested : requests_in s' ≡ requests_in s
     -- by the end of the turn both gave up, or neither
     pub given_up : gave_up w' (exchanges (h' ++ s' ∷ [])) ≡ gave_up w (exchanges (h ++ s ∷ []))

@@ -3,7 +3,7 @@
 
 ghost use Rattle.std.specs.Prelude.{◌≡◌, ℕ, List, [], Option, false, map};
 ghost use Rattle.std.specs.Arc.{arc_value};
-ghost use Rattle.kube_model.specs.World.{Streamed, World, feed_of};
+ghost use Rattle.kube_model.specs.World.{Streamed, World, feed_of, priority_of};
 ghost use Rattle.kube_model.specs.History.{Turn, dated_of, exchanges};
 ghost use Rattle.kube_model.specs.Pause.{gave_up};
 ghost use Rattle.kube_model.specs.Shutdowns.{is_shut};
@@ -13,6 +13,7 @@ ghost use Rattle.kube_watch.specs.Calls.{version_of};
 ghost use Rattle.kube_reflect.specs.Cached.{nothing};
 ghost use Rattle.kube_reflect.specs.Writers.{Writing};
 ghost use Rattle.kube_streams.specs.Applies.{Applying};
+ghost use Rattle.kube_asks.specs.Asking.{IsPlacePolledWith, IsPolledWith};
 ghost use Rattle.kube_fed.specs.Fed.{RootFeeding};
 ghost use Rattle.kube_step.specs.Calls.{dated_in};
 ghost use Rattle.kube_alike.specs.Keeps.{AppliesAll, ArePublishedTurns, IsNewRoot, IsReconciled, IsSettledOrComing, SettlingOf};
@@ -46,7 +47,7 @@ pub fn nothing_that_is_fed_stays_unreconciled<
         → (w : World K B) (policies : ℕ → ℕ → K → Option ℕ) (ts : List Turn) (ms : List (Made K)) → feed_of w 0 ≡ Streamed → IsTrace w policies [] ts ms
         → is_shut (steps ts ms) ≡ false → gave_up w (exchanges (steps ts ms)) ≡ false
         → (old new : RootFeeding (SettlingOf St K)) (s u : S) → IsNewRoot writer_of K.meta_of w.key old
-        → ArePublishedTurns writer_of ⟦<StreamRoot<K, Settled<St>> as RootSource>⟧.polls S.polls [] old s ms new u
+        → ArePublishedTurns writer_of (IsPolledWith (priority_of w 0) ⟦<StreamRoot<K, Settled<St>> as RootSource>⟧.polls) (IsPlacePolledWith w.priorities S.polls) [] old s ms new u
         → IsSettledOrComing writer_of w (steps ts ms) new }
 {}
 
@@ -58,6 +59,6 @@ pub fn nothing_that_a_watcher_tells_stays_unreconciled<A: ApiMode, S: RelatedSet
     ensures { (w : World A.Value B) (policies : ℕ → ℕ → A.Value → Option ℕ) (ts : List Turn) (ms : List (Made A.Value)) → feed_of w 0 ≡ Streamed → IsTrace w policies [] ts ms
         → is_shut (steps ts ms) ≡ false → gave_up w (exchanges (steps ts ms)) ≡ false
         → (old new : RootFeeding (Settling A A.Value)) (s u : S) → IsUnpolled old → (reflecting_writer old).kept ≡ nothing → w.key ≡ key_in A.Value.meta_of old
-        → ArePublishedTurns (λ a. a.writer) ⟦<StreamRoot<A::Value, Settled<Reflect<Watcher<A>, A::Value>>> as RootSource>⟧.polls S.polls [] old s ms new u
+        → ArePublishedTurns (λ a. a.writer) (IsPolledWith (priority_of w 0) ⟦<StreamRoot<A::Value, Settled<Reflect<Watcher<A>, A::Value>>> as RootSource>⟧.polls) (IsPlacePolledWith w.priorities S.polls) [] old s ms new u
         → IsReconciled A.Value.meta_of (record { moves = A.moves; talk = A.talk; faults = A.faults; version = version_of A.Value.meta_of }) w (steps ts ms) old (dated_of 0 (dated_in (map (λ (m : Made A.Value). m.0) ms))) new }
 {}

@@ -3,13 +3,14 @@
 
 ghost use Rattle.std.specs.Prelude.{◌≡◌, ℕ, List, [], ◌∷◌, Option, map};
 ghost use Rattle.std.specs.List.{AllByRecursion};
-ghost use Rattle.kube_model.specs.World.{Settings, Streamed, World, default_settings, feed_of};
+ghost use Rattle.kube_model.specs.World.{Settings, Streamed, World, default_settings, feed_of, priority_of};
 ghost use Rattle.kube_model.specs.History.{Dated, Exchange, Turn, dated_of};
 ghost use Rattle.kube_model.specs.Fits.{IsOfStream, updated};
 ghost use Rattle.kube_model.specs.Traces.{IsTrace, Made};
 ghost use Rattle.kube_watch.specs.Calls.{version_of};
 ghost use Rattle.kube_watch.specs.Order.{AreMade};
 ghost use Rattle.kube_watch.specs.Stands.{api_of, config_of};
+ghost use Rattle.kube_asks.specs.Asking.{IsPlacePolledWith, IsPolledWith};
 ghost use Rattle.kube_fed.specs.Fed.{RootFeeding};
 ghost use Rattle.kube_step.specs.Calls.{ArePolled, dated_in};
 ghost use Rattle.kube_alike.specs.Settles.{ArePolls, IsUnpolled, RequestsAlike, Settling, all_settled, begun_again, by_a_watch, objects_in, requests_after, streaming, told_of_all, two_pages, watcher_in};
@@ -53,12 +54,12 @@ pub fn settled_objects_are_what_is_requested<O, B>()
 
 /// Whatever was asked of a root that is fed by the `settled_objects` of the `reflect` of a `watcher`: the watcher made
 /// exchanges with its API one after another, each by the call that a watched root owes then; and what the root requested, and
-/// after it what is still to be given, is what a watched root requests of these exchanges, in order. Where the root was not
-/// ready at last, nothing is still to be given.
+/// after it what is still to be given, is what a watched root requests of these exchanges, in order, whatever priority was set
+/// for it. Where the root was not ready at last, nothing is still to be given.
 pub fn fed_by_a_watcher_requests_alike<A: ApiMode, B>()
-    ensures { (w : World A.Value B) (old new : RootFeeding (Settling A A.Value)) (ds : List (Dated A.Value)) → IsUnpolled old
+    ensures { (w : World A.Value B) (set : Option ℕ) (old new : RootFeeding (Settling A A.Value)) (ds : List (Dated A.Value)) → IsUnpolled old
         → AllByRecursion (λ d. IsOfStream w d.exchange) ds
-        → ArePolls ⟦<StreamRoot<A::Value, Settled<Reflect<Watcher<A>, A::Value>>> as RootSource>⟧.polls [] old ds new
+        → ArePolls (IsPolledWith set ⟦<StreamRoot<A::Value, Settled<Reflect<Watcher<A>, A::Value>>> as RootSource>⟧.polls) [] old ds new
         → RequestsAlike A.Value.meta_of (record { moves = A.moves; talk = A.talk; faults = A.faults; version = version_of A.Value.meta_of }) w old ds new }
 {}
 
@@ -68,7 +69,7 @@ pub fn fed_by_a_watcher_requests_alike<A: ApiMode, B>()
 pub fn fed_controllers_request_alike<A: ApiMode, S: RelatedSet<A::Value>, B>()
     ensures { (w : World A.Value B) (policies : ℕ → ℕ → A.Value → Option ℕ) (ts : List Turn) (ms : List (Made A.Value)) → feed_of w 0 ≡ Streamed → IsTrace w policies [] ts ms
         → (old new : RootFeeding (Settling A A.Value)) (s u : S) → IsUnpolled old
-        → ArePolled ⟦<StreamRoot<A::Value, Settled<Reflect<Watcher<A>, A::Value>>> as RootSource>⟧.polls S.polls [] old s (dated_in (map (λ (m : Made A.Value). m.0) ms)) new u
+        → ArePolled (IsPolledWith (priority_of w 0) ⟦<StreamRoot<A::Value, Settled<Reflect<Watcher<A>, A::Value>>> as RootSource>⟧.polls) (IsPlacePolledWith w.priorities S.polls) [] old s (dated_in (map (λ (m : Made A.Value). m.0) ms)) new u
         → RequestsAlike A.Value.meta_of (record { moves = A.moves; talk = A.talk; faults = A.faults; version = version_of A.Value.meta_of }) w old (dated_of 0 (dated_in (map (λ (m : Made A.Value). m.0) ms))) new }
 {}
 

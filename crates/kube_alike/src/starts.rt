@@ -14,7 +14,7 @@ ghost use Rattle.kube_alike.specs.StartsRows.{b, fed, fed_made, fed_steps, fed_t
 
 /// Controllers that are alike start alike. One watches its root, the other is fed by a stream and reads a store, and both have
 /// the same keys, limit and debounce. They are asked the same turns, but for how often each source may be asked and what is
-/// shown, with the same answers of the error policy. Where in each turn both request the same messages in the same order, both
+/// shown, with the same answers of the error policy. Where in each turn both request the same messages with the same priorities in the same order, both
 /// or neither give up, and each read of the one that is fed answers what the other one stores then (the store is published before
 /// it is read), they take the same messages with the same objects, turn by turn, and end with the same turn. So after each turn
 /// the same references run, with the same objects.

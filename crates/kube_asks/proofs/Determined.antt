@@ -1,11 +1,11 @@
 -- Sources over an API and a mapper that answer one way determine their exchanges, and so do sets of such sources.
-use Rattle.std.proofs.Common.{◌≡◌, ◌==◌, ◌-◌, ℕ, zero, suc, nat_lt, Bool, true, false, List, [], ◌∷◌, ◌++◌, map, length, Option, Some, is_some, unwrap_or, if◌then◌else◌, refl, sym, ap, ap₂, subst, ◌∙◌}
+use Rattle.std.proofs.Common.{◌≡◌, ◌==◌, ◌-◌, ℕ, zero, suc, nat_lt, Bool, true, false, List, [], ◌∷◌, ◌++◌, map, length, Option, Some, None, is_some, unwrap_or, if◌then◌else◌, refl, sym, ap, ap₂, subst, ◌∙◌}
 use Rattle.std.specs.List.{AllZip, flat_map}
 use Rattle.std.proofs.lemmas.Bool.{ltb-true, ltb-false, ne_eqb}
 use Rattle.kube_meta.specs.Reference.{ObjectType, Reference}
 use Rattle.kube_meta.specs.declared.metadata.ObjectMeta.{ObjectMeta}
 use Rattle.kube_model.specs.World.{Settings, Watched, window_of}
-use Rattle.kube_model.specs.History.{Dated, Exchange, Message}
+use Rattle.kube_model.specs.History.{Dated, Exchange, Message, asked_by}
 use Rattle.kube_model.specs.Mapping.{IsMappedTo, mapped_requests}
 use Rattle.kube_model.specs.Owed.{is_initial, mark}
 use Rattle.kube_model.specs.Fits.{brings_references, has_references, is_window_over, silent_since}
@@ -35,10 +35,10 @@ module _ {V : Type 0} (t : ObjectType) (meta : V → ObjectMeta) (answers : V �
   part-same o a b p q = p.2 ∙ (ap (mapped_requests t (meta o)) (once o p.0 q.0 p.1 q.1) ∙ sym q.2)
 
   -- one raw form has one exchange
-  pub mapped-same : {O : Type 0} (version : V → Option (List ℕ)) (settings : Settings) (own : List (Dated O)) (at : ℕ) (x y : Exchange O) (raw : Raw V)
+  pub mapped-same : {O : Type 0} (version : V → Option (List ℕ)) (settings : Settings) (set : Option ℕ) (own : List (Dated O)) (at : ℕ) (x y : Exchange O) (raw : Raw V)
       → IsOwedNext (Watched settings) own at x → IsOwedNext (Watched settings) own at y → x.source ≡ y.source
-      → IsRecordedMapped version (IsMappedTo t meta answers) settings (exchanges_in own) raw x → IsRecordedMapped version (IsMappedTo t meta answers) settings (exchanges_in own) raw y → x ≡ y
-  mapped-same version settings own at x y raw f g source r q =
+      → IsRecordedMapped version (IsMappedTo t meta answers) settings set (exchanges_in own) raw x → IsRecordedMapped version (IsMappedTo t meta answers) settings set (exchanges_in own) raw y → x ≡ y
+  mapped-same version settings set own at x y raw f g source r q =
       let before = exchanges_in own in
       let call : x.call ≡ y.call = f.owes ∙ sym g.owes in
       let answer : x.answer ≡ y.answer =
@@ -51,7 +51,7 @@ module _ {V : Type 0} (t : ObjectType) (meta : V → ObjectMeta) (answers : V �
       let parts : r.parts ≡ q.parts =
       zip-same (IsMappedTo t meta answers) part-same (if has_references (mark before x) then items_of raw.answer else []) r.parts q.parts r.mapped
       (subst (λ b. AllZip (IsMappedTo t meta answers) (if b then items_of raw.answer else []) q.parts) (sym has) q.mapped) in
-      let requests : x.requests ≡ y.requests = r.requests ∙ (ap (flat_map (λ part. part)) parts ∙ sym q.requests) in
+      let requests : x.requests ≡ y.requests = r.requests ∙ (ap (λ ps. asked_by set (flat_map (λ part. part) ps)) parts ∙ sym q.requests) in
       λ i. record {
         source = source i;
         call = call i;
@@ -71,17 +71,17 @@ module _ {A O V M : Type 0} (api : Api A V) (meta : V → ObjectMeta) (is_named 
   watched-determined a b a' b' own at x y alike fx fy source p z =
       let settings = settings_in a.watcher in
       let before = exchanges_in own in
-      let Recorded = λ (raw : Raw V) (u : Exchange O). IsRecordedMapped api.version (IsMappedTo a.kind meta (answers a.mapper)) settings before raw u in
+      let Recorded = λ (raw : Raw V) (u : Exchange O). IsRecordedMapped api.version (IsMappedTo a.kind meta (answers a.mapper)) settings None before raw u in
       let rx = p.call.recorded in
       let ry : Recorded z.call.raw y =
-      subst (λ m. IsRecordedMapped api.version (IsMappedTo a.kind meta (answers m)) settings before z.call.raw y) (sym alike.mapper)
-      (subst (λ k. IsRecordedMapped api.version (IsMappedTo k meta (answers b.mapper)) settings before z.call.raw y) (sym alike.kind)
-      (subst (λ s. IsRecordedMapped api.version (IsMappedTo b.kind meta (answers b.mapper)) s before z.call.raw y) (sym alike.settings) z.call.recorded)) in
+      subst (λ m. IsRecordedMapped api.version (IsMappedTo a.kind meta (answers m)) settings None before z.call.raw y) (sym alike.mapper)
+      (subst (λ k. IsRecordedMapped api.version (IsMappedTo k meta (answers b.mapper)) settings None before z.call.raw y) (sym alike.kind)
+      (subst (λ s. IsRecordedMapped api.version (IsMappedTo b.kind meta (answers b.mapper)) s None before z.call.raw y) (sym alike.settings) z.call.recorded)) in
       let call : x.call ≡ y.call = fx.owes ∙ sym fy.owes in
       let asked : p.call.raw.call ≡ z.call.raw.call = ap (λ o. unwrap_or o p.call.raw.call) (sym rx.call ∙ (ap (raw_call settings) call ∙ ry.call)) in
       let moved =
       one-way (api_of a.watcher) at p.call.raw z.call.raw (api_of a'.watcher) (api_of b'.watcher) p.call.moved (subst (λ v. api.moves v at z.call.raw (api_of b'.watcher)) (sym alike.api) z.call.moved) asked in (
-        mapped-same a.kind meta (answers a.mapper) (once a.mapper) api.version settings own at x y z.call.raw fx fy source (subst (λ v. Recorded v x) moved.0 rx) ry,
+        mapped-same a.kind meta (answers a.mapper) (once a.mapper) api.version settings None own at x y z.call.raw fx fy source (subst (λ v. Recorded v x) moved.0 rx) ry,
         record {
           api = moved.1;
           settings = ap settings_of p.config ∙ (alike.settings ∙ sym (ap settings_of z.config));

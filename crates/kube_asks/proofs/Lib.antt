@@ -3,6 +3,7 @@ pub mod Bools
 pub mod FitLemmas
 pub mod Marks
 pub mod Pushes
+pub mod Priorities
 pub mod Polled
 pub mod Nexts
 pub mod PlaceLemmas

@@ -10,7 +10,7 @@ use Rattle.kube_model.specs.declared.call.Answer.{Answer}
 use Rattle.kube_model.specs.declared.call.Answer.TheVariants.{Page, Opened, Added, Modified, Deleted, Bookmark, ErrorItem, Fault, End, NotReady, Idle, Item, Spent}
 use Rattle.kube_model.specs.declared.error.Error.{Error}
 use Rattle.kube_model.specs.World.{Settings, Watched, start_by}
-use Rattle.kube_model.specs.History.{Exchange, Message}
+use Rattle.kube_model.specs.History.{Exchange, Prioritized}
 use Rattle.kube_model.specs.Cuts.{from_last, up_to_last}
 use Rattle.kube_model.specs.Owed.{owed, is_initial, is_opened, seen, mark, marks, marks_after, Marked}
 use Rattle.kube_model.specs.SecondForms.{initial_after}
@@ -33,16 +33,16 @@ not-start s b h = go s.streaming h
     go false k = k
 
 -- Events.
-module _ {O : Type 0} (upd : O → Message) where
-  lists : (n : Noted) (os : List O) → fold (after_event upd) n (all_init os) ≡ record n { listing = n.listing ++ map upd os }
+module _ {O M : Type 0} (upd : O → M) where
+  lists : (n : Noted M) (os : List O) → fold (after_event upd) n (all_init os) ≡ record n { listing = n.listing ++ map upd os }
   lists n [] = ap (λ l. record n { listing = l }) (sym (append-nil n.listing))
   lists n (o ∷ os) = lists (record n { listing = n.listing ++ upd o ∷ [] }) os ∙ ap (λ l. record n { listing = l }) (append_assoc n.listing (upd o ∷ []) (map upd os))
 
-  applies : (n : Noted) (os : List O) → fold (after_event upd) n (map Apply os) ≡ record n { requests = n.requests ++ map upd os }
+  applies : (n : Noted M) (os : List O) → fold (after_event upd) n (map Apply os) ≡ record n { requests = n.requests ++ map upd os }
   applies n [] = ap (λ l. record n { requests = l }) (sym (append-nil n.requests))
   applies n (o ∷ os) = applies (record n { requests = n.requests ++ upd o ∷ [] }) os ∙ ap (λ l. record n { requests = l }) (append_assoc n.requests (upd o ∷ []) (map upd os))
 
-  deletes : (n : Noted) (os : List O) → fold (after_event upd) n (map Delete os) ≡ n
+  deletes : (n : Noted M) (os : List O) → fold (after_event upd) n (map Delete os) ≡ n
   deletes n [] = refl
   deletes n (o ∷ os) = deletes n os
 
@@ -85,15 +85,15 @@ module _ {O : Type 0} where
       ∙ (ap listed_to (unmarked-after [] (xs ++ x ∷ []))
       ∙ ap (λ o. listed_by o (xs ++ x ∷ [])) (last-push xs x))))
 
-module _ {O : Type 0} (upd : O → Message) (s : Settings) (xs : List (Exchange O)) (l : List Message) (listing : IsListing upd s xs l)
-    (source : ℕ) (items : List O) (requests : List Message) (error : Option Error) where
+module _ {O M : Type 0} (upd : O → M) (s : Settings) (xs : List (Exchange O)) (l : List M) (listing : IsListing upd s xs l)
+    (source : ℕ) (items : List O) (requests : List Prioritized) (error : Option Error) where
   abbrev x_of : Call → Answer → Exchange O
   x_of call answer = record { source = source; call = call; answer = answer; items = items; requests = requests; error = error }
 
-  abbrev noted : List (Event O) → Noted
+  abbrev noted : List (Event O) → Noted M
   noted es = fold (after_event upd) (record { listing = l; requests = [] }) es
 
-  abbrev requested : Bool → Exchange O → List Message
+  abbrev requested : Bool → Exchange O → List M
   requested i x =
       if completes (record { initial = i; exchange = x }) then map upd (listed (xs ++ x ∷ []))
       else map upd (flat_map put_of (changes_of (record { initial = i; exchange = x })))
@@ -114,18 +114,18 @@ module _ {O : Type 0} (upd : O → Message) (s : Settings) (xs : List (Exchange 
   initial-at i x e = initial-push xs x ∙ ap (λ b. initial_after b x) e
 
   -- no list is under way
-  none : (x : Exchange O) (k : List Message) (d : Call) (i : Bool) → owed (Watched s) (xs ++ x ∷ []) ≡ d → is_initial (xs ++ x ∷ []) ≡ i → (IsListUnderWay d i → ⊥) → IsListing upd s (xs ++ x ∷ []) k
+  none : (x : Exchange O) (k : List M) (d : Call) (i : Bool) → owed (Watched s) (xs ++ x ∷ []) ≡ d → is_initial (xs ++ x ∷ []) ≡ i → (IsListUnderWay d i → ⊥) → IsListing upd s (xs ++ x ∷ []) k
   none x k d i o j n u = absurd (n (subst (IsListUnderWay d) j (subst (λ e. IsListUnderWay e (is_initial (xs ++ x ∷ []))) o u)))
 
-  anew : (x : Exchange O) (k : List Message) → owed (Watched s) (xs ++ x ∷ []) ≡ start_by s → IsListing upd s (xs ++ x ∷ []) k
+  anew : (x : Exchange O) (k : List M) → owed (Watched s) (xs ++ x ∷ []) ≡ start_by s → IsListing upd s (xs ++ x ∷ []) k
   anew x k o = none x k (start_by s) (is_initial (xs ++ x ∷ [])) o refl (not-start s (is_initial (xs ++ x ∷ [])))
 
   -- pages are to come
-  paging : (x : Exchange O) (k : List Message) (token : List ℕ) → owed (Watched s) (xs ++ x ∷ []) ≡ ListCall (Some token) → k ≡ map upd (paged_since_start (xs ++ x ∷ [])) → IsListing upd s (xs ++ x ∷ []) k
+  paging : (x : Exchange O) (k : List M) (token : List ℕ) → owed (Watched s) (xs ++ x ∷ []) ≡ ListCall (Some token) → k ≡ map upd (paged_since_start (xs ++ x ∷ [])) → IsListing upd s (xs ++ x ∷ []) k
   paging x k token o e u = e ∙ ap (λ d. map upd (under_way d (xs ++ x ∷ []))) (sym o)
 
   -- an initial watch is open
-  looking : (x : Exchange O) (k : List Message) → owed (Watched s) (xs ++ x ∷ []) ≡ Next → is_initial (xs ++ x ∷ []) ≡ true → k ≡ map upd (arrived_since_opened (xs ++ x ∷ [])) → IsListing upd s (xs ++ x ∷ []) k
+  looking : (x : Exchange O) (k : List M) → owed (Watched s) (xs ++ x ∷ []) ≡ Next → is_initial (xs ++ x ∷ []) ≡ true → k ≡ map upd (arrived_since_opened (xs ++ x ∷ [])) → IsListing upd s (xs ++ x ∷ []) k
   looking x k o j e u =
       e ∙ sym (ap (λ d. map upd (under_way d (xs ++ x ∷ []))) o ∙ ap (λ z. map upd (if z then arrived_since_opened (xs ++ x ∷ []) else [])) j)
 
@@ -293,7 +293,7 @@ module _ {O : Type 0} (upd : O → Message) (s : Settings) (xs : List (Exchange 
 
   -- Looks at a later watch.
   module _ (e : is_initial xs ≡ false) (o : Next ≡ owed (Watched s) xs) where
-    goes-on : (x : Exchange O) (k : List Message) → owed (Watched s) (xs ++ x ∷ []) ≡ Next → is_initial (xs ++ x ∷ []) ≡ false → IsListing upd s (xs ++ x ∷ []) k
+    goes-on : (x : Exchange O) (k : List M) → owed (Watched s) (xs ++ x ∷ []) ≡ Next → is_initial (xs ++ x ∷ []) ≡ false → IsListing upd s (xs ++ x ∷ []) k
     goes-on x k q j = none x k Next false q j (λ u. u)
 
     error-stays : (x : Exchange O) (b : Bool) → owed (Watched s) (xs ++ x ∷ []) ≡ cond b (start_by s) Next → is_initial (xs ++ x ∷ []) ≡ false → IsListing upd s (xs ++ x ∷ []) l

@@ -28,8 +28,8 @@ never-queue (None ∷ feeds) zero = refl
 never-queue (Some s ∷ feeds) zero = refl
 never-queue (f ∷ feeds) (suc place) = never-queue feeds place
 
-module _ {O B : Type 0} (w : World O B) (t : ObjectType) (meta : O → ObjectMeta) (feed : Feed) (feeds : List (Option Settings))
-    (delay : B → ℕ → Option ℕ) (delayed : B → ℕ → B) (restarted : B → B) (world : IsWorldOf w t meta feed feeds delay delayed restarted) where
+module _ {O B : Type 0} (w : World O B) (t : ObjectType) (meta : O → ObjectMeta) (feed : Feed) (feeds : List (Option Settings)) (priorities : List (Option ℕ))
+    (delay : B → ℕ → Option ℕ) (delayed : B → ℕ → B) (restarted : B → B) (world : IsWorldOf w t meta feed feeds priorities delay delayed restarted) where
   count-is : length w.feeds ≡ length feeds + 1
   count-is =
       let a : length w.feeds ≡ suc (length (map fed feeds)) = ap length world.fed_so in

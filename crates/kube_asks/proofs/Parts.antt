@@ -1,10 +1,10 @@
 -- Requests that grow part by part.
-use Rattle.std.proofs.Common.{◌≡◌, ℕ, ◌+◌, ◌<◌, Option, Some, None, List, [], ◌∷◌, ◌++◌, length, get_or, map, take, refl, sym, ap, subst, ◌∙◌, append_assoc, append-nil}
+use Rattle.std.proofs.Common.{◌≡◌, ℕ, ◌+◌, ◌<◌, Option, Some, None, List, [], ◌∷◌, ◌++◌, length, get_or, map, take, unwrap_or, refl, sym, ap, subst, ◌∙◌, append_assoc, append-nil}
 use Rattle.std.specs.List.{flat_map, filter_map, cons_option, AllZip}
 use Rattle.std.proofs.lemmas.List.Elements.{filter_map-append}
 use Rattle.std.proofs.lemmas.List.{take_more, map-append}
 use Rattle.std.proofs.lemmas.Grind.{flat_map-append}
-use Rattle.kube_model.specs.History.{Message}
+use Rattle.kube_model.specs.History.{Message, Prioritized, asked_by}
 use Rattle.kube_model.specs.Mapping.{listed_if}
 use Rattle.kube_asks.specs.Mapped.{AreParts}
 
@@ -14,21 +14,24 @@ zip-append R [] xs' (y ∷ ys) ys' h k = absurd h
 zip-append R (x ∷ xs) xs' [] ys' h k = absurd h
 zip-append R (x ∷ xs) xs' (y ∷ ys) ys' h k = (h.0, zip-append R xs xs' ys ys' h.1 k)
 
+pub asked-append : (set : Option ℕ) (xs ys : List Message) → asked_by set (xs ++ ys) ≡ asked_by set xs ++ asked_by set ys
+asked-append set xs ys = map-append (λ (m : Message). record { message = m; priority = unwrap_or set 0 }) xs ys
+
 module _ {V : Type 0} where
-  pub parts-none : (R : V → List Message → Type 0) (old : List Message) → AreParts R [] old old
+  pub parts-none : (R : V → List Message → Type 0) (old : List Prioritized) → AreParts R [] old old
   parts-none R old = record { parts = []; each = tt; are = sym (append-nil old) }
 
-  pub parts-append : (R : V → List Message → Type 0) (os ps : List V) (a b c : List Message) → AreParts R os a b → AreParts R ps b c → AreParts R (os ++ ps) a c
+  pub parts-append : (R : V → List Message → Type 0) (os ps : List V) (a b c : List Prioritized) → AreParts R os a b → AreParts R ps b c → AreParts R (os ++ ps) a c
   parts-append R os ps a b c h k = record {
     parts = h.parts ++ k.parts;
     each = zip-append R os ps h.parts k.parts h.each k.each;
     are =
-        k.are ∙ (ap (λ r. r ++ flat_map (λ part. part) k.parts) h.are
-        ∙ (append_assoc a (flat_map (λ part. part) h.parts) (flat_map (λ part. part) k.parts)
-        ∙ ap (λ r. a ++ r) (sym (flat_map-append (λ part. part) h.parts k.parts))));
+        k.are ∙ (ap (λ r. r ++ asked_by None (flat_map (λ part. part) k.parts)) h.are
+        ∙ (append_assoc a (asked_by None (flat_map (λ part. part) h.parts)) (asked_by None (flat_map (λ part. part) k.parts))
+        ∙ ap (λ r. a ++ r) (sym (ap (asked_by None) (flat_map-append (λ part. part) h.parts k.parts) ∙ asked-append None (flat_map (λ part. part) h.parts) (flat_map (λ part. part) k.parts)))));
   }
 
-  pub parts-more : {E F : Type 0} (f : E → F) (objects : F → List V) (R : V → List Message → Type 0) (xs : List E) (i : ℕ) (e : E) → i < length xs → e ≡ get_or xs i e → (a b c : List Message)
+  pub parts-more : {E F : Type 0} (f : E → F) (objects : F → List V) (R : V → List Message → Type 0) (xs : List E) (i : ℕ) (e : E) → i < length xs → e ≡ get_or xs i e → (a b c : List Prioritized)
       → AreParts R (flat_map objects (map f (take i xs))) a b → AreParts R (objects (f e)) b c → AreParts R (flat_map objects (map f (take (i + 1) xs))) a c
   parts-more f objects R xs i e l is a b c h k =
       subst (λ os. AreParts R os a c)

@@ -7,9 +7,9 @@ use Rattle.kube_model.specs.declared.call.Call.{Call}
 use Rattle.kube_model.specs.declared.call.Answer.{Answer}
 use Rattle.kube_model.specs.declared.error.Error.{Error}
 use Rattle.kube_model.specs.World.{Settings, Watched, window_of}
-use Rattle.kube_model.specs.History.{Dated, Exchange, Message}
+use Rattle.kube_model.specs.History.{Dated, Exchange, Message, Prioritized, asked_by}
 use Rattle.kube_model.specs.Owed.{owed, is_initial, mark, is_next}
-use Rattle.kube_model.specs.Fits.{answers, TextsFit, idle_fits, is_window_over, silent_since, error_of, has_references, is_related, RelatedRequestsFit}
+use Rattle.kube_model.specs.Fits.{answers, TextsFit, idle_fits, is_window_over, silent_since, error_of, has_references, is_related, RelatedRequestsFit, PrioritiesFit}
 use Rattle.kube_model.specs.Mapping.{IsMappedTo, related_by}
 use Rattle.kube_model.specs.Raw.{Raw}
 use Rattle.kube_model.specs.Recorded.{IsRecorded, IsRecordedMapped}
@@ -32,6 +32,15 @@ all-append : (xs ys : List Message) → AllByRecursion (λ m. IsTrue (is_related
 all-append [] ys p q = q
 all-append (x ∷ xs) ys p q = (p.0, all-append xs ys p.1 q)
 
+pub asked-related : (set : Option ℕ) (ms : List Message) → AllByRecursion (λ m. IsTrue (is_related m.reason)) ms → AllByRecursion (λ (q : Prioritized). IsTrue (is_related q.message.reason)) (asked_by set ms)
+asked-related set [] p = tt
+asked-related set (m ∷ ms) p = (p.0, asked-related set ms p.1)
+
+-- They have the priority with which they are asked.
+pub asked-fit : (set : Option ℕ) (ms : List Message) → PrioritiesFit false set (asked_by set ms)
+asked-fit set [] = tt
+asked-fit set (m ∷ ms) = (refl, asked-fit set ms)
+
 module _ {V : Type 0} (t : ObjectType) (meta : V → ObjectMeta) (is_mapped : V → List Reference → Type 0) where
   parts-related : (os : List V) (parts : List (List Message)) → AllZip (IsMappedTo t meta is_mapped) os parts → AllByRecursion (λ m. IsTrue (is_related m.reason)) (flat_map (λ part. part) parts)
   parts-related [] [] h = tt
@@ -45,9 +54,13 @@ module _ {V : Type 0} (t : ObjectType) (meta : V → ObjectMeta) (is_mapped : V 
   no-parts [] h = refl
   no-parts (p ∷ ps) h = absurd h
 
-  requests-fit : (b : Bool) (os : List V) (requests : List Message) → AreParts (IsMappedTo t meta is_mapped) (if b then os else []) [] requests → RelatedRequestsFit b requests
-  requests-fit true os requests h = subst (AllByRecursion (λ m. IsTrue (is_related m.reason))) (sym h.are) (parts-related os h.parts h.each)
-  requests-fit false os requests h = h.are ∙ no-parts h.parts h.each
+  requests-fit : (b : Bool) (os : List V) (requests : List Prioritized) → AreParts (IsMappedTo t meta is_mapped) (if b then os else []) [] requests → RelatedRequestsFit b requests
+  requests-fit true os requests h =
+      subst (AllByRecursion (λ (q : Prioritized). IsTrue (is_related q.message.reason))) (sym h.are) (asked-related None (flat_map (λ part. part) h.parts) (parts-related os h.parts h.each))
+  requests-fit false os requests h = h.are ∙ ap (asked_by None) (no-parts h.parts h.each)
+
+  priorities-fit : (os : List V) (requests : List Prioritized) → AreParts (IsMappedTo t meta is_mapped) os [] requests → PrioritiesFit false None requests
+  priorities-fit os requests h = subst (PrioritiesFit false None) (sym h.are) (asked-fit None (flat_map (λ part. part) h.parts))
 
 module _ {O : Type 0} (V : Type 0) where
   exchanges-shape : (ds : List (Dated O)) → exchanges_in (dated_shapes {V = V} ds) ≡ shapes (exchanges_in ds)
@@ -66,13 +79,13 @@ module _ {O V : Type 0} (t : ObjectType) (meta : V → ObjectMeta) (own : List (
     (call : Call) (answer : Answer) (items : List V) (error : Option Error)
     (told : List V) (objects : told ≡ (if has_references (mark (exchanges_in (dated_shapes {V = V} own)) (bare call answer items error)) then items else [])) where
   -- the exchange of the root's type, of a source
-  abbrev pub made : ℕ → List Message → Exchange O
+  abbrev pub made : ℕ → List Prioritized → Exchange O
   made source requests = record { source = source; call = call; answer = answer; items = []; requests = requests; error = error }
 
   pub objects-same : told ≡ (if has_references (record { initial = is_initial (exchanges_in own); exchange = bare call answer items error }) then items else [])
   objects-same = objects ∙ ap (λ b. if has_references {O = V} (record { initial = b; exchange = bare call answer items error }) then items else []) (initial-same V own)
 
-  module _ (is_mapped : V → List Reference → Type 0) (requests : List Message) (parts : AreParts (IsMappedTo t meta is_mapped) told [] requests) where
+  module _ (is_mapped : V → List Reference → Type 0) (requests : List Prioritized) (parts : AreParts (IsMappedTo t meta is_mapped) told [] requests) where
     mapped-too : AreParts (IsMappedTo t meta is_mapped) (if has_references (record { initial = is_initial (exchanges_in own); exchange = bare call answer items error }) then items else []) [] requests
     mapped-too = subst (λ os. AreParts (IsMappedTo t meta is_mapped) os [] requests) objects-same parts
 
@@ -95,11 +108,12 @@ module _ {O V : Type 0} (t : ObjectType) (meta : V → ObjectMeta) (own : List (
         items = refl;
         requests = requests-fit t meta is_mapped (has_references (mark (exchanges_in own) (made source requests))) items requests mapped-too;
       };
+      priorities = priorities-fit t meta is_mapped told requests parts;
     }
 
     -- it is recorded from the raw form that its watcher had
     pub recorded-too : (source : ℕ) (raw : Raw V) → IsRecorded (version_of meta) settings raw (bare call answer items error)
-        → IsRecordedMapped (version_of meta) (IsMappedTo t meta is_mapped) settings (exchanges_in own) raw (made source requests)
+        → IsRecordedMapped (version_of meta) (IsMappedTo t meta is_mapped) settings None (exchanges_in own) raw (made source requests)
     recorded-too source raw rec =
         record {
           call = rec.call;

@@ -2,7 +2,7 @@
 use Rattle.std.specs.Prelude.{◌≡◌, ℕ, Bool, true, List, [], ◌++◌, Option, None}
 use Rattle.std.specs.List.{flat_map, AllZip}
 use Rattle.kube_meta.specs.Reference.{ObjectType}
-use Rattle.kube_model.specs.History.{Dated, Exchange, Message}
+use Rattle.kube_model.specs.History.{Dated, Exchange, Message, Prioritized, asked_by}
 use Rattle.kube_model.specs.Shapes.{dated_shapes}
 use Rattle.kube_model.specs.Raw.{Raw, grown, is_fault, FaultRose}
 use Rattle.kube_model.specs.Recorded.{IsRecordedMapped}
@@ -21,14 +21,14 @@ pub record MappedWatching (A V M : Type 0) : Type 0 where
   pub mapper : M
   pub fault : Option StreamFault
 
--- these requests grew by those of these objects, one part for each, in order
-pub record AreParts {V : Type 0} (is_part : V → List Message → Type 0) (os : List V) (old new : List Message) : Type 0 where
+-- these requests grew by those of these objects, one part for each, in order; no priority was set for them
+pub record AreParts {V : Type 0} (is_part : V → List Message → Type 0) (os : List V) (old new : List Prioritized) : Type 0 where
   pub parts : List (List Message)
   pub each : AllZip is_part os parts
-  pub are : new ≡ old ++ flat_map (λ part. part) parts
+  pub are : new ≡ old ++ asked_by None (flat_map (λ part. part) parts)
 
 -- the exchange that a unit makes, with these requests and without its objects
-abbrev pub made_of : {V O : Type 0} → Made V → List Message → Exchange O
+abbrev pub made_of : {V O : Type 0} → Made V → List Prioritized → Exchange O
 made_of u requests = record { source = 0; call = u.call; answer = u.answer; items = []; requests = requests; error = u.error }
 
 -- its watcher stands for these exchanges, but for what it doesn't look at; after a fault a source stands for none
@@ -39,7 +39,7 @@ module _ {A O V : Type 0} (api : Api A V) (is_part : V → List Message → Type
   -- the exchange was made by one call of the API; what came was mapped, and each object that must become a reference has a name
   pub record IsRelatedPoll (own : List (Dated O)) (now : ℕ) (old : Watching A V) (x : Exchange O) (new : Watching A V) : Type 0 where
     pub raw : Raw V
-    pub recorded : IsRecordedMapped api.version is_part (settings_in old) (exchanges_in own) raw x
+    pub recorded : IsRecordedMapped api.version is_part (settings_in old) None (exchanges_in own) raw x
     pub told : api.talk (api_of new) ≡ grown (api.talk (api_of old)) raw
     pub moved : api.moves (api_of old) now raw (api_of new)
     pub rose : FaultRose (is_fault raw.answer) (api.faults (api_of old)) (api.faults (api_of new))

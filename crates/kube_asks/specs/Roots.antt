@@ -6,7 +6,7 @@ use Rattle.kube_meta.specs.Keys.{is_named}
 use Rattle.kube_model.specs.declared.call.Call.{Call}
 use Rattle.kube_model.specs.declared.call.Call.TheVariants.{List as ListCall, Watch, Next, Stream}
 use Rattle.kube_model.specs.World.{Settings, Watched}
-use Rattle.kube_model.specs.History.{Dated, Exchange, Message}
+use Rattle.kube_model.specs.History.{Dated, Exchange, Prioritized}
 use Rattle.kube_model.specs.Owed.{owed, is_initial}
 use Rattle.kube_model.specs.Store.{under_way}
 use Rattle.kube_model.specs.Raw.{Raw, grown, is_fault, FaultRose}
@@ -16,13 +16,13 @@ use Rattle.kube_watch.specs.Calls.{IsAskedOnce}
 use Rattle.kube_watch.specs.Watching.{Watching}
 use Rattle.kube_watch.specs.Stands.{StandsFor, config_of, exchanges_in, settings_in, api_of}
 use Rattle.kube_watch.specs.Polls.{Api, IsCall}
-use Rattle.kube_asks.specs.Noting.{updated_of}
+use Rattle.kube_asks.specs.Noting.{request_of}
 
 -- a watcher, the type of its objects in the API, the requests of the list under way, and the fault that it answered, which is all that it answers from then on
 pub record RootWatching (A V : Type 0) : Type 0 where
   pub watcher : Watching A V
   pub kind : ObjectType
-  pub listing : List Message
+  pub listing : List Prioritized
   pub fault : Option StreamFault
 
 -- whether a list is under way where this call is owed, and a `Next` would belong to an initial watch or not
@@ -35,7 +35,7 @@ IsListUnderWay Next false = ⊥
 IsListUnderWay Stream initial = ⊥
 
 -- where a list is under way after these exchanges, these are the requests of its objects, as they came, repeats included
-abbrev pub IsListing : {O : Type 0} → (O → Message) → Settings → List (Exchange O) → List Message → Type 0
+abbrev pub IsListing : {O M : Type 0} → (O → M) → Settings → List (Exchange O) → List M → Type 0
 IsListing request settings xs listing =
     IsListUnderWay (owed (Watched settings) xs) (is_initial xs) → listing ≡ map request (under_way (owed (Watched settings) xs) xs)
 
@@ -61,7 +61,7 @@ module _ {A V : Type 0} (meta : V → ObjectMeta) where
   -- the watcher stands for these exchanges, and the list under way is kept as it came; after a fault a root stands for none
   pub record RootStands (own : List (Dated V)) (r : RootWatching A V) : Type 0 where
     pub watcher : StandsFor own r.watcher
-    pub list : IsListing (updated_of r.kind meta) (settings_in r.watcher) (exchanges_in own) r.listing
+    pub list : IsListing (request_of r.kind meta) (settings_in r.watcher) (exchanges_in own) r.listing
     pub sound : r.fault ≡ None
 
   -- the exchange was made by one call of the API, each object that must become a reference has a name, and the watcher is configured as before

@@ -5,10 +5,10 @@ use Rattle.kube_meta.specs.declared.metadata.ObjectMeta.{ObjectMeta}
 use Rattle.kube_meta.specs.Keys.{key_of, is_named}
 use Rattle.kube_model.specs.declared.call.Call.{Call}
 use Rattle.kube_model.specs.declared.call.Call.TheVariants.{Stream}
-use Rattle.kube_model.specs.World.{World, is_watched, Feed, Settings, Watched, Streamed, window_of}
-use Rattle.kube_model.specs.History.{Dated, Exchange}
+use Rattle.kube_model.specs.World.{World, is_queue, is_watched, Feed, Settings, Watched, Streamed, window_of}
+use Rattle.kube_model.specs.History.{Dated, Exchange, passed_by}
 use Rattle.kube_model.specs.Owed.{owed, is_next}
-use Rattle.kube_model.specs.Fits.{idle_fits, is_window_over, silent_since, IsAnswered, IsOfRelated, IsOfRoot}
+use Rattle.kube_model.specs.Fits.{idle_fits, is_window_over, silent_since, IsAnswered, IsOfRelated, IsOfRoot, PrioritiesFit}
 use Rattle.kube_watch.specs.declared.stream.StreamFault.{StreamFault}
 use Rattle.kube_watch.specs.Stands.{exchanges_in}
 
@@ -28,10 +28,11 @@ pub record IsOwed {O : Type 0} (feed : Feed) (own : List (Dated O)) (at : ℕ) (
   pub idle : IsTrue (is_next x.call) → IsTrue (idle_fits (is_window_over (window_of feed) (silent_since own) at) x.answer)
   pub answer : IsAnswered (exchanges_in own) x
 
--- so may a related source: it keeps no objects
+-- so may a related source, for which no priority was set: it keeps no objects
 pub record IsRelatedNext {O : Type 0} (feed : Feed) (own : List (Dated O)) (at : ℕ) (x : Exchange O) : Type 0 where
   pub owed : IsOwed feed own at x
   pub content : IsOfRelated (exchanges_in own) x
+  pub priorities : PrioritiesFit (is_queue feed) None x.requests
 
 -- the objects of a root, as a world has them; nothing else of this world is looked at
 abbrev pub root_world : {O : Type 0} → ObjectType → (O → ObjectMeta) → Feed → World O (Unit {0})
@@ -40,6 +41,7 @@ root_world t meta feed = record {
   is_named = λ o. is_named (meta o);
   version = λ o. (meta o).resource_version;
   feeds = feed ∷ [];
+  priorities = [];
   limit = 0;
   debounce = 0;
   backoff = tt;
@@ -47,14 +49,23 @@ root_world t meta feed = record {
   reset = λ b. b;
 }
 
--- a root of this type may make this exchange after these of its own
+-- a root of this type, for which no priority was set, may make this exchange after these of its own
 pub record IsRootNext {O : Type 0} (t : ObjectType) (meta : O → ObjectMeta) (feed : Feed) (own : List (Dated O)) (at : ℕ) (x : Exchange O) : Type 0 where
   pub owed : IsOwed feed own at x
   pub content : IsOfRoot (root_world t meta feed) feed (exchanges_in own) x
+  pub priorities : PrioritiesFit (is_queue feed) None x.requests
+
+-- the exchange of a source for which this priority was set, if one was
+abbrev pub with_priority : {O : Type 0} → Option ℕ → Exchange O → Exchange O
+with_priority set x = record x { requests = passed_by set x.requests }
 
 -- the same exchange, of whatever source
 abbrev pub IsSame : {O : Type 0} → Exchange O → Exchange O → Type 0
 IsSame x y = y ≡ record x { source = y.source }
+
+-- the same exchange, of whatever source and whatever priority was set for it
+abbrev pub IsSamePassed : {O : Type 0} → Exchange O → Exchange O → Type 0
+IsSamePassed x y = (set : Option ℕ) × IsSame (with_priority set x) y
 
 -- how a source is fed that lists and watches so, or is a stream
 abbrev pub fed : Option Settings → Feed

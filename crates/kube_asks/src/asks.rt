@@ -1,19 +1,19 @@
 //! Who is asked next.
 
-ghost use Rattle.std.specs.Prelude.{◌≡◌, ◌≢◌, ◌≤◌, ◌<◌, ◌^◌, ◌+◌, ◌-◌, ◌++◌, ◌∷◌, ◌||◌, [], List, length, map, option_map, OnOk, OnErr, IfOk, IfErr, IsErrOf, IfSome, IsErr, Ok, Err, ℕ, min, true, false, not, slice_index, if◌then◌else◌, nat_lt, Some, None, is_some, vec_capacity};
+ghost use Rattle.std.specs.Prelude.{◌≡◌, ◌≢◌, ◌≤◌, ◌<◌, ◌^◌, ◌+◌, ◌-◌, ◌++◌, ◌∷◌, ◌||◌, [], List, length, map, option_map, Option, OnOk, OnErr, IfOk, IfErr, IsErrOf, IfSome, IsErr, Ok, Err, ℕ, min, true, false, not, slice_index, if◌then◌else◌, nat_lt, Some, None, is_some, vec_capacity};
 ghost use Rattle.std.specs.List.{find, range_with_len};
 ghost use Rattle.std.specs.Option.{option_or};
-ghost use Rattle.kube_model.specs.World.{World, is_queue, is_watched, feed_of};
-ghost use Rattle.kube_model.specs.History.{Dated, Exchange};
+ghost use Rattle.kube_model.specs.World.{World, is_queue, is_watched, feed_of, priority_at};
+ghost use Rattle.kube_model.specs.History.{Dated, Exchange, passed_by};
 ghost use Rattle.kube_model.specs.Fits.{IsFitting};
 ghost use Rattle.kube_model.specs.Pause.{gave_up, pause_asked};
 ghost use Rattle.kube_model.specs.Owed.{is_not_ready};
 ghost use Rattle.kube_model.specs.Asks.{next_asked, stops_of};
 ghost use Rattle.kube_watch.specs.Polls.{dated_now};
-ghost use Rattle.kube_turn.specs.Views.{exchange_of};
-ghost use Rattle.kube_asks.specs.Sources.{is_stream};
+ghost use Rattle.kube_turn.specs.Views.{exchange_of, prioritized_of};
+ghost use Rattle.kube_asks.specs.Sources.{is_stream, with_priority};
 ghost use Rattle.kube_asks.specs.Kept.{is_marked, with_mark, may_ask_by, is_quiet_by, has_budget_by, stop_by, noted, spent_at, pause_noted, marked_where, is_stream_end as ended, is_root_queue, total, asked_where, reset_where};
-ghost use Rattle.kube_asks.specs.Asking.{AskStands, IsNextAsked, IsWorldOf, Asking, asking_at_first, asking_begun, with_asked, SourcesStand, of_source, with_pause, with_marks, IsPolledAt, IsBrokenAt, IfUnnamed};
+ghost use Rattle.kube_asks.specs.Asking.{AskStands, IsNextAsked, IsWorldOf, Asking, asking_at_first, asking_begun, with_asked, SourcesStand, of_source, with_pause, with_marks, set_at, with_priority_of, IsPolledAt, IsPolledWith, IsPlacePolledWith, IsBrokenAt, IfUnnamed};
 
 use crate::root::RootSource;
 use crate::set::RelatedSet;
@@ -23,7 +23,7 @@ use kube_backoff::Backoff;
 use kube_meta::{List, Moment, NoMemory, Resource};
 use kube_model::call::{Answer, Call};
 use kube_model::turn::Stop;
-use kube_turn::SourceExchange;
+use kube_turn::{ReconcileRequest, SourceExchange};
 use kube_watch::StreamFault;
 use std::alloc::Global;
 use std::marker::Model;
@@ -59,6 +59,8 @@ impl From<NoMemory> for AskFault {
 pub struct Asks<R, S, B> {
     root: R,
     related: S,
+    /// The priority that was set for each source, if one was; for one beyond the end none was.
+    priorities: Vec<Option<u32>>,
     backoff: B,
     /// Nothing is asked before this moment.
     over_at: Moment,
@@ -83,6 +85,7 @@ impl<R, S, B> Model for Asks<R, S, B> {
     ghost view = { λ a. record {
       root = a.root;
       related = a.related;
+      priorities = a.priorities.items;
       kept = record {
         pause = record { backoff = a.backoff; over_at = a.over_at.0; given_up = a.given_up };
         after = a.after;
@@ -141,6 +144,66 @@ fn mark(marks: &mut Vec<bool>, source: u32)
     marks[place] = true;
 }
 
+/// Takes memory for the priorities of so many sources.
+fn reserve_priorities(sets: &mut Vec<Option<u32>>, sources: usize) -> Result<(), NoMemory>
+    ensures items { sets.new.items ≡ sets.old.items }
+    ensures room { OnOk result (sources ≤ vec_capacity sets.new) }
+{
+    sets.reserve(sources.saturating_sub(sets.len()))?;
+    Ok(())
+}
+
+/// Sets the priority of a source for which there is room, in place of one that was set before. It takes no memory.
+fn put_priority(sets: &mut Vec<Option<u32>>, source: u32, priority: u32)
+    requires { source < vec_capacity sets.old }
+    ensures { sets.new.items ≡ set_at sets.old.items source priority }
+{
+    let place = source as usize;
+    if sets.len() <= place {
+        // there is room, so it doesn't fail
+        let _grown = sets.resize(place + 1, None);
+    }
+    sets[place] = Some(priority);
+}
+
+/// Sets a priority on each of these requests.
+fn prioritize<K: Resource>(requests: &mut [ReconcileRequest<K>], priority: u32)
+    ensures { map (prioritized_of K.type_of) requests.new ≡ passed_by (Some priority) (map (prioritized_of K.type_of) requests.old) }
+{
+    for request in requests.iter_mut() {
+        request.priority = priority;
+    }
+}
+
+/// The exchange, whose requests have the priority that was set, if one was. It takes no memory.
+fn prioritized<K: Resource>(exchange: SourceExchange<K>, set: Option<u32>) -> SourceExchange<K>
+    ensures { exchange_of K.type_of result ≡ with_priority set (exchange_of K.type_of exchange) }
+{
+    match set {
+        None => exchange,
+        Some(priority) => {
+            let SourceExchange {
+                source,
+                call,
+                answer,
+                items,
+                requests,
+                error,
+            } = exchange;
+            let mut requests: Vec<ReconcileRequest<K>> = Vec::from(requests);
+            prioritize(requests.as_mut_slice(), priority);
+            SourceExchange {
+                source,
+                call,
+                answer,
+                items,
+                requests: List::from(requests),
+                error,
+            }
+        }
+    }
+}
+
 /// Whether a stream has ended.
 fn is_stream_end<K: Resource>(exchange: &SourceExchange<K>) -> bool
     ensures { result ≡ ended (exchange_of K.type_of exchange.now) }
@@ -158,6 +221,7 @@ fn make<R, S, B>(alloc: Global, root: R, related: S, backoff: B) -> Asks<R, S, B
     Asks {
         root,
         related,
+        priorities: Vec::new(alloc),
         backoff,
         over_at: Moment(0),
         given_up: false,
@@ -175,6 +239,16 @@ impl<R: RootSource, S: RelatedSet<R::Object>, B: Backoff> Asks<R, S, B> {
         ensures { result ≡ is_quiet_by self.now.kept source }
     {
         is_marked(&self.quiet, source) || is_marked(&self.dry, source)
+    }
+
+    /// The priority that was set for a source, if one was.
+    fn priority_at(&self, source: u32) -> Option<u32>
+        ensures { result ≡ priority_at self.now.priorities source }
+    {
+        match self.priorities.get(source as usize) {
+            Some(set) => *set,
+            None => None,
+        }
     }
 
     /// Whether a source has budget left.
@@ -346,6 +420,7 @@ impl<R: RootSource, S: RelatedSet<R::Object>, B: Backoff> Asks<R, S, B> {
         ensures kept { self.new.kept ≡ noted B.delay B.delayed B.restarted (is_root_queue (R.feed self.old.root) source) self.old.kept now.0 source (exchange_of R.Object.type_of exchange.now) }
         ensures root { self.new.root ≡ self.old.root }
         ensures related { self.new.related ≡ self.old.related }
+        ensures priorities { self.new.priorities ≡ self.old.priorities }
         ensures spent { self.new.is_spent ≡ self.old.is_spent }
     {
         self.note_marks(source, exchange);
@@ -374,7 +449,7 @@ impl<R: RootSource, S: RelatedSet<R::Object>, B: Backoff> Asks<R, S, B> {
     fn has_next(&self, now: Moment) -> bool
         requires few { length (S.feeds self.now.related) + 1 < 2 ^ 32 }
         ensures { (w : World R.Object B) (budget : List ℕ) (before mine : List (Dated R.Object))
-            → IsWorldOf w (R.kind self.now.root) R.Object.meta_of (R.feed self.now.root) (S.feeds self.now.related) B.delay B.delayed B.restarted
+            → IsWorldOf w (R.kind self.now.root) R.Object.meta_of (R.feed self.now.root) (S.feeds self.now.related) self.now.priorities B.delay B.delayed B.restarted
             → AskStands w (R.stands self.now.root) (S.stands self.now.related) (length (S.feeds self.now.related)) budget before mine self.now.kept
             → result ≡ is_some (next_asked w budget before mine now.0) }
     {
@@ -384,7 +459,7 @@ impl<R: RootSource, S: RelatedSet<R::Object>, B: Backoff> Asks<R, S, B> {
         self.next_source().is_some()
     }
 
-    /// Polls a source. The exchange has whatever number the source gives it.
+    /// Polls a source. The exchange has whatever number the source gives it, and its requests the priority that it gives them.
     fn poll_source(
         &mut self,
         alloc: Global,
@@ -398,10 +473,10 @@ impl<R: RootSource, S: RelatedSet<R::Object>, B: Backoff> Asks<R, S, B> {
         ensures root { R.can_poll self.new.root }
         ensures related { S.can_poll self.new.related }
         ensures made { IfOk result (λ x. (w : World R.Object B) (ds : List (Dated R.Object))
-            → IsWorldOf w (R.kind self.old.root) R.Object.meta_of (R.feed self.old.root) (S.feeds self.old.related) B.delay B.delayed B.restarted
+            → IsWorldOf w (R.kind self.old.root) R.Object.meta_of (R.feed self.old.root) (S.feeds self.old.related) self.old.priorities B.delay B.delayed B.restarted
             → SourcesStand (R.stands self.old.root) (S.stands self.old.related) (length (S.feeds self.old.related)) ds
-            → IsFitting w ds now.0 (of_source source (exchange_of R.Object.type_of x)) × (is_stream x.call ≡ not (is_watched (feed_of w source)))
-            × SourcesStand (R.stands self.new.root) (S.stands self.new.related) (length (S.feeds self.old.related)) (ds ++ dated_now now.0 (of_source source (exchange_of R.Object.type_of x)) ∷ [])) }
+            → IsFitting w ds now.0 (with_priority (priority_at self.old.priorities source) (of_source source (exchange_of R.Object.type_of x))) × (is_stream x.call ≡ not (is_watched (feed_of w source)))
+            × SourcesStand (R.stands self.new.root) (S.stands self.new.related) (length (S.feeds self.old.related)) (ds ++ dated_now now.0 (with_priority (priority_at self.old.priorities source) (of_source source (exchange_of R.Object.type_of x))) ∷ [])) }
         ensures polled { IfOk result (λ x. (ds : List (Dated R.Object)) → SourcesStand (R.stands self.old.root) (S.stands self.old.related) (length (S.feeds self.old.related)) ds
             → IsPolledAt R.polls S.polls ds now.0 (of_source source (exchange_of R.Object.type_of x)) self.old.root self.old.related self.new.root self.new.related source) }
         ensures unnamed { IsErrOf result StreamFault.Unnamed → IsBrokenAt R.breaks S.breaks now.0 self.old.root self.old.related self.new.root self.new.related source }
@@ -411,6 +486,7 @@ impl<R: RootSource, S: RelatedSet<R::Object>, B: Backoff> Asks<R, S, B> {
         ensures feed { R.feed self.new.root ≡ R.feed self.old.root }
         ensures kind { R.kind self.new.root ≡ R.kind self.old.root }
         ensures feeds { S.feeds self.new.related ≡ S.feeds self.old.related }
+        ensures priorities { self.new.priorities ≡ self.old.priorities }
     {
         if source == 0 {
             self.root.poll_root(alloc, now)
@@ -419,7 +495,7 @@ impl<R: RootSource, S: RelatedSet<R::Object>, B: Backoff> Asks<R, S, B> {
         }
     }
 
-    /// Polls a source. The exchange has its number.
+    /// Polls a source. The exchange has its number, and its requests the priority that was set for it, if one was.
     fn poll(
         &mut self,
         alloc: Global,
@@ -433,13 +509,13 @@ impl<R: RootSource, S: RelatedSet<R::Object>, B: Backoff> Asks<R, S, B> {
         ensures root { R.can_poll self.new.root }
         ensures related { S.can_poll self.new.related }
         ensures made { IfOk result (λ x. (w : World R.Object B) (ds : List (Dated R.Object))
-            → IsWorldOf w (R.kind self.old.root) R.Object.meta_of (R.feed self.old.root) (S.feeds self.old.related) B.delay B.delayed B.restarted
+            → IsWorldOf w (R.kind self.old.root) R.Object.meta_of (R.feed self.old.root) (S.feeds self.old.related) self.old.priorities B.delay B.delayed B.restarted
             → SourcesStand (R.stands self.old.root) (S.stands self.old.related) (length (S.feeds self.old.related)) ds
             → IsFitting w ds now.0 (exchange_of R.Object.type_of x) × (is_stream x.call ≡ not (is_watched (feed_of w source)))
             × SourcesStand (R.stands self.new.root) (S.stands self.new.related) (length (S.feeds self.old.related)) (ds ++ dated_now now.0 (exchange_of R.Object.type_of x) ∷ [])) }
         ensures source { IfOk result (λ x. x.source ≡ source) }
         ensures polled { IfOk result (λ x. (ds : List (Dated R.Object)) → SourcesStand (R.stands self.old.root) (S.stands self.old.related) (length (S.feeds self.old.related)) ds
-            → IsPolledAt R.polls S.polls ds now.0 (exchange_of R.Object.type_of x) self.old.root self.old.related self.new.root self.new.related source) }
+            → IsPolledAt (IsPolledWith (priority_at self.old.priorities 0) R.polls) (IsPlacePolledWith self.old.priorities S.polls) ds now.0 (exchange_of R.Object.type_of x) self.old.root self.old.related self.new.root self.new.related source) }
         ensures unnamed { IfErr result (λ f. IfUnnamed f (λ s. (s ≡ source) × IsBrokenAt R.breaks S.breaks now.0 self.old.root self.old.related self.new.root self.new.related source)) }
         ensures lost { IfErr result (λ f. f ≡ AskFault.NoMemory → IsBrokenAt R.loses S.loses now.0 self.old.root self.old.related self.new.root self.new.related source) }
         ensures fault { IfErr result (λ f. f ≢ AskFault.Spent) }
@@ -448,9 +524,11 @@ impl<R: RootSource, S: RelatedSet<R::Object>, B: Backoff> Asks<R, S, B> {
         ensures feed { R.feed self.new.root ≡ R.feed self.old.root }
         ensures kind { R.kind self.new.root ≡ R.kind self.old.root }
         ensures feeds { S.feeds self.new.related ≡ S.feeds self.old.related }
+        ensures priorities { self.new.priorities ≡ self.old.priorities }
     {
+        let set = self.priority_at(source);
         match self.poll_source(alloc, source, now) {
-            Ok(exchange) => Ok(SourceExchange { source, ..exchange }),
+            Ok(exchange) => Ok(prioritized(SourceExchange { source, ..exchange }, set)),
             Err(StreamFault::NoMemory) => Err(AskFault::NoMemory),
             Err(StreamFault::Unnamed) => Err(AskFault::Unnamed { source }),
         }
@@ -458,15 +536,38 @@ impl<R: RootSource, S: RelatedSet<R::Object>, B: Backoff> Asks<R, S, B> {
 
     /// A root, its related sources and a backoff, before the first turn.
     pub fn new(alloc: Global, root: R, related: S, backoff: B) -> Asks<R, S, B>
-        ensures stands { (w : World R.Object B)
-            → IsWorldOf w (R.kind root) R.Object.meta_of (R.feed root) (S.feeds related) B.delay B.delayed B.restarted → w.backoff ≡ backoff
+        ensures stands { (w : World R.Object B) (priorities : List (Option ℕ))
+            → IsWorldOf w (R.kind root) R.Object.meta_of (R.feed root) (S.feeds related) priorities B.delay B.delayed B.restarted → w.backoff ≡ backoff
             → SourcesStand (R.stands root) (S.stands related) (length (S.feeds related)) []
             → AskStands w (R.stands result.root) (S.stands result.related) (length (S.feeds result.related)) [] [] [] result.kept }
         ensures root { result.root ≡ root }
         ensures related { result.related ≡ related }
+        ensures priorities { result.priorities ≡ [] }
         ensures unspent { result.is_spent ≡ false }
     {
         make(alloc, root, related, backoff)
+    }
+
+    /// Keeps these priorities of the sources, the root first, in place of those that were set. For one that is missing none is.
+    pub fn set_priorities(&mut self, priorities: Vec<Option<u32>>)
+        ensures { self.new ≡ record self.old { priorities = priorities.items } }
+    {
+        self.priorities = priorities;
+    }
+
+    /// Sets the priority with which a source's requests are asked from now on, in place of one that was set before: the root is
+    /// 0, related ones follow. Where none is set it is 0, and a request that came on a queue has its own.
+    ///
+    /// # Errors
+    ///
+    /// `NoMemory` where there is none for a place of that source; then nothing is set.
+    pub fn set_priority(&mut self, source: u32, priority: u32) -> Result<(), NoMemory>
+        ensures ok { OnOk result (self.new ≡ with_priority_of self.old source priority) }
+        ensures err { OnErr result (self.new ≡ self.old) }
+    {
+        reserve_priorities(&mut self.priorities, source as usize + 1)?;
+        put_priority(&mut self.priorities, source, priority);
+        Ok(())
     }
 
     /// The type of the root's objects in the API.
@@ -499,24 +600,24 @@ impl<R: RootSource, S: RelatedSet<R::Object>, B: Backoff> Asks<R, S, B> {
         ensures root { R.can_poll self.new.root }
         ensures related { S.can_poll self.new.related }
         ensures next { IfOk result (λ o. (w : World R.Object B) (budget : List ℕ) (before mine : List (Dated R.Object))
-            → IsWorldOf w (R.kind self.old.root) R.Object.meta_of (R.feed self.old.root) (S.feeds self.old.related) B.delay B.delayed B.restarted
+            → IsWorldOf w (R.kind self.old.root) R.Object.meta_of (R.feed self.old.root) (S.feeds self.old.related) self.old.priorities B.delay B.delayed B.restarted
             → AskStands w (R.stands self.old.root) (S.stands self.old.related) (length (S.feeds self.old.related)) budget before mine self.old.kept
             → IsNextAsked w budget before mine now.0 (option_map (exchange_of R.Object.type_of) o)
             × AskStands w (R.stands self.new.root) (S.stands self.new.related) (length (S.feeds self.old.related)) budget before
             (with_asked mine now.0 (option_map (exchange_of R.Object.type_of) o)) self.new.kept) }
         ensures polled { IfOk result (λ o. IfSome o (λ x. (ds : List (Dated R.Object)) → SourcesStand (R.stands self.old.root) (S.stands self.old.related) (length (S.feeds self.old.related)) ds
-            → IsPolledAt R.polls S.polls ds now.0 (exchange_of R.Object.type_of x) self.old.root self.old.related self.new.root self.new.related x.source)) }
+            → IsPolledAt (IsPolledWith (priority_at self.old.priorities 0) R.polls) (IsPlacePolledWith self.old.priorities S.polls) ds now.0 (exchange_of R.Object.type_of x) self.old.root self.old.related self.new.root self.new.related x.source)) }
         ensures none { IfOk result (λ o. o ≡ None → self.new ≡ self.old) }
         ensures unnamed { IfErr result (λ f. IfUnnamed f (λ source. IsBrokenAt R.breaks S.breaks now.0 self.old.root self.old.related self.new.root self.new.related source
             × ((w : World R.Object B) (budget : List ℕ) (before mine : List (Dated R.Object))
-            → IsWorldOf w (R.kind self.old.root) R.Object.meta_of (R.feed self.old.root) (S.feeds self.old.related) B.delay B.delayed B.restarted
+            → IsWorldOf w (R.kind self.old.root) R.Object.meta_of (R.feed self.old.root) (S.feeds self.old.related) self.old.priorities B.delay B.delayed B.restarted
             → AskStands w (R.stands self.old.root) (S.stands self.old.related) (length (S.feeds self.old.related)) budget before mine self.old.kept
             → next_asked w budget before mine now.0 ≡ Some source))) }
         // where memory is wanting, it is in the poll of the next source
         ensures lost { IfErr result (λ f. f ≡ AskFault.NoMemory → (source : ℕ)
             × IsBrokenAt R.loses S.loses now.0 self.old.root self.old.related self.new.root self.new.related source
             × ((w : World R.Object B) (budget : List ℕ) (before mine : List (Dated R.Object))
-            → IsWorldOf w (R.kind self.old.root) R.Object.meta_of (R.feed self.old.root) (S.feeds self.old.related) B.delay B.delayed B.restarted
+            → IsWorldOf w (R.kind self.old.root) R.Object.meta_of (R.feed self.old.root) (S.feeds self.old.related) self.old.priorities B.delay B.delayed B.restarted
             → AskStands w (R.stands self.old.root) (S.stands self.old.related) (length (S.feeds self.old.related)) budget before mine self.old.kept
             → next_asked w budget before mine now.0 ≡ Some source)) }
         // each exchange uses up one of a budget, so asking ends
@@ -524,6 +625,7 @@ impl<R: RootSource, S: RelatedSet<R::Object>, B: Backoff> Asks<R, S, B> {
         ensures feeds { S.feeds self.new.related ≡ S.feeds self.old.related }
         ensures feed { R.feed self.new.root ≡ R.feed self.old.root }
         ensures kind { R.kind self.new.root ≡ R.kind self.old.root }
+        ensures priorities { self.new.priorities ≡ self.old.priorities }
         ensures spent { self.old.is_spent ≡ true → (result ≡ Err AskFault.Spent) × (self.new ≡ self.old) }
         ensures unspent { OnOk result (self.new.is_spent ≡ false) }
         ensures only { IfErr result (λ f. f ≡ AskFault.Spent → self.old.is_spent ≡ true) }
@@ -563,15 +665,15 @@ impl<R: RootSource, S: RelatedSet<R::Object>, B: Backoff> Asks<R, S, B> {
         ensures place { IfOk result (λ has. has ≡ true → length all.new.items < vec_capacity all.new) }
         ensures same { IfOk result (λ has. has ≡ false → all.new ≡ all.old) }
         ensures done { IfOk result (λ has. has ≡ false → (w : World R.Object B) (budget : List ℕ) (before mine : List (Dated R.Object))
-            → IsWorldOf w (R.kind self.now.root) R.Object.meta_of (R.feed self.now.root) (S.feeds self.now.related) B.delay B.delayed B.restarted
+            → IsWorldOf w (R.kind self.now.root) R.Object.meta_of (R.feed self.now.root) (S.feeds self.now.related) self.now.priorities B.delay B.delayed B.restarted
             → AskStands w (R.stands self.now.root) (S.stands self.now.related) (length (S.feeds self.now.related)) budget before mine self.now.kept
             → next_asked w budget before mine now.0 ≡ None) }
         ensures full { length all.old.items ≡ vec_capacity all.old → (w : World R.Object B) (budget : List ℕ) (before mine : List (Dated R.Object))
-            → IsWorldOf w (R.kind self.now.root) R.Object.meta_of (R.feed self.now.root) (S.feeds self.now.related) B.delay B.delayed B.restarted
+            → IsWorldOf w (R.kind self.now.root) R.Object.meta_of (R.feed self.now.root) (S.feeds self.now.related) self.now.priorities B.delay B.delayed B.restarted
             → AskStands w (R.stands self.now.root) (S.stands self.now.related) (length (S.feeds self.now.related)) budget before mine self.now.kept
             → next_asked w budget before mine now.0 ≡ None → result ≡ Ok false }
         ensures left { OnErr result ((w : World R.Object B) (budget : List ℕ) (before mine : List (Dated R.Object))
-            → IsWorldOf w (R.kind self.now.root) R.Object.meta_of (R.feed self.now.root) (S.feeds self.now.related) B.delay B.delayed B.restarted
+            → IsWorldOf w (R.kind self.now.root) R.Object.meta_of (R.feed self.now.root) (S.feeds self.now.related) self.now.priorities B.delay B.delayed B.restarted
             → AskStands w (R.stands self.now.root) (S.stands self.now.related) (length (S.feeds self.now.related)) budget before mine self.now.kept
             → is_some (next_asked w budget before mine now.0) ≡ true) }
     {
@@ -639,7 +741,7 @@ impl<R: RootSource, S: RelatedSet<R::Object>, B: Backoff> Asks<R, S, B> {
         requires empty { room.items ≡ [] }
         requires room { length (S.feeds self.now.related) + 1 ≤ vec_capacity room }
         ensures stops { (w : World R.Object B) (budget : List ℕ) (before mine : List (Dated R.Object))
-            → IsWorldOf w (R.kind self.now.root) R.Object.meta_of (R.feed self.now.root) (S.feeds self.now.related) B.delay B.delayed B.restarted
+            → IsWorldOf w (R.kind self.now.root) R.Object.meta_of (R.feed self.now.root) (S.feeds self.now.related) self.now.priorities B.delay B.delayed B.restarted
             → AskStands w (R.stands self.now.root) (S.stands self.now.related) (length (S.feeds self.now.related)) budget before mine self.now.kept
             → result ≡ stops_of w budget before mine shut }
     {
@@ -654,7 +756,7 @@ impl<R: RootSource, S: RelatedSet<R::Object>, B: Backoff> Asks<R, S, B> {
     pub fn stops(&self, alloc: Global, shut: bool) -> Result<List<Stop>, NoMemory>
         requires few { length (S.feeds self.now.related) + 1 < 2 ^ 32 }
         ensures stops { IfOk result (λ stops. (w : World R.Object B) (budget : List ℕ) (before mine : List (Dated R.Object))
-            → IsWorldOf w (R.kind self.now.root) R.Object.meta_of (R.feed self.now.root) (S.feeds self.now.related) B.delay B.delayed B.restarted
+            → IsWorldOf w (R.kind self.now.root) R.Object.meta_of (R.feed self.now.root) (S.feeds self.now.related) self.now.priorities B.delay B.delayed B.restarted
             → AskStands w (R.stands self.now.root) (S.stands self.now.related) (length (S.feeds self.now.related)) budget before mine self.now.kept
             → stops ≡ stops_of w budget before mine shut) }
     {
@@ -664,11 +766,14 @@ impl<R: RootSource, S: RelatedSet<R::Object>, B: Backoff> Asks<R, S, B> {
 }
 
 impl<R, S, B> Asks<R, S, B> {
-    /// The root, the related sources and the backoff as they are now.
-    pub fn into_sources(self) -> (R, S, B)
-        ensures { result ≡ (self.root, self.related, self.kept.pause.backoff) }
+    /// The root, the related sources and the backoff as they are now, and the priorities that were set.
+    pub fn into_sources(self) -> (R, S, B, Vec<Option<u32>>)
+        ensures root { result.0 ≡ self.root }
+        ensures related { result.1 ≡ self.related }
+        ensures backoff { result.2 ≡ self.kept.pause.backoff }
+        ensures priorities { result.3.items ≡ self.priorities }
     {
-        (self.root, self.related, self.backoff)
+        (self.root, self.related, self.backoff, self.priorities)
     }
 }
 

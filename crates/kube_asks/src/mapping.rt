@@ -1,15 +1,16 @@
 //! What the events of a related source's exchange request.
 
-ghost use Rattle.std.specs.Prelude.{◌≡◌, ◌<◌, ◌++◌, ◌∷◌, [], true, false, IfOk, OnOk, OnErr, IsErrOf, length, map};
+ghost use Rattle.std.specs.Prelude.{◌≡◌, ◌<◌, ◌++◌, ◌∷◌, [], true, false, None, IfOk, OnOk, OnErr, IsErrOf, length, map};
 ghost use Rattle.std.specs.List.{flat_map};
 ghost use Rattle.std.specs.Arc.{arc_value};
 ghost use Rattle.kube_meta.specs.Keys.{reference_of, is_named};
 ghost use Rattle.kube_meta.specs.Resources.{resource_type};
+ghost use Rattle.kube_model.specs.History.{asked_by};
 ghost use Rattle.kube_model.specs.Mapping.{related_by, IsMappedTo};
 ghost use Rattle.kube_watch.specs.Agrees.{objects_of};
 ghost use Rattle.kube_watch.specs.Events.{event_map};
 ghost use Rattle.kube_watch.specs.Units.{events_of};
-ghost use Rattle.kube_turn.specs.Views.{message_of, exchange_of};
+ghost use Rattle.kube_turn.specs.Views.{prioritized_of, exchange_of};
 ghost use Rattle.kube_asks.specs.Noting.{any_unnamed};
 ghost use Rattle.kube_asks.specs.Mapped.{AreParts, made_of};
 
@@ -32,7 +33,7 @@ pub fn request<K: Resource>(
     reference: &ObjectRef<K>,
     object: &ObjectRef<DynamicObject>,
 ) -> Result<ReconcileRequest<K>, NoMemory>
-    ensures { IfOk result (λ q. message_of K.type_of q ≡ related_by (reference_of (λ t. resource_type (arc_value t)) object.now) (reference_of K.type_of reference.now)) }
+    ensures { IfOk result (λ q. prioritized_of K.type_of q ≡ record { message = related_by (reference_of (λ t. resource_type (arc_value t)) object.now) (reference_of K.type_of reference.now); priority = 0 }) }
 {
     let obj_ref = reference.copy(alloc)?;
     let object = object.copy(alloc)?;
@@ -41,6 +42,7 @@ pub fn request<K: Resource>(
         reason: ReconcileReason::RelatedObjectUpdated {
             obj_ref: Box::new(alloc, object)?,
         },
+        priority: 0,
     })
 }
 
@@ -51,8 +53,8 @@ fn request_each<K: Resource>(
     references: &[ObjectRef<K>],
     object: &ObjectRef<DynamicObject>,
 ) -> Result<List<ReconcileRequest<K>>, NoMemory>
-    ensures { IfOk result (λ qs. map (message_of K.type_of) qs ≡ map (message_of K.type_of) requests
-        ++ map (related_by (reference_of (λ t. resource_type (arc_value t)) object.now)) (map (reference_of K.type_of) references.now)) }
+    ensures { IfOk result (λ qs. map (prioritized_of K.type_of) qs ≡ map (prioritized_of K.type_of) requests
+        ++ asked_by None (map (related_by (reference_of (λ t. resource_type (arc_value t)) object.now)) (map (reference_of K.type_of) references.now))) }
 {
     let mut requests = requests;
     for reference in references {
@@ -70,7 +72,7 @@ fn map_object<V: Resource, K: Resource, M: Mapper<V, K>>(
     object: &Arc<V>,
 ) -> Result<List<ReconcileRequest<K>>, StreamFault>
     requires may { M.can_map mapper.now }
-    ensures mapped { IfOk result (λ qs. AreParts (IsMappedTo (V.type_of dyntype.now) V.meta_of (M.answers mapper.now)) (arc_value object.now ∷ []) (map (message_of K.type_of) requests) (map (message_of K.type_of) qs)) }
+    ensures mapped { IfOk result (λ qs. AreParts (IsMappedTo (V.type_of dyntype.now) V.meta_of (M.answers mapper.now)) (arc_value object.now ∷ []) (map (prioritized_of K.type_of) requests) (map (prioritized_of K.type_of) qs)) }
     ensures named { OnOk result (is_named (V.meta_of (arc_value object.now)) ≡ true) }
     ensures unnamed { IsErrOf result StreamFault.Unnamed → is_named (V.meta_of (arc_value object.now)) ≡ false }
 {
@@ -93,7 +95,7 @@ fn map_event<V: Resource, K: Resource, M: Mapper<V, K>>(
     event: &Event<Arc<V>>,
 ) -> Result<List<ReconcileRequest<K>>, StreamFault>
     requires may { M.can_map mapper.now }
-    ensures mapped { IfOk result (λ qs. AreParts (IsMappedTo (V.type_of dyntype.now) V.meta_of (M.answers mapper.now)) (objects_of (event_map arc_value event.now)) (map (message_of K.type_of) requests) (map (message_of K.type_of) qs)) }
+    ensures mapped { IfOk result (λ qs. AreParts (IsMappedTo (V.type_of dyntype.now) V.meta_of (M.answers mapper.now)) (objects_of (event_map arc_value event.now)) (map (prioritized_of K.type_of) requests) (map (prioritized_of K.type_of) qs)) }
     ensures named { OnOk result (any_unnamed V.meta_of (objects_of (event_map arc_value event.now)) ≡ false) }
     ensures unnamed { IsErrOf result StreamFault.Unnamed → any_unnamed V.meta_of (objects_of (event_map arc_value event.now)) ≡ true }
 {
@@ -113,7 +115,7 @@ fn map_all<V: Resource, K: Resource, M: Mapper<V, K>>(
     events: &[Event<Arc<V>>],
 ) -> Result<List<ReconcileRequest<K>>, StreamFault>
     requires may { M.can_map mapper.now }
-    ensures mapped { IfOk result (λ qs. AreParts (IsMappedTo (V.type_of dyntype.now) V.meta_of (M.answers mapper.now)) (flat_map objects_of (map (event_map arc_value) events.now)) [] (map (message_of K.type_of) qs)) }
+    ensures mapped { IfOk result (λ qs. AreParts (IsMappedTo (V.type_of dyntype.now) V.meta_of (M.answers mapper.now)) (flat_map objects_of (map (event_map arc_value) events.now)) [] (map (prioritized_of K.type_of) qs)) }
     ensures named { OnOk result (any_unnamed V.meta_of (flat_map objects_of (map (event_map arc_value) events.now)) ≡ false) }
     ensures unnamed { IsErrOf result StreamFault.Unnamed → any_unnamed V.meta_of (flat_map objects_of (map (event_map arc_value) events.now)) ≡ true }
     ensures some { OnErr result (0 < length events.now) }
@@ -137,8 +139,8 @@ pub(crate) fn map_unit<V: Resource, K: Resource, M: Mapper<V, K>>(
     unit: Unit<V>,
 ) -> Result<SourceExchange<K>, StreamFault>
     requires may { M.can_map mapper.now }
-    ensures mapped { IfOk result (λ x. AreParts (IsMappedTo (V.type_of dyntype.now) V.meta_of (M.answers mapper.now)) (flat_map objects_of (events_of unit)) [] (map (message_of K.type_of) x.requests)) }
-    ensures exchange { IfOk result (λ x. exchange_of K.type_of x ≡ made_of unit (map (message_of K.type_of) x.requests)) }
+    ensures mapped { IfOk result (λ x. AreParts (IsMappedTo (V.type_of dyntype.now) V.meta_of (M.answers mapper.now)) (flat_map objects_of (events_of unit)) [] (map (prioritized_of K.type_of) x.requests)) }
+    ensures exchange { IfOk result (λ x. exchange_of K.type_of x ≡ made_of unit (map (prioritized_of K.type_of) x.requests)) }
     ensures named { OnOk result (any_unnamed V.meta_of (flat_map objects_of (events_of unit)) ≡ false) }
     ensures unnamed { IsErrOf result StreamFault.Unnamed → any_unnamed V.meta_of (flat_map objects_of (events_of unit)) ≡ true }
     ensures some { OnErr result (0 < length unit.events) }

@@ -7,8 +7,8 @@ ghost use Rattle.kube_meta.specs.Keys.{reference_of, key_of, is_named};
 ghost use Rattle.kube_watch.specs.Agrees.{objects_of};
 ghost use Rattle.kube_watch.specs.Events.{event_map};
 ghost use Rattle.kube_watch.specs.Units.{events_of, exchange_of as unit_exchange};
-ghost use Rattle.kube_turn.specs.Views.{message_of, exchange_of};
-ghost use Rattle.kube_asks.specs.Noting.{noted, noted_of, after_event, updated_of, any_unnamed};
+ghost use Rattle.kube_turn.specs.Views.{prioritized_of, exchange_of};
+ghost use Rattle.kube_asks.specs.Noting.{noted, noted_of, after_event, request_of, any_unnamed};
 
 use kube_meta::{List, ObjectRef, RefError, Resource, TypeInfo};
 use kube_model::reason::ReconcileReason;
@@ -49,13 +49,14 @@ fn updated<K: Resource>(
     object: &K,
 ) -> Result<ReconcileRequest<K>, StreamFault>
     ensures named { OnOk result (is_named (K.meta_of object.now) ≡ true) }
-    ensures request { IfOk result (λ q. message_of K.type_of q ≡ updated_of (K.type_of dyntype.now) K.meta_of object.now) }
+    ensures request { IfOk result (λ q. prioritized_of K.type_of q ≡ request_of (K.type_of dyntype.now) K.meta_of object.now) }
     ensures unnamed { IsErrOf result StreamFault.Unnamed → is_named (K.meta_of object.now) ≡ false }
 {
     match key(alloc, dyntype, object) {
         Ok(obj_ref) => Ok(ReconcileRequest {
             obj_ref,
             reason: ReconcileReason::ObjectUpdated,
+            priority: 0,
         }),
         Err(fault) => Err(fault),
     }
@@ -80,7 +81,7 @@ fn add<K: Resource>(
     object: &K,
 ) -> Result<List<ReconcileRequest<K>>, StreamFault>
     ensures named { OnOk result (is_named (K.meta_of object.now) ≡ true) }
-    ensures added { IfOk result (λ qs. map (message_of K.type_of) qs ≡ map (message_of K.type_of) requests ++ updated_of (K.type_of dyntype.now) K.meta_of object.now ∷ []) }
+    ensures added { IfOk result (λ qs. map (prioritized_of K.type_of) qs ≡ map (prioritized_of K.type_of) requests ++ request_of (K.type_of dyntype.now) K.meta_of object.now ∷ []) }
     ensures unnamed { IsErrOf result StreamFault.Unnamed → is_named (K.meta_of object.now) ≡ false }
 {
     let mut requests = requests;
@@ -100,7 +101,7 @@ fn note<K: Resource>(
     noted: Noted<K>,
     event: &Event<Arc<K>>,
 ) -> Result<Noted<K>, StreamFault>
-    ensures noted { IfOk result (λ n. noted_of K.type_of n ≡ after_event (updated_of (K.type_of dyntype.now) K.meta_of) (noted_of K.type_of noted) (event_map arc_value event.now)) }
+    ensures noted { IfOk result (λ n. noted_of K.type_of n ≡ after_event (request_of (K.type_of dyntype.now) K.meta_of) (noted_of K.type_of noted) (event_map arc_value event.now)) }
     ensures named { OnOk result (any_unnamed K.meta_of (objects_of (event_map arc_value event.now)) ≡ false) }
     ensures unnamed { IsErrOf result StreamFault.Unnamed → any_unnamed K.meta_of (objects_of (event_map arc_value event.now)) ≡ true }
 {
@@ -136,7 +137,7 @@ fn note_all<K: Resource>(
     noted: Noted<K>,
     events: &[Event<Arc<K>>],
 ) -> Result<Noted<K>, StreamFault>
-    ensures noted { IfOk result (λ n. noted_of K.type_of n ≡ fold (after_event (updated_of (K.type_of dyntype.now) K.meta_of)) (noted_of K.type_of noted) (map (event_map arc_value) events.now)) }
+    ensures noted { IfOk result (λ n. noted_of K.type_of n ≡ fold (after_event (request_of (K.type_of dyntype.now) K.meta_of)) (noted_of K.type_of noted) (map (event_map arc_value) events.now)) }
     ensures named { OnOk result (any_unnamed K.meta_of (flat_map objects_of (map (event_map arc_value) events.now)) ≡ false) }
     ensures unnamed { IsErrOf result StreamFault.Unnamed → any_unnamed K.meta_of (flat_map objects_of (map (event_map arc_value) events.now)) ≡ true }
     ensures some { OnErr result (0 < length events.now) }
@@ -159,9 +160,9 @@ pub(crate) fn note_unit<K: Resource>(
     listing: List<ReconcileRequest<K>>,
     unit: Unit<K>,
 ) -> Result<(SourceExchange<K>, List<ReconcileRequest<K>>), StreamFault>
-    ensures noted { IfOk result (λ p. noted (map (message_of K.type_of) p.1) (map (message_of K.type_of) p.0.requests)
-        ≡ fold (after_event (updated_of (K.type_of dyntype.now) K.meta_of)) (noted (map (message_of K.type_of) listing) []) (events_of unit)) }
-    ensures exchange { IfOk result (λ p. exchange_of K.type_of p.0 ≡ record (unit_exchange unit) { requests = map (message_of K.type_of) p.0.requests }) }
+    ensures noted { IfOk result (λ p. noted (map (prioritized_of K.type_of) p.1) (map (prioritized_of K.type_of) p.0.requests)
+        ≡ fold (after_event (request_of (K.type_of dyntype.now) K.meta_of)) (noted (map (prioritized_of K.type_of) listing) []) (events_of unit)) }
+    ensures exchange { IfOk result (λ p. exchange_of K.type_of p.0 ≡ record (unit_exchange unit) { requests = map (prioritized_of K.type_of) p.0.requests }) }
     ensures named { OnOk result (any_unnamed K.meta_of (flat_map objects_of (events_of unit)) ≡ false) }
     ensures unnamed { IsErrOf result StreamFault.Unnamed → any_unnamed K.meta_of (flat_map objects_of (events_of unit)) ≡ true }
     ensures some { OnErr result (0 < length unit.events) }

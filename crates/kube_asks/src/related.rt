@@ -7,8 +7,9 @@ use std::alloc::Global;
 
 /// A source whose objects are mapped to references of the root's type (the triggers of kube-runtime's controller).
 ///
-/// What it stands for is told by its own exchanges alone. It doesn't know its number: what it stands for is the same
-/// whatever the source of an exchange.
+/// What it stands for is told by its own exchanges alone. It knows neither its number nor the priority that was set for it:
+/// what it stands for is the same whatever the source of an exchange and whatever priority is set on its requests. Its own
+/// have priority 0.
 pub trait Related<K: Resource>: Drop {
     ghost use Rattle.std.specs.Prelude.{ℕ, List, Option, Some, Err, ◌∷◌, [], ◌++◌, IfOk, IsErrOf, ◌≡◌, ⊤};
     ghost use Rattle.kube_model.specs.World.{Settings};
@@ -16,7 +17,7 @@ pub trait Related<K: Resource>: Drop {
     ghost use Rattle.kube_watch.specs.Polls.{dated_now};
     ghost use Rattle.kube_watch.specs.declared.stream.StreamFault.{StreamFault};
     ghost use Rattle.kube_turn.specs.Views.{exchange_of};
-    ghost use Rattle.kube_asks.specs.Sources.{IsRelatedNext, IsSame, fault_answered, fed};
+    ghost use Rattle.kube_asks.specs.Sources.{IsRelatedNext, IsSame, IsSamePassed, fault_answered, fed};
 
     /// How it lists and watches, or none where it is a stream. No poll changes that.
     ghost settings: { Self → Option Settings };
@@ -52,7 +53,7 @@ pub trait Related<K: Resource>: Drop {
         ensures may { can_poll self.new }
         ensures settings { settings self.new ≡ settings self.old }
         ensures next { IfOk result (λ x. (own : List (Dated K)) → stands self.old own → IsRelatedNext (fed (settings self.old)) own now.0 (exchange_of K.type_of x)) }
-        ensures stands { IfOk result (λ x. (own : List (Dated K)) (y : Exchange K) → stands self.old own → IsSame (exchange_of K.type_of x) y
+        ensures stands { IfOk result (λ x. (own : List (Dated K)) (y : Exchange K) → stands self.old own → IsSamePassed (exchange_of K.type_of x) y
             → stands self.new (own ++ dated_now now.0 y ∷ [])) }
         ensures polls { IfOk result (λ x. (own : List (Dated K)) (y : Exchange K) → stands self.old own → IsSame (exchange_of K.type_of x) y
             → polls self.old own now.0 y self.new) }

@@ -14,7 +14,7 @@ pub trait RootSource: Drop {
     ghost use Rattle.kube_watch.specs.Polls.{dated_now};
     ghost use Rattle.kube_watch.specs.declared.stream.StreamFault.{StreamFault};
     ghost use Rattle.kube_turn.specs.Views.{exchange_of};
-    ghost use Rattle.kube_asks.specs.Sources.{IsRootNext, IsSame, fault_answered};
+    ghost use Rattle.kube_asks.specs.Sources.{IsRootNext, IsSamePassed, fault_answered};
 
     /// The type of its objects.
     type Object: Resource;
@@ -52,7 +52,8 @@ pub trait RootSource: Drop {
     fn is_queue(&self) -> bool
         ensures { result ≡ is_queue (feed self.now) };
 
-    /// Makes the exchange that is next for it, at a moment. Its source is 0.
+    /// Makes the exchange that is next for it, at a moment. Its source is 0, and its requests have priority 0, or their own
+    /// where they came on a queue. What it stands for is the same whatever priority is set on them.
     ///
     /// Errors: `Unnamed` where an item of that exchange must become a reference and has no name; `NoMemory`. After one
     /// only that, and nothing is asked.
@@ -67,7 +68,7 @@ pub trait RootSource: Drop {
         ensures kind { kind self.new ≡ kind self.old }
         ensures next { IfOk result (λ x. (own : List (Dated Self.Object)) → stands self.old own → IsRootNext (kind self.old) Self.Object.meta_of (feed self.old) own now.0 (exchange_of Self.Object.type_of x)) }
         ensures source { IfOk result (λ x. x.source ≡ 0) }
-        ensures stands { IfOk result (λ x. (own : List (Dated Self.Object)) (y : Exchange Self.Object) → stands self.old own → IsSame (exchange_of Self.Object.type_of x) y
+        ensures stands { IfOk result (λ x. (own : List (Dated Self.Object)) (y : Exchange Self.Object) → stands self.old own → IsSamePassed (exchange_of Self.Object.type_of x) y
             → stands self.new (own ++ dated_now now.0 y ∷ [])) }
         ensures polls { IfOk result (λ x. (own : List (Dated Self.Object)) → stands self.old own → polls self.old own now.0 (exchange_of Self.Object.type_of x) self.new) }
         ensures unnamed { IsErrOf result StreamFault.Unnamed → breaks self.old now.0 self.new }

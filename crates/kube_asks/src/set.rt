@@ -17,7 +17,7 @@ pub trait RelatedSet<K: Resource>: Drop {
     ghost use Rattle.kube_watch.specs.Polls.{dated_now};
     ghost use Rattle.kube_watch.specs.declared.stream.StreamFault.{StreamFault};
     ghost use Rattle.kube_turn.specs.Views.{exchange_of};
-    ghost use Rattle.kube_asks.specs.Sources.{IsRelatedNext, IsSame, feed_at, fault_answered};
+    ghost use Rattle.kube_asks.specs.Sources.{IsRelatedNext, IsSame, IsSamePassed, feed_at, fault_answered};
 
     /// How the source at each place lists and watches, or none where it is a stream. There are as many places.
     ghost feeds: { Self → List (Option Settings) };
@@ -64,7 +64,7 @@ pub trait RelatedSet<K: Resource>: Drop {
         ensures may { can_poll self.new }
         ensures feeds { feeds self.new ≡ feeds self.old }
         ensures next { IfOk result (λ x. (own : List (Dated K)) → stands self.old place own → IsRelatedNext (feed_at (feeds self.old) place) own now.0 (exchange_of K.type_of x)) }
-        ensures stands { IfOk result (λ x. (own : List (Dated K)) (y : Exchange K) → stands self.old place own → IsSame (exchange_of K.type_of x) y
+        ensures stands { IfOk result (λ x. (own : List (Dated K)) (y : Exchange K) → stands self.old place own → IsSamePassed (exchange_of K.type_of x) y
             → stands self.new place (own ++ dated_now now.0 y ∷ [])) }
         ensures others { (p : ℕ) (own : List (Dated K)) → p ≢ place → stands self.old p own → stands self.new p own }
         ensures polls { IfOk result (λ x. (own : List (Dated K)) (y : Exchange K) → stands self.old place own → IsSame (exchange_of K.type_of x) y

@@ -26,7 +26,7 @@ pub struct WatchRoot<A: ApiMode> {
 
 impl<A: ApiMode> Model for WatchRoot<A> {
     ghost use Rattle.std.specs.Prelude.{map};
-    ghost use Rattle.kube_turn.specs.Views.{message_of};
+    ghost use Rattle.kube_turn.specs.Views.{prioritized_of};
     ghost use Rattle.kube_asks.specs.Roots.{RootWatching};
 
     ghost Value = { RootWatching A A.Value };
@@ -34,7 +34,7 @@ impl<A: ApiMode> Model for WatchRoot<A> {
     ghost view = { λ r. record {
       watcher = r.watcher;
       kind = A.Value.type_of r.dyntype;
-      listing = map (message_of A.Value.type_of) r.listing;
+      listing = map (prioritized_of A.Value.type_of) r.listing;
       fault = r.fault;
     } };
 }

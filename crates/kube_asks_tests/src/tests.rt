@@ -1,11 +1,11 @@
-//! What mappers answer, and why asks stop, each once with ample memory. Sources and the order in which they are asked stand as rows of
+//! What mappers answer, why asks stop, and what priority they set, each once with ample memory. Sources and the order in which they are asked stand as rows of
 //! the program.
 
-use kube_api::TestMode;
+use kube_api::{Page, TestMode};
 use kube_asks::{Asks, ByFunction, ByLabel, Mapper, NoRelated, Owners, WatchRoot};
 use kube_backoff::StopBackoff;
 use kube_meta::{
-    ApiResource, DynamicObject, List, ObjectMeta, ObjectRef, OwnerReference, Text, TextMap,
+    ApiResource, DynamicObject, List, Moment, ObjectMeta, ObjectRef, OwnerReference, Text, TextMap,
 };
 use kube_watch::Config;
 use std::alloc::Global;
@@ -125,4 +125,46 @@ fn stops_of_new(rt: &impl Abort, alloc: Global) -> String {
 fn stops_where_there_is_no_budget(rt: HostRuntime) {
     let stops = stops_of_new(&rt, rt.alloc());
     assert_eq!(rt; stops.as_str(), "[Budget]");
+}
+
+/// Asks of a root alone, whose first list is the object.
+fn listing(rt: &impl Abort, alloc: Global) -> Alone {
+    let items = vec![in alloc; object(rt, alloc)].expect(rt, "memory");
+    let page = Page {
+        items: List::from(items),
+        token: None,
+        version: Some(text(rt, alloc, "1")),
+    };
+    let lists = vec![in alloc; Ok(page)].expect(rt, "memory");
+    let api = TestMode::new(alloc, lists, Vec::new(alloc));
+    let root = WatchRoot::new(alloc, api, Config::default(), kind(rt, alloc));
+    Asks::new(alloc, root, NoRelated, StopBackoff)
+}
+
+/// The priorities of what the list requests, where this one is set for a source, if there is one.
+fn priorities(rt: &impl Abort, alloc: Global, set: Option<(u32, u32)>) -> String {
+    let mut asks = listing(rt, alloc);
+    if let Some((source, priority)) = set {
+        asks.set_priority(source, priority).expect(rt, "memory");
+    }
+    let budget = vec![in alloc; 1u32].expect(rt, "memory");
+    asks.begin(budget).expect(rt, "memory");
+    let mut shown = String::new(alloc);
+    if let Some(exchange) = asks.next(alloc, Moment(0)).expect(rt, "an exchange") {
+        for request in exchange.requests.as_slice() {
+            let one = format!(in alloc; "{};", request.priority).expect(rt, "memory");
+            shown.push_str(one.as_str()).expect(rt, "memory");
+        }
+    }
+    shown
+}
+
+#[test]
+fn sets_the_priority_of_the_source(rt: HostRuntime) {
+    let none = priorities(&rt, rt.alloc(), None);
+    assert_eq!(rt; none.as_str(), "0;");
+    let root = priorities(&rt, rt.alloc(), Some((0, 7)));
+    assert_eq!(rt; root.as_str(), "7;");
+    let other = priorities(&rt, rt.alloc(), Some((2, 7)));
+    assert_eq!(rt; other.as_str(), "0;");
 }

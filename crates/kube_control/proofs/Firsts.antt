@@ -1,5 +1,5 @@
 -- Controllers before their first turn.
-use Rattle.std.proofs.Common.{◌≡◌, ℕ, zero, suc, ◌+◌, ◌-◌, ◌≤◌, ◌<◌, ◌==◌, nat_lt, Bool, true, false, ◌&&◌, not, List, [], ◌++◌, length, refl, sym, ap, subst, ◌∙◌, arith}
+use Rattle.std.proofs.Common.{◌≡◌, ℕ, zero, suc, ◌+◌, ◌-◌, ◌≤◌, ◌<◌, ◌==◌, nat_lt, Bool, true, false, ◌&&◌, not, List, [], ◌++◌, length, Option, refl, sym, ap, subst, ◌∙◌, arith}
 use Rattle.std.proofs.lemmas.Bool.{ltb-true, ltb-false}
 use Rattle.std.proofs.lemmas.List.{length-append}
 use Rattle.std.specs.Prelude.{⊤}
@@ -104,17 +104,17 @@ module _ {R S B C O D : Type 0} (root : root_source.Ghosts R O D) (related : rel
   -- and under another backoff, once the sources r and s are asked anew
   pub triggered : (v : World O B) (w : World O C) (a : Asking R S B) (core : Parts O D) (r : R) (s : S) (a' : Asking R S C) (start : C) → PartsStand root related delays object v [] a core
       → r ≡ a.root → s ≡ a.related → a'.root ≡ r → a'.related ≡ s → a'.is_spent ≡ false → IsWorldOfAsks root related others object w a' → w.backoff ≡ start → w.limit ≡ v.limit → w.debounce ≡ v.debounce
-      → (IsWorldOf w (root.kind r) object.meta_of (root.feed r) (related.feeds s) others.delay others.delayed others.restarted → w.backoff ≡ start
+      → ((ps : List (Option ℕ)) → IsWorldOf w (root.kind r) object.meta_of (root.feed r) (related.feeds s) ps others.delay others.delayed others.restarted → w.backoff ≡ start
       → SourcesStand (root.stands r) (related.stands s) (length (related.feeds s)) [] → AsksStand root related others object w [] [] [] a')
       → PartsStand root related others object w [] a' core
   triggered v w a core r s a' start p of-root of-related same-root same-related unspent is backoff limit debounce asked =
-      let own = subst (λ x. IsWorldOf w (root.kind x) object.meta_of (root.feed x) (related.feeds s) others.delay others.delayed others.restarted) same-root
-      (subst (λ x. IsWorldOf w (root.kind a'.root) object.meta_of (root.feed a'.root) (related.feeds x) others.delay others.delayed others.restarted) same-related is) in
+      let own = subst (λ x. IsWorldOf w (root.kind x) object.meta_of (root.feed x) (related.feeds s) a'.priorities others.delay others.delayed others.restarted) same-root
+      (subst (λ x. IsWorldOf w (root.kind a'.root) object.meta_of (root.feed a'.root) (related.feeds x) a'.priorities others.delay others.delayed others.restarted) same-related is) in
       let key : v.key ≡ w.key = p.world.key ∙ (ap (λ x o. key_of (root.kind x) (object.meta_of o)) (sym of-root) ∙ sym own.key) in
       let sources = subst (SourcesStand (root.stands a.root) (related.stands a.related) (length (related.feeds a.related))) p.joined p.asks_stand.sources in
       parts-first root related others object w a' core [] [] [] refl is
       (decides-alike object v w p.events core key (p.world.named ∙ sym own.named) (p.world.version ∙ sym own.version) limit debounce p.agrees p.core_stands)
-      (asked own backoff (subst (λ x. SourcesStand (root.stands x) (related.stands s) (length (related.feeds s)) []) (sym of-root)
+      (asked a'.priorities own backoff (subst (λ x. SourcesStand (root.stands x) (related.stands s) (length (related.feeds s)) []) (sym of-root)
       (subst (λ x. SourcesStand (root.stands a.root) (related.stands x) (length (related.feeds x)) []) (sym of-related) sources)))
       unspent
 
@@ -135,12 +135,12 @@ module _ {R S T U B O D : Type 0} (root : root_source.Ghosts R O D) (related : r
       → ((place : ℕ) (own : List (Dated O)) → Either (nat_lt place (length (related.feeds a.related))) (related.stands a.related place own) (more.stands t (place - length (related.feeds a.related)) own) → wider.stands u place own)
       → ((place : ℕ) → place < length (more.feeds t) → more.stands t place [])
       → IsWorldOfAsks root wider delays object w a' → w.backoff ≡ v.backoff → w.limit ≡ v.limit → w.debounce ≡ v.debounce
-      → (IsWorldOf w (root.kind r) object.meta_of (root.feed r) (wider.feeds u) delays.delay delays.delayed delays.restarted → w.backoff ≡ start
+      → ((ps : List (Option ℕ)) → IsWorldOf w (root.kind r) object.meta_of (root.feed r) (wider.feeds u) ps delays.delay delays.delayed delays.restarted → w.backoff ≡ start
       → SourcesStand (root.stands r) (wider.stands u) (length (wider.feeds u)) [] → AsksStand root wider delays object w [] [] [] a')
       → PartsStand root wider delays object w [] a' core
   added v w a core r t u a' start p of-root begins same-root same-related unspent feeds stands fresh is backoff limit debounce asked =
-      let own = subst (λ x. IsWorldOf w (root.kind x) object.meta_of (root.feed x) (wider.feeds u) delays.delay delays.delayed delays.restarted) same-root
-      (subst (λ x. IsWorldOf w (root.kind a'.root) object.meta_of (root.feed a'.root) (wider.feeds x) delays.delay delays.delayed delays.restarted) same-related is) in
+      let own = subst (λ x. IsWorldOf w (root.kind x) object.meta_of (root.feed x) (wider.feeds u) a'.priorities delays.delay delays.delayed delays.restarted) same-root
+      (subst (λ x. IsWorldOf w (root.kind a'.root) object.meta_of (root.feed a'.root) (wider.feeds x) a'.priorities delays.delay delays.delayed delays.restarted) same-related is) in
       let key : v.key ≡ w.key = p.world.key ∙ (ap (λ x o. key_of (root.kind x) (object.meta_of o)) (sym of-root) ∙ sym own.key) in
       let sources = subst (SourcesStand (root.stands a.root) (related.stands a.related) (length (related.feeds a.related))) p.joined p.asks_stand.sources in
       let first : v.backoff ≡ a.kept.pause.backoff = sym (ap (λ (k : Pause B). k.backoff) (p.asks_stand.kept.pause ∙ ap (pause_of v) p.joined)) in
@@ -148,7 +148,7 @@ module _ {R S T U B O D : Type 0} (root : root_source.Ghosts R O D) (related : r
       let long : length (wider.feeds u) ≡ n + length (more.feeds t) = ap length feeds ∙ length-append (related.feeds a.related) (more.feeds t) in
       parts-first root wider delays object w a' core [] [] [] refl is
       (decides-alike object v w p.events core key (p.world.named ∙ sym own.named) (p.world.version ∙ sym own.version) limit debounce p.agrees p.core_stands)
-      (asked own (backoff ∙ (first ∙ sym begins)) (record {
+      (asked a'.priorities own (backoff ∙ (first ∙ sym begins)) (record {
         root = subst (λ x. root.stands x []) (sym of-root) sources.root;
         related = λ place below.
             stands place [] (either-of (nat_lt place n) (related.stands a.related place []) (more.stands t (place - n) [])
@@ -161,11 +161,21 @@ module _ {R S B O D : Type 0} (root : root_source.Ghosts R O D) (related : relat
   -- parts that were made of the sources r and s, in each world whose backoff begins as theirs
   pub started : (w : World O B) (a : Asking R S B) (core : Parts O D) (r : R) (s : S) (start : B) → a.root ≡ r → a.related ≡ s → a.is_spent ≡ false → IsWorldOfAsks root related delays object w a → w.backoff ≡ start
       → CoreStands object.type_of object.meta_of (core_world w) [] core → SourcesStand (root.stands r) (related.stands s) (length (related.feeds s)) []
-      → ((v : World O B) → IsWorldOf v (root.kind r) object.meta_of (root.feed r) (related.feeds s) delays.delay delays.delayed delays.restarted → v.backoff ≡ start
+      → ((v : World O B) (ps : List (Option ℕ)) → IsWorldOf v (root.kind r) object.meta_of (root.feed r) (related.feeds s) ps delays.delay delays.delayed delays.restarted → v.backoff ≡ start
       → SourcesStand (root.stands r) (related.stands s) (length (related.feeds s)) [] → AsksStand root related delays object v [] [] [] a)
       → PartsStand root related delays object w [] a core
   started w a core r s start same-root same-related unspent is backoff core_stands sources asked =
-      let own = subst (λ x. IsWorldOf w (root.kind x) object.meta_of (root.feed x) (related.feeds s) delays.delay delays.delayed delays.restarted) same-root
-      (subst (λ x. IsWorldOf w (root.kind a.root) object.meta_of (root.feed a.root) (related.feeds x) delays.delay delays.delayed delays.restarted) same-related is) in
+      let own = subst (λ x. IsWorldOf w (root.kind x) object.meta_of (root.feed x) (related.feeds s) a.priorities delays.delay delays.delayed delays.restarted) same-root
+      (subst (λ x. IsWorldOf w (root.kind a.root) object.meta_of (root.feed a.root) (related.feeds x) a.priorities delays.delay delays.delayed delays.restarted) same-related is) in
       parts-first root related delays object w a core [] [] [] refl is core_stands
-      (asked w own backoff sources) unspent
+      (asked w a.priorities own backoff sources) unspent
+
+  -- they are so with other priorities of the sources
+  pub reprioritized : (v w : World O B) (a : Asking R S B) (core : Parts O D) (sets : List (Option ℕ)) → PartsStand root related delays object v [] a core
+      → IsWorldOfAsks root related delays object w (record a { priorities = sets }) → w.backoff ≡ v.backoff → w.limit ≡ v.limit → w.debounce ≡ v.debounce
+      → PartsStand root related delays object w [] (record a { priorities = sets }) core
+  reprioritized v w a core sets p is backoff limit debounce =
+      parts-first root related delays object w (record a { priorities = sets }) core p.budget p.before p.mine p.joined is
+      (decides-alike object v w p.events core (p.world.key ∙ sym is.key) (p.world.named ∙ sym is.named) (p.world.version ∙ sym is.version) limit debounce p.agrees p.core_stands)
+      (record { sources = p.asks_stand.sources; kept = kept-alike v w p.budget p.before p.mine a.kept p.joined (p.world.fed_so ∙ sym is.fed_so) (sym backoff) p.asks_stand.kept })
+      p.unspent

@@ -6,7 +6,7 @@ use Rattle.std.proofs.lemmas.Grind.{flat_map-append}
 use Rattle.kube_meta.specs.Reference.{Reference, ObjectType}
 use Rattle.kube_meta.specs.declared.action.Action.{Action}
 use Rattle.kube_meta.specs.declared.resource.Resource as resource
-use Rattle.kube_model.specs.World.{World}
+use Rattle.kube_model.specs.World.{World, priority_of}
 use Rattle.kube_model.specs.History.{Turn, TurnRecord, Step, dated, exchanges, exchanges_of}
 use Rattle.kube_model.specs.Named.{AreNamedTurns, RootIsNamed}
 use Rattle.kube_model.specs.Raw.{grown_by}
@@ -16,7 +16,7 @@ use Rattle.kube_backoff.specs.declared.backoff.Backoff as backoff
 use Rattle.kube_reflect.specs.Cached.{Kept}
 use Rattle.kube_reflect.specs.Exchanged.{IsLeftBy}
 use Rattle.kube_core.specs.Cores.{Parts}
-use Rattle.kube_asks.specs.Asking.{Asking}
+use Rattle.kube_asks.specs.Asking.{Asking, IsPolledWith, IsPlacePolledWith}
 use Rattle.kube_asks.specs.declared.asks.AskFault.{AskFault}
 use Rattle.kube_asks.specs.declared.asks.AskFault.TheVariants as faults
 use Rattle.kube_asks.specs.declared.root.RootSource as root_source
@@ -77,7 +77,7 @@ module _ {R S B O D : Type 0} (root : root_source.Ghosts R O D) (related : relat
         recorded = taken.recorded;
         each_named = taken.each_named;
         polled =
-            subst (λ n. ArePolled root.polls related.polls (exchanges h) c.asks.root c.asks.related (dated n r.exchanges) c'.asks.root c'.asks.related) (sym (ap (λ (q : TurnRecord O). q.at) taken.recorded.determined))
+            subst (λ n. ArePolled (IsPolledWith (priority_of w 0) root.polls) (IsPlacePolledWith w.priorities related.polls) (exchanges h) c.asks.root c.asks.related (dated n r.exchanges) c'.asks.root c'.asks.related) (sym (ap (λ (q : TurnRecord O). q.at) taken.recorded.determined))
             taken.polled;
         watching = record {
           may = record { parts = taken.parts; settings = k.may.settings; is_watched = k.may.is_watched; names = k.may.names };
@@ -128,9 +128,9 @@ module _ {R S B O D : Type 0} (root : root_source.Ghosts R O D) (related : relat
           traced = trace-push w h ts rs t r (run-long going) k.traced (open-yet going) n.recorded;
           all_named = subst (AreNamedTurns w (RootIsNamed w) h) (sym pushed) (named-push w (RootIsNamed w) h so-far (step t (unread r)) k.all_named n.each_named);
           polled =
-              subst (λ ds. ArePolled root.polls related.polls (exchanges h) c.asks.root c.asks.related ds c''.asks.root c''.asks.related) (sym all)
-              (polled-append root.polls related.polls (exchanges h) c.asks.root c.asks.related (dated_in rs) (dated r.at r.exchanges) c'.asks.root c'.asks.related c''.asks.root c''.asks.related k.polled
-              (subst (λ ds. ArePolled root.polls related.polls ds c'.asks.root c'.asks.related (dated r.at r.exchanges) c''.asks.root c''.asks.related) asked n.polled));
+              subst (λ ds. ArePolled (IsPolledWith (priority_of w 0) root.polls) (IsPlacePolledWith w.priorities related.polls) (exchanges h) c.asks.root c.asks.related ds c''.asks.root c''.asks.related) (sym all)
+              (polled-append (IsPolledWith (priority_of w 0) root.polls) (IsPlacePolledWith w.priorities related.polls) (exchanges h) c.asks.root c.asks.related (dated_in rs) (dated r.at r.exchanges) c'.asks.root c'.asks.related c''.asks.root c''.asks.related k.polled
+              (subst (λ ds. ArePolled (IsPolledWith (priority_of w 0) root.polls) (IsPlacePolledWith w.priorities related.polls) ds c'.asks.root c'.asks.related (dated r.at r.exchanges) c''.asks.root c''.asks.related) asked n.polled));
           watching = subst (λ g. IsWatching root related delays object w g c'') (append_assoc h so-far (step t (unread r) ∷ []) ∙ ap (λ ss. h ++ ss) (sym pushed)) n.watching;
         }
 

@@ -3,7 +3,7 @@ use Rattle.std.specs.Prelude.{◌≡◌, false, List, [], ◌∷◌, ◌++◌, m
 use Rattle.kube_meta.specs.declared.action.Action.{Action}
 use Rattle.kube_meta.specs.Reference.{ObjectType, Reference}
 use Rattle.kube_meta.specs.declared.resource.Resource as resource
-use Rattle.kube_model.specs.World.{World}
+use Rattle.kube_model.specs.World.{World, priority_of}
 use Rattle.kube_model.specs.History.{Taken, Turn, TurnRecord, Step, dated, exchanges, exchanges_of}
 use Rattle.kube_model.specs.Named.{RootIsNamed, EachIsNamed, AreNamedTurns}
 use Rattle.kube_model.specs.Raw.{grown_by}
@@ -19,6 +19,7 @@ use Rattle.kube_asks.specs.declared.set.RelatedSet as related_set
 use Rattle.kube_turn.specs.declared.turn.Turn.{Turn as HeldTurn}
 use Rattle.kube_turn.specs.declared.record.TurnRecord.{TurnRecord as HeldRecord}
 use Rattle.kube_turn.specs.Records.{record_of, turn_of, turns_of}
+use Rattle.kube_asks.specs.Asking.{IsPolledWith, IsPlacePolledWith}
 use Rattle.kube_step.specs.Calls.{ArePolled, dated_in}
 use Rattle.kube_step.specs.Finishes.{AreFinished}
 use Rattle.kube_step.specs.HandOvers.{handed_by, taken_by}
@@ -48,14 +49,14 @@ module _ {R S B O D : Type 0} (root : root_source.Ghosts R O D) (related : relat
   pub record IsNextTurn (h : List (Step O)) (t : Turn) (c : Controlling R S B O D) (r : TurnRecord O) (c' : Controlling R S B O D) : Type 0 where
     pub recorded : IsRecord w (answered_in r.finished) h t (unread r)
     pub each_named : EachIsNamed w (RootIsNamed w) h t [] r.exchanges
-    pub polled : ArePolled root.polls related.polls (exchanges h) c.asks.root c.asks.related (dated r.at r.exchanges) c'.asks.root c'.asks.related
+    pub polled : ArePolled (IsPolledWith (priority_of w 0) root.polls) (IsPlacePolledWith w.priorities related.polls) (exchanges h) c.asks.root c.asks.related (dated r.at r.exchanges) c'.asks.root c'.asks.related
     pub watching : IsWatching (h ++ step t (unread r) ∷ []) c'
 
   -- these records are the trace of these turns, with what the error policy answered; all exchanges came with their names, and nothing else was asked
   pub record HaveRun (h : List (Step O)) (ts : List Turn) (c : Controlling R S B O D) (rs : List (TurnRecord O)) (c' : Controlling R S B O D) : Type 0 where
     pub traced : IsTrace w (answered_by rs) h ts (map unread rs)
     pub all_named : AreNamedTurns w (RootIsNamed w) h (steps ts (map unread rs))
-    pub polled : ArePolled root.polls related.polls (exchanges h) c.asks.root c.asks.related (dated_in rs) c'.asks.root c'.asks.related
+    pub polled : ArePolled (IsPolledWith (priority_of w 0) root.polls) (IsPlacePolledWith w.priorities related.polls) (exchanges h) c.asks.root c.asks.related (dated_in rs) c'.asks.root c'.asks.related
     pub watching : IsWatching (h ++ steps ts (map unread rs)) c'
 
 -- policy says what the error policy answered of an object and a fault
@@ -74,7 +75,7 @@ module _ {R S O D E : Type 0} (root : root_source.Ghosts R O D) (related : relat
     pub all_named : AreNamedTurns w (RootIsNamed w) h (steps (take (length rs) (turns_of object.type_of ts)) (map unread rs))
     pub reached_root : R
     pub reached_related : S
-    pub polled : ArePolled root.polls related.polls (exchanges h) c.asks.root c.asks.related (dated_in rs) reached_root reached_related
+    pub polled : ArePolled (IsPolledWith (priority_of w 0) root.polls) (IsPlacePolledWith w.priorities related.polls) (exchanges h) c.asks.root c.asks.related (dated_in rs) reached_root reached_related
     pub turn : HeldTurn O E D
     pub next : slice_get ts (length rs) ≡ Some turn
     pub going : has_ended (h ++ steps (take (length rs) (turns_of object.type_of ts)) (map unread rs)) ≡ false

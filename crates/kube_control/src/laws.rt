@@ -1,10 +1,11 @@
 //! Laws of runs: each is the contract of a function that does nothing.
 
 ghost use Rattle.std.specs.Prelude.{◌≡◌, ◌∷◌, ℕ, List, Option, map};
-ghost use Rattle.kube_model.specs.World.{World, Settings, Watched};
+ghost use Rattle.kube_model.specs.World.{World, Settings, Watched, priority_of};
 ghost use Rattle.kube_model.specs.History.{Step, Turn, TurnRecord, exchanges};
 ghost use Rattle.kube_model.specs.Traces.{AreValid, IsRefusedAfter, IsTrace, Made, Refusal, unread};
 ghost use Rattle.kube_step.specs.Calls.{ArePolled, dated_in};
+ghost use Rattle.kube_asks.specs.Asking.{IsPolledWith, IsPlacePolledWith};
 ghost use Rattle.kube_asks.specs.Roots.{RootWatching};
 ghost use Rattle.kube_asks.specs.Determined.{AreDetermined, IsOneWay};
 ghost use Rattle.kube_asks.specs.Sources.{fed};
@@ -22,8 +23,8 @@ pub fn one_trace<A: ApiMode, S: RelatedSet<A::Value>, B>()
         → (policies : ℕ → ℕ → A.Value → Option ℕ) (h : List (Step A.Value)) (ts : List Turn) (rs qs : List (TurnRecord A.Value)) (r r' q q' : RootWatching A A.Value) (s s' u u' : S)
         → w.feeds ≡ Watched settings ∷ map fed (S.feeds s) → HaveSameApi settings r q → S.alike s u
         → IsTrace w policies h ts (map unread rs) → IsTrace w policies h ts (map unread qs)
-        → ArePolled ⟦<WatchRoot<A> as RootSource>⟧.polls S.polls (exchanges h) r s (dated_in rs) r' s'
-        → ArePolled ⟦<WatchRoot<A> as RootSource>⟧.polls S.polls (exchanges h) q u (dated_in qs) q' u'
+        → ArePolled (IsPolledWith (priority_of w 0) ⟦<WatchRoot<A> as RootSource>⟧.polls) (IsPlacePolledWith w.priorities S.polls) (exchanges h) r s (dated_in rs) r' s'
+        → ArePolled (IsPolledWith (priority_of w 0) ⟦<WatchRoot<A> as RootSource>⟧.polls) (IsPlacePolledWith w.priorities S.polls) (exchanges h) q u (dated_in qs) q' u'
         → (rs ≡ qs) × HaveSameApi settings r' q' × S.alike s' u' }
 {}
 
@@ -33,8 +34,8 @@ pub fn refused_or_traced<A: ApiMode, S: RelatedSet<A::Value>, B>()
         → (policies : ℕ → ℕ → A.Value → Option ℕ) (h : List (Step A.Value)) (ts : List Turn) (rs qs : List (TurnRecord A.Value)) (why : Refusal) (r r' q q' : RootWatching A A.Value) (s s' u u' : S)
         → w.feeds ≡ Watched settings ∷ map fed (S.feeds s) → HaveSameApi settings r q → S.alike s u
         → IsRefusedAfter w policies h ts (map unread rs) why → IsTrace w policies h ts (map unread qs)
-        → ArePolled ⟦<WatchRoot<A> as RootSource>⟧.polls S.polls (exchanges h) r s (dated_in rs) r' s'
-        → ArePolled ⟦<WatchRoot<A> as RootSource>⟧.polls S.polls (exchanges h) q u (dated_in qs) q' u' → ⊥ }
+        → ArePolled (IsPolledWith (priority_of w 0) ⟦<WatchRoot<A> as RootSource>⟧.polls) (IsPlacePolledWith w.priorities S.polls) (exchanges h) r s (dated_in rs) r' s'
+        → ArePolled (IsPolledWith (priority_of w 0) ⟦<WatchRoot<A> as RootSource>⟧.polls) (IsPlacePolledWith w.priorities S.polls) (exchanges h) q u (dated_in qs) q' u' → ⊥ }
 {}
 
 /// Turns that have a trace are valid, and turns of which one is refused are not.

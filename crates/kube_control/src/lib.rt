@@ -27,6 +27,6 @@ pub use kube_trigger::{
 };
 pub use kube_turn::error::Error;
 pub use kube_turn::{
-    Config, Finish, Finished, ReconcileRequest, SourceExchange, Taken, Trace, Turn, TurnRecord,
-    exchange, record, request, turn,
+    Config, Finish, Finished, Named, ReconcileRequest, SourceExchange, Taken, Trace, Turn,
+    TurnRecord, exchange, record, request, turn,
 };

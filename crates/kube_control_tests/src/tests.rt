@@ -5,7 +5,7 @@ mod node;
 
 use kube_api::{ApiError, ApiMode, ListParams, Page, WatchEvent, WatchParams};
 use kube_control::{
-    Action, Controller, DefaultBackoff, NoRelated, Recorder, RunError, Stop, Trace, Turn,
+    Action, Controller, DefaultBackoff, NoRelated, Recorder, RunError, Stop, Taken, Trace, Turn,
     TurnRecord, WatchRoot,
 };
 use kube_meta::{List, Moment, Next, NoMemory, ObjectMeta, Polled, Text};
@@ -182,6 +182,42 @@ fn asks_an_endless_list_within_the_budget(rt: HostRuntime) {
         assert_eq!(rt; asked(&rt, alloc, "t", budget), wanted);
     }
     assert_eq!(rt; asked(&rt, alloc, "", 9), Some([3, 1, 1, 1, 0]));
+}
+
+/// The priority of what was taken, where it was found.
+fn priority_of(taken: &Taken<Node>) -> Option<u32> {
+    match taken {
+        Taken::Started { priority, .. } => Some(*priority),
+        _ => None,
+    }
+}
+
+/// The priority of the first that the one record of a turn took; none where there is no such one.
+fn first_priority_of(answered: &Answered) -> Option<u32> {
+    match answered {
+        Ok(trace) => priority_of(trace.records.as_slice().first()?.taken.as_slice().first()?),
+        Err(_) => None,
+    }
+}
+
+/// The same of an answer that is let go then.
+fn first_priority_once(answered: Answered) -> Option<u32> {
+    first_priority_of(&answered)
+}
+
+/// The priority with which a root of this priority is taken from.
+fn taken_with<R: Abort + Copy>(rt: &R, alloc: Global, priority: u32) -> Option<u32> {
+    let mut controller = controller(rt, alloc, "")
+        .priority(0, priority)
+        .expect(rt, "memory");
+    first_priority_once(turned(rt, alloc, &mut controller, 9))
+}
+
+#[test]
+fn requests_have_the_priority_of_their_source(rt: HostRuntime) {
+    for priority in [0, 7, u32::MAX] {
+        assert_eq!(rt; taken_with(&rt, rt.alloc(), priority), Some(priority));
+    }
 }
 
 /// How many nodes a handle reads before what a turn stores is published, and after that.

@@ -4,7 +4,7 @@ use Rattle.std.specs.List.{filter}
 use Rattle.kube_meta.specs.declared.metadata.ObjectMeta.{ObjectMeta}
 use Rattle.kube_meta.specs.declared.moment.Moment.{Moment}
 use Rattle.kube_meta.specs.Reference.{ObjectType, Reference, same_reference, reference_before}
-use Rattle.kube_model.specs.History.{Exchange, Dated, Taken, exchanges_of}
+use Rattle.kube_model.specs.History.{Exchange, Dated, Named, Taken, exchanges_of}
 use Rattle.kube_model.specs.Owed.{is_initial}
 use Rattle.kube_model.specs.Queue.{sorted_by}
 use Rattle.kube_model.specs.Reason.{Unknown, BulkReconcile}
@@ -152,11 +152,11 @@ module _ {K D : Type 0} (type_of : D → ObjectType) (meta : K → ObjectMeta) (
                 (shut o s.pending)
             go false o = subst (λ qs. Stands type_of core c'.pending qs (running_of es)) (sym (when-open (Settled at.0) o)) (opened o s.pending)
 
-        pub requested-core : (r : Reference) → c'.is_shut ≡ c.is_shut → (c.is_shut ≡ true → Stands type_of core c.pending (queue_of core es) (running_of es) → Stands type_of core c'.pending (queue_of core es) (running_of es))
+        pub requested-core : (n : Named) → c'.is_shut ≡ c.is_shut → (c.is_shut ≡ true → Stands type_of core c.pending (queue_of core es) (running_of es) → Stands type_of core c'.pending (queue_of core es) (running_of es))
             → (c.is_shut ≡ false → Stands type_of core c.pending (queue_of core es) (running_of es)
-            → Stands type_of core c'.pending (with_requests (queue_of core es) at.0 (requested_at at.0 (record { reference = r; reason = Unknown }) ∷ [])) (running_of es))
-            → StandsFor type_of meta core (es ++ Requested at.0 r ∷ []) c'
-        requested-core r h shut opened = asked (Requested at.0 r) _ refl refl tt refl refl refl refl w h shut opened
+            → Stands type_of core c'.pending (with_requests (queue_of core es) at.0 (requested_at at.0 (record { message = record { reference = n.reference; reason = Unknown }; priority = n.priority }) ∷ [])) (running_of es))
+            → StandsFor type_of meta core (es ++ Requested at.0 n ∷ []) c'
+        requested-core n h shut opened = asked (Requested at.0 n) _ refl refl tt refl refl refl refl w h shut opened
 
         pub reloaded-core : c'.is_shut ≡ c.is_shut → (c.is_shut ≡ true → Stands type_of core c.pending (queue_of core es) (running_of es) → Stands type_of core c'.pending (queue_of core es) (running_of es))
             → (c.is_shut ≡ false → Stands type_of core c.pending (queue_of core es) (running_of es)
@@ -168,9 +168,9 @@ module _ {K D : Type 0} (type_of : D → ObjectType) (meta : K → ObjectMeta) (
             keys [] = refl
             keys (o ∷ os) = ap (λ rs. core.key o ∷ rs) (keys os)
 
-            each : (rs : List Reference) → map (λ r. requested_at at.0 (record { reference = r; reason = BulkReconcile })) rs ≡ map (requested_at at.0) (map in_bulk rs)
+            each : (rs : List Reference) → map (λ r. requested_at at.0 (record { message = record { reference = r; reason = BulkReconcile }; priority = 0 })) rs ≡ map (requested_at at.0) (map in_bulk rs)
             each [] = refl
-            each (r ∷ rs) = ap (λ ts. requested_at at.0 (record { reference = r; reason = BulkReconcile }) ∷ ts) (each rs)
+            each (r ∷ rs) = ap (λ ts. requested_at at.0 (record { message = record { reference = r; reason = BulkReconcile }; priority = 0 }) ∷ ts) (each rs)
 
             bulk : requests_by core es (Reloaded at.0) ≡ map (requested_at at.0) (map in_bulk (sorted_by reference_before (map (λ p. p.0) c.writer.kept.cache)))
             bulk =

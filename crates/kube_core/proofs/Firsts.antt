@@ -1,5 +1,5 @@
 -- The first that passes, as what is found.
-use Rattle.std.proofs.Common.{◌≡◌, Bool, true, false, List, [], ◌∷◌, map, Option, Some, option_map, cond, refl, inl, inr}
+use Rattle.std.proofs.Common.{◌≡◌, Bool, true, false, not, List, [], ◌∷◌, map, Option, Some, option_map, cond, refl, sym, ap, ◌∙◌, inl, inr}
 use Rattle.std.specs.List.{filter, find}
 use Rattle.kube_sched.specs.Schedule.{IsFirst}
 use Rattle.kube_history.specs.CoreEvents.{first_of}
@@ -14,6 +14,18 @@ first-find passes test says (m ∷ ms) r h = go (test m) refl h (first-find pass
     go true e (inr p) f = absurd (let k : false ≡ test m = says m false p.0 in cc)
     go false e (inl p) f = absurd (let k : true ≡ test m = says m true p.0 in cc)
     go false e (inr p) f = f p.1
+
+-- the first that isn't put aside, where none passes that is
+pub first-idle : {M : Type 0} (test parked : M → Bool) → ((m : M) → parked m ≡ true → test m ≡ false) → (ms : List M) (r : Option M) → IsFirst (λ m b. b ≡ not (parked m)) ms r
+    → ((m : M) → r ≡ Some m → test m ≡ true) → r ≡ find test ms
+first-idle test parked aside [] r h own = h
+first-idle test parked aside (m ∷ ms) r (inl p) own = p.1 ∙ sym (ap (λ b. cond b (Some m) (find test ms)) (own m p.1))
+first-idle test parked aside (m ∷ ms) r (inr p) own =
+    first-idle test parked aside ms r p.1 own ∙ sym (ap (λ b. cond b (Some m) (find test ms)) (aside m (turned (parked m) p.0)))
+  where
+    turned : (b : Bool) → false ≡ not b → b ≡ true
+    turned true h = refl
+    turned false h = absurd (cc)
 
 pub find-filter : {A : Type 0} (p : A → Bool) (xs : List A) → first_of (filter p xs) ≡ find p xs
 find-filter p [] = refl

@@ -1,6 +1,7 @@
 -- lemmas on the definitions
 pub mod QueueImages
 pub mod Firsts
+pub mod RunningSteps
 pub mod PendingSteps
 pub mod CoreSteps
 pub mod Requesting

@@ -1,41 +1,46 @@
 -- One more event of what waits and runs.
-use Rattle.std.proofs.Common.{◌≡◌, ℕ, ◌+◌, Bool, true, false, not, ◌||◌, cond, List, [], ◌∷◌, ◌++◌, map, length, Option, Some, None, option_map, is_some, if◌then◌else◌, refl, sym, ap, subst, ◌∙◌}
-use Rattle.std.specs.Prelude.{position}
-use Rattle.std.specs.List.{filter, find, position_from}
-use Rattle.std.specs.Map.{lookup, remove_entry}
+use Rattle.std.proofs.Common.{◌≡◌, ℕ, ◌+◌, Bool, true, false, not, cond, List, [], ◌∷◌, ◌++◌, map, length, length-append, ◌&&◌, Option, Some, None, option_map, is_some, Result, Ok, Err, OnOk, OnErr, if◌then◌else◌, refl, sym, ap, ap₂, subst, ◌∙◌, arith, inl, inr, ◌⊎◌}
+use Rattle.std.specs.Prelude.{IfSome}
+use Rattle.std.specs.Cmp.{IsEquivalence}
+use Rattle.std.proofs.lemmas.Bool.{true≢false}
+use Rattle.std.specs.List.{AllByRecursion, filter, find}
+use Rattle.std.specs.Map.{KeepsOthers, lookup}
+use Rattle.std.specs.Option.{option_or}
 use Rattle.std.specs.Arc.{arc_value}
 use Rattle.std.specs.declared.sync.Arc.{Arc}
 use Rattle.std.specs.declared.alloc.Global.{Global}
 use Rattle.std.proofs.lemmas.List.{map-append, length-map}
-use Rattle.std.proofs.lemmas.Iterator.Adapters.{position_from-zero}
 use Rattle.indexmap.specs.IndexMap.{insert_entry}
 use Rattle.kube_meta.specs.Reference.{ObjectType, Reference, same_reference}
-use Rattle.kube_meta.specs.ReferenceLaws.{same_reference_equiv}
+use Rattle.kube_meta.specs.ReferenceLaws.{same_reference_equiv, seen_equiv}
 use Rattle.kube_meta.specs.Keys.{reference_of}
 use Rattle.kube_meta.specs.declared.object_ref.ObjectRef.{ObjectRef}
 use Rattle.kube_meta.specs.declared.moment.Moment.{Moment}
-use Rattle.kube_model.specs.History.{Message, same_message}
-use Rattle.kube_model.specs.Queue.{QueueEvent, Requested, Settled, Took, Entry, Frozen, entry, waiting}
+use Rattle.kube_model.specs.History.{Message, Prioritized, same_message}
+use Rattle.kube_model.specs.Queue.{QueueEvent, Requested, Settled, Took, Entry, Frozen, entry, priority, waiting}
 use Rattle.kube_model.specs.WaitingOnce.{is_frozen}
-use Rattle.kube_model.specs.Takes.{Running, runs, candidates, has_room}
-use Rattle.kube_sched.specs.Schedule.{Schedule, Stands as Scheduled, with_request, with_settle, with_take}
-use Rattle.kube_sched.proofs.Steps.{stands-alike}
+use Rattle.kube_model.specs.Takes.{Running, runs, candidates, has_room, prioritized}
+use Rattle.kube_reflect.proofs.Putting.{same-references}
+use Rattle.kube_sched.specs.declared.held.Due.{Due}
+use Rattle.kube_sched.specs.Schedule.{Schedule, Stands as Scheduled, with_request, with_settle, with_take, waiting_messages, is_parked}
+use Rattle.kube_sched.proofs.Steps.{stands-alike, waiting-priorities}
 use Rattle.kube_history.specs.CoreWorld.{CoreWorld}
 use Rattle.kube_history.specs.CoreEvents.{next_candidate, first_of}
-use Rattle.kube_history.specs.Running.{RunOnce}
 use Rattle.kube_history.specs.TurnCalls.{with_requests}
 use Rattle.kube_turn.specs.declared.request.ReconcileRequest.{ReconcileRequest}
-use Rattle.kube_turn.specs.Views.{message_of, running_of, same_request}
+use Rattle.kube_turn.specs.Views.{message_of, prioritized_of, same_request}
 use Rattle.kube_core.specs.Images.{event_image, events_image, entry_image, frozen_image}
-use Rattle.kube_core.specs.Pendings.{Parts, Stands, handed_over, place_of, FirstIs, TakenFrom, is_idle}
+use Rattle.kube_core.specs.Pendings.{FirstIs, Parts, ParkedRun, Stands, TakenFrom, handed_in, handed_over, is_idle, without_looks}
+use Rattle.kube_core.proofs.Firsts.{find-map}
 use Rattle.kube_core.proofs.QueueImages.{waiting-image, entry-image}
+use Rattle.kube_core.proofs.RunningSteps.{entries-last, handed-filter, handed-last, handed-there, is_there, kept-others, keep-all, length-filter, once-filter, once-more, put-last, put-there, runs-handed}
 
 -- Events.
 
 module _ {A B : Type 0} (f : A → B) where
-  with-request : (es : List (QueueEvent A)) (m : A) (run_at now : Moment)
-      → events_image f es ++ Requested (record { message = f m; run_at = run_at.0; now = now.0 }) ∷ [] ≡ events_image f (with_request es (record { message = m; run_at = run_at }) now)
-  with-request es m run_at now = sym (map-append (event_image f) es (Requested (record { message = m; run_at = run_at.0; now = now.0 }) ∷ []))
+  with-request : (es : List (QueueEvent A)) (m : A) (run_at now : Moment) (p : ℕ)
+      → events_image f es ++ Requested (record { message = f m; run_at = run_at.0; priority = p; now = now.0 }) ∷ [] ≡ events_image f (with_request es (record { message = m; run_at = run_at; priority = p }) now)
+  with-request es m run_at now p = sym (map-append (event_image f) es (Requested (record { message = m; run_at = run_at.0; priority = p; now = now.0 }) ∷ []))
 
   with-settle : (es : List (QueueEvent A)) (now : Moment) → with_settle (events_image f es) now ≡ events_image f (with_settle es now)
   with-settle es now = sym (map-append (event_image f) es (Settled now.0 ∷ []))
@@ -43,38 +48,74 @@ module _ {A B : Type 0} (f : A → B) where
   with-take : (es : List (QueueEvent A)) (m : A) → with_take (events_image f es) (f m) ≡ events_image f (with_take es m)
   with-take es m = sym (map-append (event_image f) es (Took m ∷ []))
 
-or-first : (a b : Bool) → (a || b) ≡ false → a ≡ false
-or-first true b i = absurd (cc)
-or-first false b i = refl
-
-or-second : (a b : Bool) → (a || b) ≡ false → b ≡ false
-or-second true b i = absurd (cc)
-or-second false b i = i
-
 find-alike : {A : Type 0} (t u : A → Bool) → ((a : A) → t a ≡ u a) → (xs : List A) → find t xs ≡ find u xs
 find-alike t u h [] = refl
 find-alike t u h (x ∷ xs) = ap (λ b. cond b (Some x) (find t xs)) (h x) ∙ ap (λ o. cond (u x) (Some x) o) (find-alike t u h xs)
 
-some-is : {A : Type 0} {a b : A} → Some a ≡ Some b → a ≡ b
+find-has : {A : Type 0} (t : A → Bool) (P : A → Type 0) (xs : List A) (x : A) → AllByRecursion P xs → find t xs ≡ Some x → P x
+find-has t P [] x h e = absurd (cc)
+find-has t P (y ∷ xs) x h e = go (t y) e (find-has t P xs x h.1)
+  where
+    go : (b : Bool) → cond b (Some y) (find t xs) ≡ Some x → (find t xs ≡ Some x → P x) → P x
+    go true k f = let is : y ≡ x = cc in subst P is h.0
+    go false k f = f k
+
+find-passes : {A : Type 0} (t : A → Bool) (xs : List A) (x : A) → find t xs ≡ Some x → t x ≡ true
+find-passes t [] x e = absurd (cc)
+find-passes t (y ∷ xs) x e = go (t y) refl e (find-passes t xs x)
+  where
+    go : (b : Bool) → t y ≡ b → cond b (Some y) (find t xs) ≡ Some x → (find t xs ≡ Some x → t x ≡ true) → t x ≡ true
+    go true h k f = let is : y ≡ x = cc in subst (λ z. t z ≡ true) is h
+    go false h k f = f k
+
+pub some-is : {A : Type 0} {a b : A} → Some a ≡ Some b → a ≡ b
 some-is h = cc
+
+pub some-of : {A : Type 0} (P : A → Type 0) (o : Option A) (a : A) → IfSome o P → o ≡ Some a → P a
+some-of P None a h e = absurd (cc)
+some-of P (Some b) a h e = subst P (some-is e) h
+
+pub none-of : {A B : Type 0} (f : A → B) (o : Option A) → None ≡ option_map f o → None ≡ o
+none-of f None e = refl
+none-of f (Some a) e = absurd (cc)
+
+-- Room after a call that may have failed.
+
+pub spare-kept : {X E M : Type 0} (r : Result X E) (s s' : Schedule M) → OnOk r (s'.spare ≡ s.spare) → OnErr r (s' ≡ s) → s'.spare ≡ s.spare
+spare-kept (Ok x) s s' h k = h
+spare-kept (Err e) s s' h k = ap (λ z. z.spare) k
 
 module _ {K D : Type 0} (type_of : D → ObjectType) where
   abbrev pub ref : ObjectRef K D → Reference
   ref r = reference_of type_of r
 
+  request-equiv : IsEquivalence (same_request {K = K} type_of)
+  request-equiv = seen_equiv (λ (a : ReconcileRequest K D). reference_of type_of a.obj_ref)
+
+  -- A schedule stands for the same events whatever was looked at.
+
+  pub seen : (s : Schedule (ReconcileRequest K D)) (es : List (QueueEvent (ReconcileRequest K D))) → Scheduled (same_request type_of) s es → Scheduled (same_request type_of) (without_looks s) es
+  seen s es h = stands-alike (same_request type_of) s (without_looks s) es refl refl refl h
+
+  pub unseen : (s : Schedule (ReconcileRequest K D)) (es : List (QueueEvent (ReconcileRequest K D))) → Scheduled (same_request type_of) (without_looks s) es → Scheduled (same_request type_of) s es
+  unseen s es h = stands-alike (same_request type_of) (without_looks s) s es refl refl refl h
+
   -- What waits.
 
   pub requested : (core : CoreWorld K) (p p' : Parts K D) (m : ReconcileRequest K D) (run_at now : Moment) (qs : List (QueueEvent Message)) (rs : List (Running K))
       → p'.limit ≡ p.limit → p'.schedule.debounce ≡ p.schedule.debounce → p'.running ≡ p.running
-      → ((es : List (QueueEvent (ReconcileRequest K D))) → Scheduled (same_request type_of) p.schedule es → Scheduled (same_request type_of) p'.schedule (with_request es (record { message = m; run_at = run_at }) now))
-      → Stands type_of core p qs rs → Stands type_of core p' (with_requests qs now.0 (record { message = message_of type_of m; run_at = run_at.0 } ∷ [])) rs
+      → ((es : List (QueueEvent (ReconcileRequest K D))) → Scheduled (same_request type_of) p.schedule es → Scheduled (same_request type_of) p'.schedule (with_request es (record { message = m; run_at = run_at; priority = m.priority }) now))
+      → Stands type_of core p qs rs → Stands type_of core p' (with_requests qs now.0 (record { message = message_of type_of m; run_at = run_at.0; priority = m.priority } ∷ [])) rs
   requested core p p' m run_at now qs rs l d e h s = record {
     limit = s.limit ∙ sym l;
     debounce = s.debounce ∙ sym d;
-    events = with_request s.events (record { message = m; run_at = run_at }) now;
+    events = with_request s.events (record { message = m; run_at = run_at; priority = m.priority }) now;
     scheduled = h s.events s.scheduled;
-    seen_as = ap (λ xs. with_requests xs now.0 (record { message = message_of type_of m; run_at = run_at.0 } ∷ [])) s.seen_as ∙ with-request (message_of type_of) s.events m run_at now;
-    running = s.running ∙ ap (map (running_of type_of)) (sym e);
+    seen_as =
+        ap (λ xs. with_requests xs now.0 (record { message = message_of type_of m; run_at = run_at.0; priority = m.priority } ∷ [])) s.seen_as
+        ∙ with-request (message_of type_of) s.events m run_at now m.priority;
+    running = λ r. s.running r ∙ ap (λ es. handed_in type_of es r) (sym e);
+    count = s.count ∙ ap length (sym e);
     once = s.once;
   }
 
@@ -88,7 +129,8 @@ module _ {K D : Type 0} (type_of : D → ObjectType) where
     events = with_settle s.events now;
     scheduled = h s.events s.scheduled;
     seen_as = ap (λ xs. with_settle xs now) s.seen_as ∙ with-settle (message_of type_of) s.events now;
-    running = s.running ∙ ap (map (running_of type_of)) (sym e);
+    running = λ r. s.running r ∙ ap (λ es. handed_in type_of es r) (sym e);
+    count = s.count ∙ ap length (sym e);
     once = s.once;
   }
 
@@ -102,63 +144,15 @@ module _ {K D : Type 0} (type_of : D → ObjectType) where
     events = with_take s.events m;
     scheduled = h s.events s.scheduled;
     seen_as = ap (λ xs. with_take xs (message_of type_of m)) s.seen_as ∙ with-take (message_of type_of) s.events m;
-    running = s.running ∙ ap (map (running_of type_of)) (sym e);
+    running = λ r. s.running r ∙ ap (λ es. handed_in type_of es r) (sym e);
+    count = s.count ∙ ap length (sym e);
     once = s.once;
   }
 
   -- What runs.
 
-  pub runs-lookup : (es : List (ObjectRef K D × Arc K Global)) (r : Reference)
-      → is_some (lookup (λ k. same_reference r (ref k)) es) ≡ runs (map (running_of type_of) es) r
-  runs-lookup [] r = refl
-  runs-lookup (e ∷ es) r = go (same_reference r (ref e.0)) (same_reference (ref e.0) r) (same_reference_equiv.symm r (ref e.0)) (runs-lookup es r)
-    where
-      go : (a b : Bool) → a ≡ b → is_some (lookup (λ k. same_reference r (ref k)) es) ≡ runs (map (running_of type_of) es) r → is_some (cond a (Some e.1) (lookup (λ k. same_reference r (ref k)) es)) ≡ (b || runs (map (running_of type_of) es) r)
-      go true true h t = refl
-      go false false h t = t
-      go true false h t = absurd (cc)
-      go false true h t = absurd (cc)
-
-  -- the place of a key is that of what it is seen as
-  place-from : (n : ℕ) (es : List (ObjectRef K D × Arc K Global)) (r : Reference)
-      → position_from (λ k. same_reference r (ref k)) n (map (λ e. e.0) es) ≡ position_from (λ p. same_reference p.reference r) n (map (running_of type_of) es)
-  place-from n [] r = refl
-  place-from n (e ∷ es) r = go (same_reference r (ref e.0)) (same_reference (ref e.0) r) (same_reference_equiv.symm r (ref e.0)) (place-from (n + 1) es r)
-    where
-      go : (a b : Bool) → a ≡ b → position_from (λ k. same_reference r (ref k)) (n + 1) (map (λ x. x.0) es) ≡ position_from (λ p. same_reference p.reference r) (n + 1) (map (running_of type_of) es)
-          → cond a (Some n) (position_from (λ k. same_reference r (ref k)) (n + 1) (map (λ x. x.0) es)) ≡ cond b (Some n) (position_from (λ p. same_reference p.reference r) (n + 1) (map (running_of type_of) es))
-      go true true h t = refl
-      go false false h t = t
-      go true false h t = absurd (cc)
-      go false true h t = absurd (cc)
-
-  pub place-lookup : (es : List (ObjectRef K D × Arc K Global)) (r : Reference)
-      → position (λ k. same_reference r (ref k)) (map (λ e. e.0) es) ≡ place_of (map (running_of type_of) es) r
-  place-lookup es r = position_from-zero (λ k. same_reference r (ref k)) (map (λ e. e.0) es) ∙ place-from 0 es r
-
-  put-last : (es : List (ObjectRef K D × Arc K Global)) (k : ObjectRef K D) (v : Arc K Global) → runs (map (running_of type_of) es) (ref k) ≡ false
-      → insert_entry (λ a b. same_reference (ref a) (ref b)) es k v ≡ es ++ (k, v) ∷ []
-  put-last [] k v h = refl
-  put-last (e ∷ es) k v h = go (same_reference (ref k) (ref e.0)) (same_reference (ref e.0) (ref k)) (same_reference_equiv.symm (ref k) (ref e.0)) h (put-last es k v)
-    where
-      go : (a b : Bool) → a ≡ b → (b || runs (map (running_of type_of) es) (ref k)) ≡ false
-          → (runs (map (running_of type_of) es) (ref k) ≡ false → insert_entry (λ x y. same_reference (ref x) (ref y)) es k v ≡ es ++ (k, v) ∷ [])
-          → (if a then (e.0, v) ∷ es else e ∷ insert_entry (λ x y. same_reference (ref x) (ref y)) es k v) ≡ e ∷ (es ++ (k, v) ∷ [])
-      go true true i j t = absurd (cc)
-      go false false i j t = ap (λ xs. e ∷ xs) (t j)
-      go true false i j t = absurd (cc)
-      go false true i j t = absurd (cc)
-
-  runs-push : (us : List (Running K)) (p : Running K) (r : Reference) → runs us r ≡ false → same_reference p.reference r ≡ false → runs (us ++ p ∷ []) r ≡ false
-  runs-push [] p r i j = ap (λ b. b || false) j
-  runs-push (u ∷ us) p r i j = ap (λ b. b || runs (us ++ p ∷ []) r) (or-first (same_reference u.reference r) (runs us r) i) ∙ runs-push us p r (or-second (same_reference u.reference r) (runs us r) i) j
-
-  once-more : (rs : List (Running K)) (p : Running K) → RunOnce rs → runs rs p.reference ≡ false → RunOnce (rs ++ p ∷ [])
-  once-more [] p o h = (refl, tt)
-  once-more (q ∷ rs) p o h = (
-    runs-push rs p q.reference o.0 (same_reference_equiv.symm p.reference q.reference ∙ or-first (same_reference q.reference p.reference) (runs rs p.reference) h),
-    once-more rs p o.1 (or-second (same_reference q.reference p.reference) (runs rs p.reference) h),
-  )
+  pub runs-there : (core : CoreWorld K) (p : Parts K D) (qs : List (QueueEvent Message)) (rs : List (Running K)) → Stands type_of core p qs rs → (r : Reference) → is_there type_of p.running r ≡ runs rs r
+  runs-there core p qs rs s r = sym (handed-there type_of p.running r) ∙ (ap is_some (sym (s.running r)) ∙ sym (runs-handed rs r))
 
   pub started : (core : CoreWorld K) (p p' : Parts K D) (k : ObjectRef K D) (v : Arc K Global) (qs : List (QueueEvent Message)) (rs : List (Running K))
       → p'.limit ≡ p.limit → p'.schedule.debounce ≡ p.schedule.debounce
@@ -166,77 +160,66 @@ module _ {K D : Type 0} (type_of : D → ObjectType) where
       → p'.running ≡ insert_entry (λ a b. same_reference (ref a) (ref b)) p.running k v
       → Stands type_of core p qs rs → runs rs (ref k) ≡ false
       → Stands type_of core p' qs (rs ++ record { reference = ref k; object = arc_value v } ∷ [])
-  started core p p' k v qs rs l d h e s a = record {
+  started core p p' k v qs rs l d h e s a =
+      let last = e ∙ put-last type_of p.running k v (runs-there core p qs rs s (ref k) ∙ a) in
+      record {
+        limit = s.limit ∙ sym l;
+        debounce = s.debounce ∙ sym d;
+        events = s.events;
+        scheduled = h s.events s.scheduled;
+        seen_as = s.seen_as;
+        running = λ r.
+            handed-last rs (record { reference = ref k; object = arc_value v }) r
+            ∙ ap₂ (λ o b. option_or o (cond b (Some (arc_value v)) None)) (s.running r) (same_reference_equiv.symm (ref k) r)
+            ∙ sym (ap (λ es. handed_in type_of es r) last ∙ entries-last type_of p.running k v r);
+        count = (let x = length-append rs (record { reference = ref k; object = arc_value v } ∷ []) in let y = length-append p.running ((k, v) ∷ []) in let z = ap length last in let c = s.count in omega (arith, x, y, z, c));
+        once = once-more rs (record { reference = ref k; object = arc_value v }) s.once a;
+      }
+
+  -- the reference runs no more: nothing stands under it, and under the others what stood there
+  pub stopped : (core : CoreWorld K) (p p' : Parts K D) (r : Reference) (qs : List (QueueEvent Message)) (rs : List (Running K))
+      → p'.limit ≡ p.limit → p'.schedule.debounce ≡ p.schedule.debounce
+      → ((es : List (QueueEvent (ReconcileRequest K D))) → Scheduled (same_request type_of) p.schedule es → Scheduled (same_request type_of) p'.schedule es)
+      → ((s : Reference) → handed_in type_of p'.running s ≡ (if same_reference r s then None else handed_in type_of p.running s))
+      → length p'.running + (if is_there type_of p.running r then 1 else 0) ≡ length p.running
+      → Stands type_of core p qs rs → Stands type_of core p' qs (filter (λ u. not (same_reference u.reference r)) rs)
+  stopped core p p' r qs rs l d h e n s = record {
     limit = s.limit ∙ sym l;
     debounce = s.debounce ∙ sym d;
     events = s.events;
     scheduled = h s.events s.scheduled;
     seen_as = s.seen_as;
-    running =
-        ap (λ us. us ++ record { reference = ref k; object = arc_value v } ∷ []) s.running
-        ∙ (sym (map-append (running_of type_of) p.running ((k, v) ∷ []))
-        ∙ ap (map (running_of type_of)) (sym (e ∙ put-last p.running k v (ap (λ us. runs us (ref k)) (sym s.running) ∙ a))));
-    once = once-more rs (record { reference = ref k; object = arc_value v }) s.once a;
-  }
-
-  keep-all : (r : Reference) (rs : List (Running K)) → runs rs r ≡ false → filter (λ p. not (same_reference p.reference r)) rs ≡ rs
-  keep-all r [] h = refl
-  keep-all r (p ∷ rs) h = go (same_reference p.reference r) h (keep-all r rs)
-    where
-      go : (b : Bool) → (b || runs rs r) ≡ false → (runs rs r ≡ false → filter (λ q. not (same_reference q.reference r)) rs ≡ rs) → cond (not b) (p ∷ filter (λ q. not (same_reference q.reference r)) rs) (filter (λ q. not (same_reference q.reference r)) rs) ≡ p ∷ rs
-      go true i t = absurd (cc)
-      go false i t = ap (λ us. p ∷ us) (t i)
-
-  runs-alike : (a b : Reference) (rs : List (Running K)) → same_reference a b ≡ true → runs rs a ≡ runs rs b
-  runs-alike a b [] h = refl
-  runs-alike a b (p ∷ rs) h =
-      ap (λ c. c || runs rs a) (same_reference_equiv.symm p.reference a ∙ (same_reference_equiv.congr a b p.reference h ∙ same_reference_equiv.symm b p.reference))
-      ∙ ap (λ c. same_reference p.reference b || c) (runs-alike a b rs h)
-
-  removed : (r : Reference) (es : List (ObjectRef K D × Arc K Global)) → RunOnce (map (running_of type_of) es)
-      → filter (λ p. not (same_reference p.reference r)) (map (running_of type_of) es) ≡ map (running_of type_of) (remove_entry (λ k. same_reference r (ref k)) es)
-  removed r [] o = refl
-  removed r (e ∷ es) o = go (same_reference r (ref e.0)) (same_reference (ref e.0) r) refl (same_reference_equiv.symm r (ref e.0)) (removed r es o.1)
-    where
-      go : (a b : Bool) → same_reference r (ref e.0) ≡ a → a ≡ b
-          → filter (λ p. not (same_reference p.reference r)) (map (running_of type_of) es) ≡ map (running_of type_of) (remove_entry (λ k. same_reference r (ref k)) es)
-          → cond (not b) (running_of type_of e ∷ filter (λ p. not (same_reference p.reference r)) (map (running_of type_of) es)) (filter (λ p. not (same_reference p.reference r)) (map (running_of type_of) es))
-          ≡ map (running_of type_of) (if a then es else e ∷ remove_entry (λ k. same_reference r (ref k)) es)
-      go true true f i t = keep-all r (map (running_of type_of) es) (runs-alike r (ref e.0) (map (running_of type_of) es) f ∙ o.0)
-      go false false f i t = ap (λ us. running_of type_of e ∷ us) t
-      go true false f i t = absurd (cc)
-      go false true f i t = absurd (cc)
-
-  fewer-run : (t : Running K → Bool) (us : List (Running K)) (r : Reference) → runs us r ≡ false → runs (filter t us) r ≡ false
-  fewer-run t [] r h = refl
-  fewer-run t (u ∷ us) r h = go (t u) (fewer-run t us r (or-second (same_reference u.reference r) (runs us r) h))
-    where
-      go : (a : Bool) → runs (filter t us) r ≡ false → runs (cond a (u ∷ filter t us) (filter t us)) r ≡ false
-      go true k = ap (λ c. c || runs (filter t us) r) (or-first (same_reference u.reference r) (runs us r) h) ∙ k
-      go false k = k
-
-  once-filter : (t : Running K → Bool) (rs : List (Running K)) → RunOnce rs → RunOnce (filter t rs)
-  once-filter t [] o = tt
-  once-filter t (p ∷ rs) o = go (t p) (once-filter t rs o.1)
-    where
-      go : (b : Bool) → RunOnce (filter t rs) → RunOnce (cond b (p ∷ filter t rs) (filter t rs))
-      go true k = (fewer-run t rs p.reference o.0, k)
-      go false k = k
-
-  pub stopped : (core : CoreWorld K) (p p' : Parts K D) (r : Reference) (qs : List (QueueEvent Message)) (rs : List (Running K))
-      → p'.limit ≡ p.limit → p'.schedule ≡ p.schedule → p'.running ≡ remove_entry (λ k. same_reference r (ref k)) p.running
-      → Stands type_of core p qs rs → Stands type_of core p' qs (filter (λ u. not (same_reference u.reference r)) rs)
-  stopped core p p' r qs rs l d e s = record {
-    limit = s.limit ∙ sym l;
-    debounce = s.debounce ∙ ap (λ z. z.debounce) (sym d);
-    events = s.events;
-    scheduled = subst (λ z. Scheduled (same_request type_of) z s.events) (sym d) s.scheduled;
-    seen_as = s.seen_as;
-    running =
-        ap (filter (λ u. not (same_reference u.reference r))) s.running
-        ∙ (removed r p.running (subst RunOnce s.running s.once) ∙ ap (map (running_of type_of)) (sym e));
+    running = λ t. handed-filter r t rs ∙ (ap (λ o. if same_reference r t then None else o) (s.running t) ∙ sym (e t));
+    count =
+        (let a = length-filter r rs s.once in
+        let b = subst (λ c. length p'.running + (if c then 1 else 0) ≡ length p.running) (runs-there core p qs rs s r) n in
+        let c = s.count in
+        omega (arith, a, b, c));
     once = once-filter (λ u. not (same_reference u.reference r)) rs s.once;
   }
+
+  -- where it doesn't run
+  pub not-running : (core : CoreWorld K) (p : Parts K D) (r : Reference) (qs : List (QueueEvent Message)) (rs : List (Running K)) → is_there type_of p.running r ≡ false → Stands type_of core p qs rs
+      → Stands type_of core p qs (filter (λ u. not (same_reference u.reference r)) rs)
+  not-running core p r qs rs h s = subst (Stands type_of core p qs) (sym (keep-all r rs (sym (runs-there core p qs rs s r) ∙ h))) s
+
+  -- what stands under references where the entry of one was taken out
+  pub handed-less : (r : Reference) (es es' : List (ObjectRef K D × Arc K Global)) → lookup (λ k. same_reference r (ref k)) es' ≡ None
+      → KeepsOthers (λ a b. same_reference (ref a) (ref b)) (λ k. same_reference r (ref k)) es es'
+      → (s : Reference) → handed_in type_of es' s ≡ (if same_reference r s then None else handed_in type_of es s)
+  handed-less r es es' none keeps s = go (same_reference r s) refl
+    where
+      apart : same_reference r s ≡ false → (x : ObjectRef K D) → same_reference r (ref x) ≡ true → (b : Bool) → same_reference s (ref x) ≡ b → b ≡ false
+      apart e x h true f = absurd (true≢false (sym (same_reference_equiv.symm r s ∙ (same_reference_equiv.congr s (ref x) r f ∙ (same_reference_equiv.symm (ref x) r ∙ h))) ∙ e))
+      apart e x h false f = refl
+
+      go : (b : Bool) → same_reference r s ≡ b → handed_in type_of es' s ≡ (if b then None else handed_in type_of es s)
+      go true e = ap (λ (t : Reference). handed_in type_of es' t) (sym (same-references r s e)) ∙ ap (option_map arc_value) none
+      go false e =
+          ap (option_map arc_value)
+          (kept-others (λ a b. same_reference (ref a) (ref b)) (λ k. same_reference r (ref k)) (λ k. same_reference s (ref k)) es es' keeps
+          (λ x y h. same_reference_equiv.congr s (ref x) (ref y) h)
+          (λ x h. apart e x h (same_reference s (ref x)) refl))
 
   -- The first candidate.
 
@@ -248,54 +231,107 @@ module _ {K D : Type 0} (type_of : D → ObjectType) where
       ∙ (ap (waiting same_message p.schedule.debounce) s.seen_as
       ∙ waiting-image (message_of type_of) (same_request type_of) same_message (λ x y. refl) p.schedule.debounce s.events)
 
-  candidate-message : (rs : List (Running K)) (ws : List (Frozen (ReconcileRequest K D)))
-      → option_map (λ z. z.entry.message) (first_of (candidates rs (map (frozen_image (message_of type_of)) ws)))
-      ≡ option_map (message_of type_of) (find (λ q. not (runs rs (ref q.obj_ref))) (map (λ z. z.entry.message) ws))
-  candidate-message rs [] = refl
-  candidate-message rs (w ∷ ws) = go (runs rs (ref w.entry.message.obj_ref)) (candidate-message rs ws)
+  candidate-frozen : (rs : List (Running K)) (ws : List (Frozen (ReconcileRequest K D)))
+      → first_of (candidates rs (map (frozen_image (message_of type_of)) ws)) ≡ option_map (frozen_image (message_of type_of)) (find (λ z. not (runs rs (ref z.entry.message.obj_ref))) ws)
+  candidate-frozen rs [] = refl
+  candidate-frozen rs (w ∷ ws) = go (runs rs (ref w.entry.message.obj_ref)) (candidate-frozen rs ws)
     where
-      go : (b : Bool) → option_map (λ z. z.entry.message) (first_of (candidates rs (map (frozen_image (message_of type_of)) ws)))
-          ≡ option_map (message_of type_of) (find (λ q. not (runs rs (ref q.obj_ref))) (map (λ z. z.entry.message) ws))
-          → option_map (λ z. z.entry.message) (first_of (cond (not b) (frozen_image (message_of type_of) w ∷ candidates rs (map (frozen_image (message_of type_of)) ws)) (candidates rs (map (frozen_image (message_of type_of)) ws))))
-          ≡ option_map (message_of type_of) (cond (not b) (Some w.entry.message) (find (λ q. not (runs rs (ref q.obj_ref))) (map (λ z. z.entry.message) ws)))
+      go : (b : Bool) → first_of (candidates rs (map (frozen_image (message_of type_of)) ws)) ≡ option_map (frozen_image (message_of type_of)) (find (λ z. not (runs rs (ref z.entry.message.obj_ref))) ws)
+          → first_of (cond (not b) (frozen_image (message_of type_of) w ∷ candidates rs (map (frozen_image (message_of type_of)) ws)) (candidates rs (map (frozen_image (message_of type_of)) ws)))
+          ≡ option_map (frozen_image (message_of type_of)) (cond (not b) (Some w) (find (λ z. not (runs rs (ref z.entry.message.obj_ref))) ws))
       go true r = r
       go false r = refl
 
-  pub first-candidate : (core : CoreWorld K) (p : Parts K D) (o : Option (ReconcileRequest K D)) (qs : List (QueueEvent Message)) (rs : List (Running K))
-      → has_room p.limit (length p.running) 0 ≡ true
-      → FirstIs type_of p.schedule p.running o
-      → Stands type_of core p qs rs → option_map (message_of type_of) o ≡ next_candidate core qs rs
-  first-candidate core p o qs rs room first s =
-      let ws = waiting (same_request type_of) p.schedule.debounce s.events in
-      let found : o ≡ find (λ q. not (runs rs (ref q.obj_ref))) (map (λ z. z.entry.message) ws) =
-      first s.events s.scheduled
-      ∙ find-alike (is_idle type_of p.running) (λ q. not (runs rs (ref q.obj_ref))) (λ q. ap not (runs-lookup p.running (ref q.obj_ref) ∙ ap (λ us. runs us (ref q.obj_ref)) (sym s.running))) (map (λ z. z.entry.message) ws) in
-      let roomy : has_room core.limit (length rs) 0 ≡ true = ap (λ l. has_room l (length rs) 0) s.limit ∙ (ap (λ n. has_room p.limit n 0) (ap length s.running ∙ length-map p.running (running_of type_of)) ∙ room) in
-      ap (option_map (message_of type_of)) found
-      ∙ (sym (candidate-message rs ws)
-      ∙ (ap (λ zs. option_map (λ z. z.entry.message) (first_of (candidates rs zs))) (sym (waits core p qs rs s))
-      ∙ ap (λ b. if b then option_map (λ z. z.entry.message) (first_of (candidates rs (waiting same_message core.debounce qs))) else None) (sym roomy)))
+  module _ (core : CoreWorld K) (p : Parts K D) (qs : List (QueueEvent Message)) (rs : List (Running K)) (s : Stands type_of core p qs rs) where
+    -- the first of what waits whose reference doesn't run
+    abbrev first_idle : Option (Frozen (ReconcileRequest K D))
+    first_idle = find (λ z. not (runs rs (ref z.entry.message.obj_ref))) (waiting (same_request type_of) p.schedule.debounce s.events)
 
-  pub no-room : (core : CoreWorld K) (p : Parts K D) (qs : List (QueueEvent Message)) (rs : List (Running K)) → has_room p.limit (length p.running) 0 ≡ false
-      → Stands type_of core p qs rs → None ≡ next_candidate core qs rs
-  no-room core p qs rs room s =
-      let full : has_room core.limit (length rs) 0 ≡ false = ap (λ l. has_room l (length rs) 0) s.limit ∙ (ap (λ n. has_room p.limit n 0) (ap length s.running ∙ length-map p.running (running_of type_of)) ∙ room) in
-      ap (λ b. if b then option_map (λ z. z.entry.message) (first_of (candidates rs (waiting same_message core.debounce qs))) else None) (sym full)
+    roomy : has_room p.limit (length p.running) 0 ≡ has_room core.limit (length rs) 0
+    roomy = ap₂ (λ l n. has_room l n 0) (sym s.limit) (sym s.count)
+
+    next-is : has_room p.limit (length p.running) 0 ≡ true → next_candidate core qs rs ≡ option_map (λ z. prioritized (frozen_image (message_of type_of) z)) first_idle
+    next-is room =
+        ap (λ b. if b then option_map prioritized (first_of (candidates rs (waiting same_message core.debounce qs))) else None) (sym roomy ∙ room)
+        ∙ ap (λ zs. option_map prioritized (first_of (candidates rs zs))) (waits core p qs rs s)
+        ∙ ap (option_map prioritized) (candidate-frozen rs (waiting (same_request type_of) p.schedule.debounce s.events))
+        ∙ both first_idle
+      where
+        both : (o : Option (Frozen (ReconcileRequest K D))) → option_map prioritized (option_map (frozen_image (message_of type_of)) o) ≡ option_map (λ z. prioritized (frozen_image (message_of type_of) z)) o
+        both None = refl
+        both (Some z) = refl
+
+    -- the head of a look is of it
+    head-is : (t : Schedule (ReconcileRequest K D)) (o : Option (ReconcileRequest K D)) → p.schedule ≡ without_looks t → FirstIs type_of t p.running o → o ≡ option_map (λ z. z.entry.message) first_idle
+    head-is t o e first =
+        first s.events (unseen t s.events (subst (λ k. Scheduled (same_request type_of) k s.events) e s.scheduled))
+        ∙ ap (λ (k : Schedule (ReconcileRequest K D)). find (is_idle type_of p.running) (waiting_messages (same_request type_of) k.debounce s.events)) (sym e)
+        ∙ find-alike (is_idle type_of p.running) (λ q. not (runs rs (ref q.obj_ref))) (λ q. ap not (runs-there core p qs rs s (ref q.obj_ref))) (waiting_messages (same_request type_of) p.schedule.debounce s.events)
+        ∙ find-map (λ q. not (runs rs (ref q.obj_ref))) (λ z. z.entry.message) (waiting (same_request type_of) p.schedule.debounce s.events)
+
+    pub first-message : (t : Schedule (ReconcileRequest K D)) (o : Option (ReconcileRequest K D)) → p.schedule ≡ without_looks t → FirstIs type_of t p.running o → has_room p.limit (length p.running) 0 ≡ true
+        → option_map (message_of type_of) o ≡ option_map (λ q. q.message) (next_candidate core qs rs)
+    first-message t o e first room = ap (option_map (message_of type_of)) (head-is t o e first) ∙ both first_idle ∙ sym (ap (option_map (λ (q : Prioritized). q.message)) (next-is room))
+      where
+        both : (z : Option (Frozen (ReconcileRequest K D))) → option_map (message_of type_of) (option_map (λ w. w.entry.message) z) ≡ option_map (λ (q : Prioritized). q.message) (option_map (λ w. prioritized (frozen_image (message_of type_of) w)) z)
+        both None = refl
+        both (Some z) = refl
+
+    -- what is taken is the next candidate, with its priority
+    pub due-candidate : (t : Schedule (ReconcileRequest K D)) (o : Option (Due (ReconcileRequest K D))) → p.schedule ≡ without_looks t → FirstIs type_of t p.running (option_map (λ (d : Due (ReconcileRequest K D)). d.message) o)
+        → IfSome o (λ d. (es : List (QueueEvent (ReconcileRequest K D))) → Scheduled (same_request type_of) t es → d.priority ≡ priority (same_request type_of) es d.message)
+        → has_room p.limit (length p.running) 0 ≡ true
+        → option_map (λ (d : Due (ReconcileRequest K D)). prioritized_of type_of (record d.message { priority = d.priority })) o ≡ next_candidate core qs rs
+    due-candidate t o e first rank room = go o first_idle refl (head-is t (option_map (λ (d : Due (ReconcileRequest K D)). d.message) o) e first) rank ∙ sym (next-is room)
+      where
+        here : Scheduled (same_request type_of) t s.events
+        here = unseen t s.events (subst (λ k. Scheduled (same_request type_of) k s.events) e s.scheduled)
+
+        ranked : (z : Frozen (ReconcileRequest K D)) → first_idle ≡ Some z → z.priority ≡ priority (same_request type_of) s.events z.entry.message
+        ranked z h =
+            find-has (λ y. not (runs rs (ref y.entry.message.obj_ref))) (λ y. y.priority ≡ priority (same_request type_of) s.events y.entry.message) (waiting (same_request type_of) p.schedule.debounce s.events) z
+            (waiting-priorities (same_request type_of) request-equiv p.schedule.debounce s.events) h
+
+        go : (u : Option (Due (ReconcileRequest K D))) (z : Option (Frozen (ReconcileRequest K D))) → first_idle ≡ z → option_map (λ (d : Due (ReconcileRequest K D)). d.message) u ≡ option_map (λ w. w.entry.message) z
+            → IfSome u (λ d. (es : List (QueueEvent (ReconcileRequest K D))) → Scheduled (same_request type_of) t es → d.priority ≡ priority (same_request type_of) es d.message)
+            → option_map (λ (d : Due (ReconcileRequest K D)). prioritized_of type_of (record d.message { priority = d.priority })) u ≡ option_map (λ w. prioritized (frozen_image (message_of type_of) w)) z
+        go None None h k r = refl
+        go None (Some z) h k r = absurd (cc)
+        go (Some d) None h k r = absurd (cc)
+        go (Some d) (Some z) h k r =
+            let m : d.message ≡ z.entry.message = cc in
+            let n : d.priority ≡ z.priority = r s.events here ∙ (ap (priority (same_request type_of) s.events) m ∙ sym (ranked z h)) in
+            ap₂ (λ (x : ReconcileRequest K D) (y : ℕ). Some (record { message = message_of type_of x; priority = y })) m n
+
+    pub no-room : has_room p.limit (length p.running) 0 ≡ false → None ≡ next_candidate core qs rs
+    no-room full = sym (ap (λ b. if b then option_map prioritized (first_of (candidates rs (waiting same_message core.debounce qs))) else None) (sym roomy ∙ full))
+
+  -- a candidate doesn't run
+  pub idle : (core : CoreWorld K) (qs : List (QueueEvent Message)) (rs : List (Running K)) (q : Prioritized) → next_candidate core qs rs ≡ Some q → runs rs q.message.reference ≡ false
+  idle core qs rs q h = go (has_room core.limit (length rs) 0) h
+    where
+      first : (ws : List (Frozen Message)) → option_map prioritized (first_of (candidates rs ws)) ≡ Some q → runs rs q.message.reference ≡ false
+      first [] k = absurd (cc)
+      first (w ∷ ws) k = two (runs rs w.entry.message.reference) refl k (first ws)
+        where
+          two : (b : Bool) → runs rs w.entry.message.reference ≡ b
+              → option_map prioritized (first_of (cond (not b) (w ∷ candidates rs ws) (candidates rs ws))) ≡ Some q
+              → (option_map prioritized (first_of (candidates rs ws)) ≡ Some q → runs rs q.message.reference ≡ false) → runs rs q.message.reference ≡ false
+          two true e k r = r k
+          two false e k r = let is : prioritized w ≡ q = some-is k in subst (λ (n : Prioritized). runs rs n.message.reference ≡ false) is e
+
+      go : (b : Bool) → (if b then option_map prioritized (first_of (candidates rs (waiting same_message core.debounce qs))) else None) ≡ Some q → runs rs q.message.reference ≡ false
+      go true k = first (waiting same_message core.debounce qs) k
+      go false k = absurd (cc)
+
+  pub idle-message : (core : CoreWorld K) (qs : List (QueueEvent Message)) (rs : List (Running K)) (m : Message) → option_map (λ (q : Prioritized). q.message) (next_candidate core qs rs) ≡ Some m → runs rs m.reference ≡ false
+  idle-message core qs rs m h = go (next_candidate core qs rs) refl h
+    where
+      go : (o : Option Prioritized) → next_candidate core qs rs ≡ o → option_map (λ (q : Prioritized). q.message) o ≡ Some m → runs rs m.reference ≡ false
+      go None e k = absurd (cc)
+      go (Some q) e k = subst (λ (n : Message). runs rs n.reference ≡ false) (some-is k) (idle core qs rs q e)
 
   -- What is told.
-
-  pub handed : (es : List (ObjectRef K D × Arc K Global)) (r : Reference)
-      → option_map arc_value (lookup (λ k. same_reference r (ref k)) es) ≡ handed_over (map (running_of type_of) es) r
-  handed [] r = refl
-  handed (e ∷ es) r = go (same_reference r (ref e.0)) (same_reference (ref e.0) r) (same_reference_equiv.symm r (ref e.0)) (handed es r)
-    where
-      go : (a b : Bool) → a ≡ b → option_map arc_value (lookup (λ k. same_reference r (ref k)) es) ≡ handed_over (map (running_of type_of) es) r
-          → option_map arc_value (cond a (Some e.1) (lookup (λ k. same_reference r (ref k)) es))
-          ≡ option_map (λ p. p.object) (cond b (Some (running_of type_of e)) (find (λ p. same_reference p.reference r) (map (running_of type_of) es)))
-      go true true h t = refl
-      go false false h t = t
-      go true false h t = absurd (cc)
-      go false true h t = absurd (cc)
 
   pub is_frozen-image : (o : Option (Entry (ReconcileRequest K D))) → is_frozen (option_map (entry_image (message_of type_of)) o) ≡ is_frozen o
   is_frozen-image None = refl
@@ -318,10 +354,6 @@ module _ {K D : Type 0} (type_of : D → ObjectType) where
       ∙ (sym (length-map (waiting (same_request type_of) p.schedule.debounce s.events) (frozen_image (message_of type_of)))
       ∙ ap length (sym (waits core p qs rs s)))
 
-  pub runs-in : (core : CoreWorld K) (p : Parts K D) (qs : List (QueueEvent Message)) (rs : List (Running K))
-      → Stands type_of core p qs rs → length p.running ≡ length rs
-  runs-in core p qs rs s = sym (ap length s.running ∙ length-map p.running (running_of type_of))
-
   -- with more places it stands for the same
   pub roomier : (core : CoreWorld K) (p p' : Parts K D) (qs : List (QueueEvent Message)) (rs : List (Running K))
       → p'.limit ≡ p.limit → p'.schedule.debounce ≡ p.schedule.debounce
@@ -333,27 +365,10 @@ module _ {K D : Type 0} (type_of : D → ObjectType) where
     events = s.events;
     scheduled = h s.events s.scheduled;
     seen_as = s.seen_as;
-    running = s.running ∙ ap (map (running_of type_of)) (sym e);
+    running = λ r. s.running r ∙ ap (λ es. handed_in type_of es r) (sym e);
+    count = s.count ∙ ap length (sym e);
     once = s.once;
   }
-
-  -- a candidate doesn't run
-  pub idle : (core : CoreWorld K) (qs : List (QueueEvent Message)) (rs : List (Running K)) (m : Message) → next_candidate core qs rs ≡ Some m → runs rs m.reference ≡ false
-  idle core qs rs m h = go (has_room core.limit (length rs) 0) h
-    where
-      first : (ws : List (Frozen Message)) → option_map (λ z. z.entry.message) (first_of (candidates rs ws)) ≡ Some m → runs rs m.reference ≡ false
-      first [] k = absurd (cc)
-      first (w ∷ ws) k = two (runs rs w.entry.message.reference) refl k (first ws)
-        where
-          two : (b : Bool) → runs rs w.entry.message.reference ≡ b
-              → option_map (λ (z : Frozen Message). z.entry.message) (first_of (cond (not b) (w ∷ candidates rs ws) (candidates rs ws))) ≡ Some m
-              → (option_map (λ (z : Frozen Message). z.entry.message) (first_of (candidates rs ws)) ≡ Some m → runs rs m.reference ≡ false) → runs rs m.reference ≡ false
-          two true e k r = r k
-          two false e k r = let is : w.entry.message ≡ m = cc in subst (λ n. runs rs n.reference ≡ false) is e
-
-      go : (b : Bool) → (if b then option_map (λ z. z.entry.message) (first_of (candidates rs (waiting same_message core.debounce qs))) else None) ≡ Some m → runs rs m.reference ≡ false
-      go true k = first (waiting same_message core.debounce qs) k
-      go false k = absurd (cc)
 
   -- with more places it stands for the same, whatever its schedule's room is
   pub with-places : (core : CoreWorld K) (p p' : Parts K D) (qs : List (QueueEvent Message)) (rs : List (Running K))
@@ -363,27 +378,71 @@ module _ {K D : Type 0} (type_of : D → ObjectType) where
       roomier core p p' qs rs l (ap (λ z. z.debounce) d)
       (λ es h. stands-alike (same_request type_of) _ _ es (ap (λ z. z.debounce) d) (ap (λ z. z.waiting) d) (ap (λ z. z.scheduled) d) h) e s
 
+  -- What was put aside runs.
+
+  pub parked-same : (s s' : Schedule (ReconcileRequest K D)) (es : List (ObjectRef K D × Arc K Global)) → ((q : ReconcileRequest K D) → is_parked (same_request type_of) s' q ≡ is_parked (same_request type_of) s q) → ParkedRun type_of s es → ParkedRun type_of s' es
+  parked-same s s' es same k q h = k q (sym (same q) ∙ h)
+
+  -- after a look
+  pub parked-looked : (s s' : Schedule (ReconcileRequest K D)) (es : List (ObjectRef K D × Arc K Global)) (fails : ReconcileRequest K D → Type 0) → ((n : ReconcileRequest K D) → fails n → is_idle type_of es n ≡ false)
+      → ((q : ReconcileRequest K D) → is_parked (same_request type_of) s' q ≡ true → (is_parked (same_request type_of) s q ≡ true) ⊎ ((n : ReconcileRequest K D) × (same_request type_of n q ≡ true) × fails n)) → ParkedRun type_of s es → ParkedRun type_of s' es
+  parked-looked s s' es fails runs-it more k q h = go (more q h)
+    where
+      go : (is_parked (same_request type_of) s q ≡ true) ⊎ ((n : ReconcileRequest K D) × (same_request type_of n q ≡ true) × fails n) → is_idle type_of es q ≡ false
+      go (inl o) = k q o
+      go (inr w) = ap (λ (r : Reference). not (is_there type_of es r)) (sym (same-references (ref w.0.obj_ref) (ref q.obj_ref) w.1)) ∙ runs-it w.0 w.2
+
+  -- a reference more runs
+  pub parked-more : (s : Schedule (ReconcileRequest K D)) (es : List (ObjectRef K D × Arc K Global)) (r : ObjectRef K D) (v : Arc K Global) → ParkedRun type_of s es
+      → ParkedRun type_of s (insert_entry (λ a b. same_reference (ref a) (ref b)) es r v)
+  parked-more s es r v k q h = ap not (put-there type_of es r v (ref q.obj_ref) (there (is_there type_of es (ref q.obj_ref)) (k q h)))
+    where
+      there : (b : Bool) → not b ≡ false → b ≡ true
+      there true i = refl
+      there false i = absurd (cc)
+
+  -- one runs no more, and its messages were let back
+  pub parked-less : (s s' : Schedule (ReconcileRequest K D)) (es es' : List (ObjectRef K D × Arc K Global)) (r : Reference) (m : ReconcileRequest K D) → ref m.obj_ref ≡ r
+      → ((q : ReconcileRequest K D) → is_parked (same_request type_of) s' q ≡ (is_parked (same_request type_of) s q && not (same_request type_of m q)))
+      → ((t : Reference) → handed_in type_of es' t ≡ (if same_reference r t then None else handed_in type_of es t))
+      → ParkedRun type_of s es → ParkedRun type_of s' es'
+  parked-less s s' es es' r m e same less k q h = go (is_parked (same_request type_of) s q) refl (same_request type_of m q) refl (sym (same q) ∙ h)
+    where
+      go : (a : Bool) → is_parked (same_request type_of) s q ≡ a → (b : Bool) → same_request type_of m q ≡ b → (a && not b) ≡ true → is_idle type_of es' q ≡ false
+      go true f false g i =
+          ap not
+          (sym (handed-there type_of es' (ref q.obj_ref))
+          ∙ (ap is_some (less (ref q.obj_ref) ∙ ap (λ b. if b then None else handed_in type_of es (ref q.obj_ref)) (ap (λ (t : Reference). same_reference t (ref q.obj_ref)) (sym e) ∙ g))
+          ∙ handed-there type_of es (ref q.obj_ref)))
+          ∙ k q f
+      go true f true g i = absurd (cc)
+      go false f b g i = absurd (cc)
+
   -- the first candidate is taken and runs
-  pub begun : (core : CoreWorld K) (p p' : Parts K D) (s1 : Schedule (ReconcileRequest K D)) (first q : ReconcileRequest K D) (k : ObjectRef K D) (v : Arc K Global) (qs : List (QueueEvent Message)) (rs : List (Running K))
+  pub begun : (core : CoreWorld K) (p p' : Parts K D) (t s1 u : Schedule (ReconcileRequest K D)) (first : ReconcileRequest K D) (d : Due (ReconcileRequest K D)) (k : ObjectRef K D) (v : Arc K Global) (qs : List (QueueEvent Message)) (rs : List (Running K))
       → has_room p.limit (length p.running) 0 ≡ true
-      → FirstIs type_of p.schedule p.running (Some first)
+      → p.schedule ≡ without_looks t
+      → FirstIs type_of t p.running (Some first)
       → ref k ≡ ref first.obj_ref
-      → s1 ≡ record p.schedule { spare = s1.spare }
-      → FirstIs type_of s1 p.running (Some q)
-      → TakenFrom type_of s1 p'.schedule q
-      → p'.schedule.debounce ≡ s1.debounce
+      → s1 ≡ record t { spare = s1.spare }
+      → d.message ≡ first
+      → TakenFrom type_of s1 u d.message
+      → u.debounce ≡ s1.debounce
+      → p'.schedule ≡ without_looks u
       → p'.running ≡ insert_entry (λ a b. same_reference (ref a) (ref b)) p.running k v
       → p'.limit ≡ p.limit
-      → Stands type_of core p qs rs → Stands type_of core p' (with_take qs (message_of type_of q)) (rs ++ record { reference = ref q.obj_ref; object = arc_value v } ∷ [])
-  begun core p p' s1 first q k v qs rs room f1 copied places f2 takes d e l s =
-      let p1 : Parts K D = record p { schedule = s1 } in
-      let p2 : Parts K D = record p { schedule = p'.schedule } in
-      let z1 : Stands type_of core p1 qs rs = with-places core p p1 qs rs refl places refl s in
-      let z2 : Stands type_of core p2 (with_take qs (message_of type_of q)) rs = taken core p1 p2 q qs rs refl d refl takes z1 in
-      let one : Some (message_of type_of first) ≡ next_candidate core qs rs = first-candidate core p (Some first) qs rs room f1 s in
-      let two : Some (message_of type_of q) ≡ next_candidate core qs rs = first-candidate core p1 (Some q) qs rs room f2 z1 in
-      let same : message_of type_of first ≡ message_of type_of q = some-is (one ∙ sym two) in
-      let is : ref k ≡ ref q.obj_ref = copied ∙ ap (λ m. m.reference) same in
-      subst (λ r. Stands type_of core p' (with_take qs (message_of type_of q)) (rs ++ record { reference = r; object = arc_value v } ∷ [])) is
-      (started core p2 p' k v (with_take qs (message_of type_of q)) rs l refl (λ es h. h) e z2
-      (ap (runs rs) is ∙ idle core qs rs (message_of type_of q) (sym two)))
+      → Stands type_of core p qs rs → Stands type_of core p' (with_take qs (message_of type_of d.message)) (rs ++ record { reference = ref d.message.obj_ref; object = arc_value v } ∷ [])
+  begun core p p' t s1 u first d k v qs rs room e f1 copied places same takes b e' r l s =
+      let p1 : Parts K D = record p { schedule = without_looks s1 } in
+      let p2 : Parts K D = record p { schedule = without_looks u } in
+      let z1 : Stands type_of core p1 qs rs =
+      roomier core p p1 qs rs refl (ap (λ z. z.debounce) places ∙ sym (ap (λ z. z.debounce) e))
+      (λ es h. seen s1 es (stands-alike (same_request type_of) t s1 es (ap (λ z. z.debounce) places) (ap (λ z. z.waiting) places) (ap (λ z. z.scheduled) places) (unseen t es (subst (λ z. Scheduled (same_request type_of) z es) e h))))
+      refl s in
+      let z2 : Stands type_of core p2 (with_take qs (message_of type_of d.message)) rs = taken core p1 p2 d.message qs rs refl b refl (λ es h. seen u (with_take es d.message) (takes es (unseen s1 es h))) z1 in
+      let one = first-message core p qs rs s t (Some first) e f1 room in
+      let next : runs rs (ref first.obj_ref) ≡ false = idle-message core qs rs (message_of type_of first) (sym one) in
+      let is : ref k ≡ ref d.message.obj_ref = copied ∙ ap (λ (m : ReconcileRequest K D). ref m.obj_ref) (sym same) in
+      subst (λ x. Stands type_of core p' (with_take qs (message_of type_of d.message)) (rs ++ record { reference = x; object = arc_value v } ∷ [])) is
+      (started core p2 p' k v (with_take qs (message_of type_of d.message)) rs l (ap (λ z. z.debounce) e') (λ es h. subst (λ z. Scheduled (same_request type_of) z es) (sym e') h) r z2
+      (ap (runs rs) copied ∙ next))

@@ -12,7 +12,7 @@ use Rattle.kube_history.specs.CoreWorld.{CoreWorld}
 use Rattle.kube_history.specs.TurnCalls.{with_requests}
 use Rattle.kube_history.proofs.TurnCalls.{requests-join}
 use Rattle.kube_turn.specs.declared.request.ReconcileRequest.{ReconcileRequest}
-use Rattle.kube_turn.specs.Views.{message_of}
+use Rattle.kube_turn.specs.Views.{prioritized_of}
 use Rattle.kube_core.specs.Pendings.{Parts, Stands}
 
 -- In order.
@@ -30,7 +30,7 @@ empty (x ∷ xs) h = absurd (omega (arith, h))
 module _ {K D : Type 0} (type_of : D → ObjectType) where
   -- these requests, for this moment
   abbrev pub timed : ℕ → List (ReconcileRequest K D) → List Timed
-  timed at qs = map (requested_at at) (map (message_of type_of) qs)
+  timed at qs = map (requested_at at) (map (prioritized_of type_of) qs)
 
   -- some were requested, and with those that are left they are all
   pub record AreRequested (core : CoreWorld K) (p : Parts K D) (qs : List (QueueEvent Message)) (rs : List (Running K)) (at : ℕ) (left all : List Timed) : Type 0 where

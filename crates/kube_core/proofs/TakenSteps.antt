@@ -2,7 +2,7 @@
 use Rattle.std.proofs.Common.{◌≡◌, Bool, true, false, cond, List, [], ◌∷◌, Option, Some, None, is_some, option_map, refl, ap, ◌∙◌}
 use Rattle.std.specs.Option.{option_or}
 use Rattle.kube_meta.specs.Reference.{Reference, same_reference, without_namespace}
-use Rattle.kube_model.specs.History.{Message}
+use Rattle.kube_model.specs.History.{Message, Prioritized}
 use Rattle.kube_model.specs.Store.{found, stored_under}
 use Rattle.kube_reflect.specs.Cached.{keyed}
 use Rattle.kube_reflect.specs.Exchanged.{all_keyed}
@@ -15,22 +15,18 @@ some-mapped f (Some a) e = refl
 
 module _ {O : Type 0} (key : O → Reference) (store : List O) where
   -- no candidate, one for which nothing is stored, and one for which an object is
-  pub none-looked : (m : Option Message) → None ≡ option_map (λ n. found key store n.reference) m → None ≡ option_map (looked_up key store) m
+  pub none-looked : (m : Option Prioritized) → None ≡ option_map (λ n. found key store n.message.reference) m → None ≡ option_map (looked_up key store) m
   none-looked None e = refl
   none-looked (Some m) e = absurd (cc)
 
-  pub none-next : (m : Option Message) → None ≡ option_map (λ n. found key store n.reference) m → m ≡ None
-  none-next None e = refl
-  none-next (Some m) e = absurd (cc)
-
-  pub some-found : (o : Option O) (m : Option Message) → Some o ≡ option_map (λ n. found key store n.reference) m → is_some m ≡ true
+  pub some-found : (o : Option O) (m : Option Prioritized) → Some o ≡ option_map (λ n. found key store n.message.reference) m → is_some m ≡ true
   some-found o None e = absurd (cc)
   some-found o (Some m) e = refl
 
-  pub one-looked : (o : Option O) (m : Option Message) → Some o ≡ option_map (λ n. found key store n.reference) m
-      → option_map (λ (n : Message). record { message = n; object = o }) m ≡ option_map (looked_up key store) m
+  pub one-looked : (o : Option O) (m : Option Prioritized) → Some o ≡ option_map (λ n. found key store n.message.reference) m
+      → option_map (λ (n : Prioritized). record { message = n.message; priority = n.priority; object = o }) m ≡ option_map (looked_up key store) m
   one-looked o None e = absurd (cc)
-  one-looked o (Some m) e = let h : o ≡ found key store m.reference = cc in ap (λ z. Some (record { message = m; object = z })) h
+  one-looked o (Some m) e = let h : o ≡ found key store m.message.reference = cc in ap (λ z. Some (record { message = m.message; priority = m.priority; object = z })) h
 
 -- What is found beside references is what is found of the objects.
 module _ {O : Type 0} (key : O → Reference) where
@@ -51,7 +47,22 @@ module _ {O : Type 0} (key : O → Reference) where
   found-keyed store r = or-keyed _ _ _ _ (stored-keyed store r) (stored-keyed store (without_namespace r))
 
 -- what is found for a candidate
-pub look : {O : Type 0} (key : O → Reference) (store : List O) (cache : List (Reference × O)) (n : Message) (m : Option Message) (got : Option O)
-    → Some n ≡ m → cache ≡ all_keyed key store → got ≡ object_at cache n.reference → Some got ≡ option_map (λ z. found key store z.reference) m
-look key store cache n m got e f h =
-    ap Some (h ∙ (ap (λ ps. object_at ps n.reference) f ∙ found-keyed key store n.reference)) ∙ ap (option_map (λ z. found key store z.reference)) e
+pub look : {O : Type 0} (key : O → Reference) (store : List O) (cache : List (Reference × O)) (n : Message) (m : Option Prioritized) (got : Option O)
+    → Some n ≡ option_map (λ (q : Prioritized). q.message) m → cache ≡ all_keyed key store → got ≡ object_at cache n.reference → Some got ≡ option_map (λ z. found key store z.message.reference) m
+look key store cache n None got e f h = absurd (cc)
+look key store cache n (Some q) got e f h =
+    let is : n ≡ q.message = cc in
+    ap Some (h ∙ (ap (λ ps. object_at ps n.reference) f ∙ (found-keyed key store n.reference ∙ ap (λ (z : Message). found key store z.reference) is)))
+
+-- none of a candidate
+pub none-found : {O : Type 0} (key : O → Reference) (store : List O) (m : Option Prioritized) → None ≡ option_map (λ (q : Prioritized). q.message) m → None ≡ option_map (λ z. found key store z.message.reference) m
+none-found key store None e = refl
+none-found key store (Some q) e = absurd (cc)
+
+pub some-message : (n : Message) (m : Option Prioritized) → Some n ≡ option_map (λ (q : Prioritized). q.message) m → is_some m ≡ true
+some-message n None e = absurd (cc)
+some-message n (Some q) e = refl
+
+pub reference-in : (o : Option Prioritized) → option_map (λ (m : Message). m.reference) (option_map (λ (q : Prioritized). q.message) o) ≡ option_map (λ (q : Prioritized). q.message.reference) o
+reference-in None = refl
+reference-in (Some q) = refl

@@ -6,7 +6,7 @@ use Rattle.kube_meta.specs.declared.moment.Moment.{Moment}
 use Rattle.kube_meta.specs.Reference.{ObjectType, Reference}
 use Rattle.kube_meta.specs.Keys.{key_of, is_named}
 use Rattle.kube_model.specs.Reason.{BulkReconcile}
-use Rattle.kube_model.specs.History.{Exchange, Message, Taken}
+use Rattle.kube_model.specs.History.{Exchange, Prioritized, Taken}
 use Rattle.kube_model.specs.Owed.{is_initial}
 use Rattle.kube_model.specs.Store.{found}
 use Rattle.kube_model.specs.World.{Settings}
@@ -42,13 +42,13 @@ pub record HasSameHandles {K : Type 0} (old new : Writing K) : Type 0 where
 abbrev pub with_room : {K D : Type 0} → Parts K D → ℕ → Parts K D
 with_room c spare = record c { pending = record c.pending { schedule = record c.pending.schedule { spare = spare } } }
 
--- a message with what is stored for it
-abbrev pub looked_up : {O : Type 0} → (O → Reference) → List O → Message → Taken O
-looked_up key store m = record { message = m; object = found key store m.reference }
+-- a message with its priority, and with what is stored for it
+abbrev pub looked_up : {O : Type 0} → (O → Reference) → List O → Prioritized → Taken O
+looked_up key store q = record { message = q.message; priority = q.priority; object = found key store q.message.reference }
 
--- a message of a reload
-abbrev pub in_bulk : Reference → Message
-in_bulk r = record { reference = r; reason = BulkReconcile }
+-- a request of a reload
+abbrev pub in_bulk : Reference → Prioritized
+in_bulk r = record { message = record { reference = r; reason = BulkReconcile }; priority = 0 }
 
 -- an exchange, where it is one of the root
 abbrev pub of_root : {O : Type 0} → Exchange O → List (Exchange O)

@@ -4,7 +4,7 @@ use Rattle.kube_model.specs.Queue.{QueueEvent, Requested, Settled, Took, Entry, 
 
 module _ {A B : Type 0} (f : A → B) where
   abbrev pub event_image : QueueEvent A → QueueEvent B
-  event_image (Requested q) = Requested (record { message = f q.message; run_at = q.run_at; now = q.now })
+  event_image (Requested q) = Requested (record { message = f q.message; run_at = q.run_at; priority = q.priority; now = q.now })
   event_image (Settled now) = Settled now
   event_image (Took m) = Took (f m)
 
@@ -15,4 +15,4 @@ module _ {A B : Type 0} (f : A → B) where
   entry_image e = record { message = f e.message; time = e.time; request = e.request; settle = e.settle }
 
   abbrev pub frozen_image : Frozen A → Frozen B
-  frozen_image z = record { settle = z.settle; entry = entry_image z.entry }
+  frozen_image z = record { priority = z.priority; settle = z.settle; entry = entry_image z.entry }

@@ -18,8 +18,8 @@ ghost use Rattle.kube_history.specs.CoreWorld.{CoreWorld};
 ghost use Rattle.kube_history.specs.CoreEvents.{CoreEvent, Answered, Requested, Reloaded, Finished, Settled, Took, Shut, answers_in, cache_of, clock_of, next_taken, queue_of, running_of, was_shut};
 ghost use Rattle.kube_history.specs.Legal.{MayBeAnswered};
 ghost use Rattle.kube_history.specs.TurnCalls.{with_requests};
-ghost use Rattle.kube_turn.specs.Views.{exchange_of, message_of, taken_of};
-ghost use Rattle.kube_core.specs.Pendings.{Stands, handed_over, place_of};
+ghost use Rattle.kube_turn.specs.Views.{exchange_of, prioritized_of, taken_of};
+ghost use Rattle.kube_core.specs.Pendings.{Stands, handed_over};
 ghost use Rattle.kube_core.specs.Cores.{HasSameHandles, IsOfType, StandsFor, TellsNamed, of_root, with_room};
 
 use crate::pending::Pending;
@@ -123,7 +123,7 @@ impl<K: Resource> Core<K> {
     fn request_now(&mut self, requests: Vec<ReconcileRequest<K>>, now: Moment)
         requires { length self.old.pending.running + length requests.items ≤ self.old.pending.schedule.spare }
         ensures opened { self.old.is_shut ≡ false → (core : CoreWorld K) (qs : List (QueueEvent Message)) (rs : List (Running K)) → Stands K.type_of core self.old.pending qs rs
-            → Stands K.type_of core self.new.pending (with_requests qs now.0 (map (requested_at now.0) (map (message_of K.type_of) requests.items))) rs }
+            → Stands K.type_of core self.new.pending (with_requests qs now.0 (map (requested_at now.0) (map (prioritized_of K.type_of) requests.items))) rs }
         ensures shut { self.old.is_shut ≡ true → self.new.pending ≡ self.old.pending }
         ensures rest { self.new ≡ record self.old { pending = self.new.pending; clock = now } }
     {
@@ -191,7 +191,8 @@ impl<K: Resource> Core<K> {
         Ok(())
     }
 
-    /// Requests a reference for this moment, unless shutdown was asked.
+    /// Requests a reference for this moment with a priority, unless shutdown was asked. Of what is due the greatest priority is
+    /// taken first.
     ///
     /// # Errors
     ///
@@ -200,11 +201,12 @@ impl<K: Resource> Core<K> {
         &mut self,
         alloc: Global,
         reference: ObjectRef<K>,
+        priority: u32,
         now: Moment,
     ) -> Result<(), NoMemory>
         requires { self.old.clock.0 ≤ now.0 }
         ensures stands { OnOk result ((core : CoreWorld K) (es : List (CoreEvent K)) → StandsFor K.type_of K.meta_of core es self.old
-            → StandsFor K.type_of K.meta_of core (es ++ Requested now.0 (reference_of K.type_of reference) ∷ []) self.new) }
+            → StandsFor K.type_of K.meta_of core (es ++ Requested now.0 (record { reference = reference_of K.type_of reference; priority = priority }) ∷ []) self.new) }
         ensures clock { OnOk result (self.new.clock ≡ now) }
         ensures writer { self.new.writer ≡ self.old.writer }
         ensures err { OnErr result (self.new ≡ self.old) }
@@ -213,8 +215,11 @@ impl<K: Resource> Core<K> {
             self.clock = now;
             return Ok(());
         }
-        self.pending
-            .request(alloc, ReconcileRequest::from_ref(reference), now, now)?;
+        let request = ReconcileRequest {
+            priority,
+            ..ReconcileRequest::from_ref(reference)
+        };
+        self.pending.request(alloc, request, now, now)?;
         self.clock = now;
         Ok(())
     }
@@ -344,14 +349,6 @@ impl<K: Resource> Core<K> {
         ensures { result.now ≡ self.now.pending }
     {
         &self.pending
-    }
-
-    /// The place of a reference among those that run, in the order of their starts.
-    pub fn running_place(&self, reference: &ObjectRef<K>) -> Option<usize>
-        ensures { (core : CoreWorld K) (es : List (CoreEvent K)) → StandsFor K.type_of K.meta_of core es self.now
-            → result ≡ place_of (running_of es) (reference_of K.type_of reference.now) }
-    {
-        self.pending.running_place(reference)
     }
 
     /// How many references run.

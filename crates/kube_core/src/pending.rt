@@ -8,19 +8,22 @@ ghost use Rattle.kube_meta.specs.Keys.{reference_of};
 ghost use Rattle.kube_meta.specs.Reference.{same_reference};
 ghost use Rattle.kube_model.specs.History.{Message, same_message};
 ghost use Rattle.kube_model.specs.Queue.{QueueEvent, entry, waiting};
+ghost use Rattle.kube_model.specs.Store.{found};
 ghost use Rattle.kube_model.specs.WaitingOnce.{is_frozen};
 ghost use Rattle.kube_model.specs.Takes.{Running, runs, has_room};
+ghost use Rattle.kube_reflect.specs.Exchanged.{all_keyed};
 ghost use Rattle.kube_sched.specs.Schedule.{with_settle, with_take};
 ghost use Rattle.kube_history.specs.CoreWorld.{CoreWorld};
 ghost use Rattle.kube_history.specs.CoreEvents.{next_candidate};
 ghost use Rattle.kube_history.specs.TurnCalls.{with_requests};
-ghost use Rattle.kube_turn.specs.Views.{message_of};
-ghost use Rattle.kube_core.specs.Pendings.{Stands, handed_over, place_of, FirstIs, TakenFrom, is_idle};
+ghost use Rattle.kube_turn.specs.Views.{message_of, prioritized_of, running_of};
+ghost use Rattle.kube_core.specs.Pendings.{FirstIs, ParkedRun, Stands, handed_over, is_idle, place_of, without_looks};
 
-use crate::requests::copy_requests;
+use crate::requests::{copy_requests, scheduled_at, with_priority};
 use indexmap::IndexMap;
 use kube_meta::{Moment, NoMemory, ObjectRef, Resource};
-use kube_sched::{ScheduleRequest, Scheduler};
+use kube_reflect::Cache;
+use kube_sched::Scheduler;
 use kube_turn::{Config, ReconcileRequest};
 use std::alloc::Global;
 use std::marker::Model;
@@ -28,7 +31,8 @@ use std::sync::Arc;
 
 /// Messages that are due later, references that run with the objects that were handed over, and how many may run.
 ///
-/// For each that runs a place is kept for the request of its finish.
+/// For each that runs a place is kept for the request of its finish. A message whose reference runs is put aside by the look
+/// that meets it, and comes back to its place when the reference ends; so no look meets it twice while it runs.
 #[derive(Drop)]
 pub struct Pending<K: Resource> {
     schedule: Scheduler<ReconcileRequest<K>>,
@@ -37,44 +41,37 @@ pub struct Pending<K: Resource> {
 }
 
 impl<K: Resource> Model for Pending<K> {
-    ghost use Rattle.std.specs.Prelude.{◌≤◌, length};
-    ghost use Rattle.kube_core.specs.Pendings.{Parts};
+    ghost use Rattle.kube_core.specs.Pendings.{IsKept, Parts, without_looks};
 
     ghost Value = { Parts K K.DynamicType };
 
-    ghost view = { λ p. record { schedule = p.schedule; running = p.running.entries; limit = p.limit } };
+    ghost view = { λ p. record { schedule = without_looks p.schedule; running = p.running.entries; limit = p.limit } };
 
-    ghost invariant = { λ p. length p.running.entries ≤ p.schedule.spare };
+    ghost invariant = { λ p. IsKept K.type_of p.schedule p.running.entries };
 }
 
-/// The first waiting message whose reference doesn't run.
-fn first_idle<'a, K: Resource>(
-    schedule: &'a Scheduler<ReconcileRequest<K>>,
-    running: &IndexMap<ObjectRef<K>, Arc<K>>,
-) -> Option<&'a ReconcileRequest<K>>
-    ensures { FirstIs K.type_of schedule.now running.now.entries (option_copied result) }
-{
-    let passes = |request: &ReconcileRequest<K>| -> bool
-        ensures { result ≡ is_idle K.type_of running.entry.now.entries request.now }
-    { !running.contains_key(&request.obj_ref) };
-    schedule.first(passes)
-}
-
-/// Takes the first waiting message whose reference doesn't run.
-fn take_idle<K: Resource>(
+/// Whether a message waits whose reference doesn't run. The first such one is the head then, and stays.
+fn look_idle<K: Resource>(
     schedule: &mut Scheduler<ReconcileRequest<K>>,
     running: &IndexMap<ObjectRef<K>, Arc<K>>,
-) -> Option<ReconcileRequest<K>>
-    ensures first { FirstIs K.type_of schedule.old running.now.entries result }
-    ensures taken { IfSome result (λ q. TakenFrom K.type_of schedule.old schedule.new q) }
-    ensures none { IfNone result (schedule.new ≡ schedule.old) }
-    ensures debounce { schedule.new.debounce ≡ schedule.old.debounce }
-    ensures spare { schedule.new.spare ≡ schedule.old.spare }
+) -> bool
+    requires parked { ParkedRun K.type_of schedule.old running.now.entries }
+    ensures parked { ParkedRun K.type_of schedule.new running.now.entries }
+    ensures first { FirstIs K.type_of schedule.new running.now.entries schedule.new.head }
+    ensures found { result ≡ is_some schedule.new.head }
+    ensures same { schedule.new ≡ record schedule.old { parked = schedule.new.parked; head = schedule.new.head } }
 {
     let passes = |request: &ReconcileRequest<K>| -> bool
         ensures { result ≡ is_idle K.type_of running.entry.now.entries request.now }
     { !running.contains_key(&request.obj_ref) };
-    schedule.take_first(passes)
+    schedule.look(&passes)
+}
+
+/// The same object.
+pub(crate) fn share<K: Drop>(object: &Arc<K>) -> Result<Arc<K>, NoMemory>
+    ensures { IfOk result (λ o. arc_value o ≡ arc_value object.now) }
+{
+    Ok(Arc::try_clone(object)?)
 }
 
 impl<K: Resource> Pending<K> {
@@ -89,7 +86,7 @@ impl<K: Resource> Pending<K> {
         }
     }
 
-    /// Requests a message for a moment.
+    /// Requests a message for a moment, with its priority.
     ///
     /// # Errors
     ///
@@ -102,13 +99,10 @@ impl<K: Resource> Pending<K> {
         now: Moment,
     ) -> Result<(), NoMemory>
         ensures stands { OnOk result ((core : CoreWorld K) (qs : List (QueueEvent Message)) (rs : List (Running K)) → Stands K.type_of core self.old qs rs
-            → Stands K.type_of core self.new (with_requests qs now.0 (record { message = message_of K.type_of request; run_at = run_at.0 } ∷ [])) rs) }
+            → Stands K.type_of core self.new (with_requests qs now.0 (record { message = message_of K.type_of request; run_at = run_at.0; priority = request.priority } ∷ [])) rs) }
         ensures err { OnErr result (self.new ≡ self.old) }
     {
-        let request = ScheduleRequest {
-            message: request,
-            run_at,
-        };
+        let request = scheduled_at(request, run_at);
         self.schedule.schedule(alloc, request, now)
     }
 
@@ -125,6 +119,7 @@ impl<K: Resource> Pending<K> {
         let Some(places) = self.running.len().checked_add(n) else {
             return Err(NoMemory);
         };
+        self.schedule.drop_stale(alloc);
         self.schedule.reserve(alloc, places)
     }
 
@@ -139,7 +134,7 @@ impl<K: Resource> Pending<K> {
         alloc: Global,
         requests: &[ReconcileRequest<K>],
     ) -> Result<Vec<ReconcileRequest<K>>, NoMemory>
-        ensures messages { IfOk result (λ v. map (message_of K.type_of) v.items ≡ map (message_of K.type_of) requests.now) }
+        ensures requests { IfOk result (λ v. map (prioritized_of K.type_of) v.items ≡ map (prioritized_of K.type_of) requests.now) }
         ensures room { IfOk result (λ v. length self.new.running + length v.items ≤ self.new.schedule.spare) }
         ensures same { self.new ≡ record self.old { schedule = record self.old.schedule { spare = self.new.schedule.spare } } }
         ensures some { OnErr result (requests.now ≢ []) }
@@ -158,14 +153,11 @@ impl<K: Resource> Pending<K> {
     pub fn request_again(&mut self, request: ReconcileRequest<K>, run_at: Moment, now: Moment)
         requires { length self.old.running + 1 ≤ self.old.schedule.spare }
         ensures stands { (core : CoreWorld K) (qs : List (QueueEvent Message)) (rs : List (Running K)) → Stands K.type_of core self.old qs rs
-            → Stands K.type_of core self.new (with_requests qs now.0 (record { message = message_of K.type_of request; run_at = run_at.0 } ∷ [])) rs }
+            → Stands K.type_of core self.new (with_requests qs now.0 (record { message = message_of K.type_of request; run_at = run_at.0; priority = request.priority } ∷ [])) rs }
         ensures running { self.new.running ≡ self.old.running }
         ensures room { self.old.schedule.spare ≤ self.new.schedule.spare + 1 }
     {
-        let request = ScheduleRequest {
-            message: request,
-            run_at,
-        };
+        let request = scheduled_at(request, run_at);
         self.schedule.schedule_reserved(request, now);
     }
 
@@ -184,21 +176,62 @@ impl<K: Resource> Pending<K> {
         self.limit == 0 || self.running.len() < usize::from(self.limit)
     }
 
-    /// The first waiting message whose reference doesn't run, where one more may run. It stays where it is.
-    pub fn candidate(&self) -> Option<&ReconcileRequest<K>>
-        ensures { (core : CoreWorld K) (qs : List (QueueEvent Message)) (rs : List (Running K)) → Stands K.type_of core self.now qs rs
-            → option_map (message_of K.type_of) (option_copied result) ≡ next_candidate core qs rs }
+    /// What is stored for the first candidate, where there is one: the first waiting message whose reference doesn't run,
+    /// where one more may run. It stays where it is.
+    ///
+    /// # Errors
+    ///
+    /// `NoMemory` where there is none for one more hold of the object.
+    pub fn next_object(&mut self, cache: &Cache<K>) -> Result<Option<Option<Arc<K>>>, NoMemory>
+        ensures found { IfOk result (λ o. (core : CoreWorld K) (store : List K) (qs : List (QueueEvent Message)) (rs : List (Running K)) → Stands K.type_of core self.old qs rs
+            → cache.now ≡ all_keyed core.key store
+            → option_map (option_map arc_value) o ≡ option_map (λ q. found core.key store q.message.reference) (next_candidate core qs rs)) }
+        ensures wanted { OnErr result ((core : CoreWorld K) (qs : List (QueueEvent Message)) (rs : List (Running K)) → Stands K.type_of core self.old qs rs
+            → is_some (next_candidate core qs rs) ≡ true) }
+        ensures same { self.new ≡ self.old }
     {
         if !self.has_room() {
-            return None;
+            return Ok(None);
         }
-        first_idle(&self.schedule, &self.running)
+        look_idle(&mut self.schedule, &self.running);
+        let Some(request) = self.schedule.head() else {
+            return Ok(None);
+        };
+        let Some(object) = cache.get(&request.obj_ref) else {
+            return Ok(Some(None));
+        };
+        Ok(Some(Some(share(object)?)))
     }
 
-    /// Takes the first waiting message whose reference doesn't run, where one more may run. It takes no memory.
+    /// The reference of the first candidate, in memory of its own, where there is one: the first waiting message whose reference
+    /// doesn't run, where one more may run. It stays where it is.
+    ///
+    /// # Errors
+    ///
+    /// `NoMemory` where there is none for the reference.
+    pub fn candidate(&mut self, alloc: Global) -> Result<Option<ObjectRef<K>>, NoMemory>
+        ensures first { IfOk result (λ o. (core : CoreWorld K) (qs : List (QueueEvent Message)) (rs : List (Running K)) → Stands K.type_of core self.old qs rs
+            → option_map (reference_of K.type_of) o ≡ option_map (λ q. q.message.reference) (next_candidate core qs rs)) }
+        ensures wanted { OnErr result ((core : CoreWorld K) (qs : List (QueueEvent Message)) (rs : List (Running K)) → Stands K.type_of core self.old qs rs
+            → is_some (next_candidate core qs rs) ≡ true) }
+        ensures same { self.new ≡ self.old }
+    {
+        if !self.has_room() {
+            return Ok(None);
+        }
+        look_idle(&mut self.schedule, &self.running);
+        let Some(request) = self.schedule.head() else {
+            return Ok(None);
+        };
+        let reference = request.obj_ref.copy(alloc)?;
+        Ok(Some(reference))
+    }
+
+    /// Takes the first waiting message whose reference doesn't run, where one more may run, with its priority. It takes no
+    /// memory.
     pub fn take_candidate(&mut self) -> Option<ReconcileRequest<K>>
         ensures first { (core : CoreWorld K) (qs : List (QueueEvent Message)) (rs : List (Running K)) → Stands K.type_of core self.old qs rs
-            → option_map (message_of K.type_of) result ≡ next_candidate core qs rs }
+            → option_map (prioritized_of K.type_of) result ≡ next_candidate core qs rs }
         ensures taken { IfSome result (λ q. (core : CoreWorld K) (qs : List (QueueEvent Message)) (rs : List (Running K)) → Stands K.type_of core self.old qs rs
             → Stands K.type_of core self.new (with_take qs (message_of K.type_of q)) rs) }
         ensures none { IfNone result (self.new ≡ self.old) }
@@ -208,11 +241,15 @@ impl<K: Resource> Pending<K> {
         if !self.has_room() {
             return None;
         }
-        take_idle(&mut self.schedule, &self.running)
+        look_idle(&mut self.schedule, &self.running);
+        let Some(due) = self.schedule.take_head() else {
+            return None;
+        };
+        Some(with_priority(due))
     }
 
-    /// Takes the first waiting message whose reference doesn't run, where one more may run, and lets it run with the object
-    /// that is handed over.
+    /// Takes the first waiting message whose reference doesn't run, where one more may run, with its priority, and lets it run
+    /// with the object that is handed over.
     ///
     /// # Errors
     ///
@@ -223,7 +260,7 @@ impl<K: Resource> Pending<K> {
         object: Arc<K>,
     ) -> Result<Option<ReconcileRequest<K>>, NoMemory>
         ensures first { IfOk result (λ o. (core : CoreWorld K) (qs : List (QueueEvent Message)) (rs : List (Running K)) → Stands K.type_of core self.old qs rs
-            → option_map (message_of K.type_of) o ≡ next_candidate core qs rs) }
+            → option_map (prioritized_of K.type_of) o ≡ next_candidate core qs rs) }
         ensures started { IfOk result (λ o. IfSome o (λ q. (core : CoreWorld K) (qs : List (QueueEvent Message)) (rs : List (Running K)) → Stands K.type_of core self.old qs rs
             → Stands K.type_of core self.new (with_take qs (message_of K.type_of q)) (rs ++ record { reference = reference_of K.type_of q.obj_ref; object = arc_value object } ∷ []))) }
         ensures none { IfOk result (λ o. IfNone o ((core : CoreWorld K) (qs : List (QueueEvent Message)) (rs : List (Running K)) → Stands K.type_of core self.old qs rs
@@ -233,7 +270,8 @@ impl<K: Resource> Pending<K> {
         if !self.has_room() {
             return Ok(None);
         }
-        let Some(first) = first_idle(&self.schedule, &self.running) else {
+        look_idle(&mut self.schedule, &self.running);
+        let Some(first) = self.schedule.head() else {
             return Ok(None);
         };
         let reference = first.obj_ref.copy(alloc)?;
@@ -242,11 +280,11 @@ impl<K: Resource> Pending<K> {
         };
         self.running.reserve(1)?;
         self.schedule.reserve(alloc, places)?;
-        let Some(request) = take_idle(&mut self.schedule, &self.running) else {
+        let Some(due) = self.schedule.take_head() else {
             return Ok(None);
         };
         self.running.insert(reference, object)?;
-        Ok(Some(request))
+        Ok(Some(with_priority(due)))
     }
 
     /// Lets a reference run that doesn't, with the object that is handed over.
@@ -273,7 +311,8 @@ impl<K: Resource> Pending<K> {
         Ok(())
     }
 
-    /// Lets a reference run no more, and gives it where an equal one ran; then a place is kept for one more request.
+    /// Lets a reference run no more, and gives it where an equal one ran; then a place is kept for one more request. A message
+    /// that waited for its end stands in its order again. It takes no memory, and as long however many run or wait.
     pub fn stop(&mut self, reference: &ObjectRef<K>) -> Option<ObjectRef<K>>
         ensures ran { (core : CoreWorld K) (qs : List (QueueEvent Message)) (rs : List (Running K)) → Stands K.type_of core self.old qs rs
             → is_some result ≡ runs rs (reference_of K.type_of reference.now) }
@@ -282,8 +321,12 @@ impl<K: Resource> Pending<K> {
             → Stands K.type_of core self.new qs (filter (λ p. not (same_reference p.reference (reference_of K.type_of reference.now))) rs) }
         ensures room { IfSome result (λ r. length self.new.running + 1 ≤ self.new.schedule.spare) }
     {
-        let (stopped, _object) = self.running.shift_remove_entry(reference)?;
-        Some(stopped)
+        let Some((stopped, _object)) = self.running.swap_remove_entry(reference) else {
+            return None;
+        };
+        let request = ReconcileRequest::from_ref(stopped);
+        self.schedule.let_back(&request);
+        Some(request.obj_ref)
     }
 
     /// The object that was handed over with a reference that runs.
@@ -294,10 +337,9 @@ impl<K: Resource> Pending<K> {
         self.running.get(reference)
     }
 
-    /// The place of a reference among those that run, in the order of their starts.
+    /// The place of a reference among those that run, in no said order. It stays until one ends.
     pub fn running_place(&self, reference: &ObjectRef<K>) -> Option<usize>
-        ensures { (core : CoreWorld K) (qs : List (QueueEvent Message)) (rs : List (Running K)) → Stands K.type_of core self.now qs rs
-            → result ≡ place_of rs (reference_of K.type_of reference.now) }
+        ensures { result ≡ place_of (map (running_of K.type_of) self.now.running) (reference_of K.type_of reference.now) }
     {
         self.running.get_index_of(reference)
     }

@@ -11,7 +11,7 @@ ghost use Rattle.kube_history.specs.CoreWorld.{CoreWorld};
 ghost use Rattle.kube_history.specs.CoreEvents.{action_requests, retry_of};
 ghost use Rattle.kube_history.specs.TurnCalls.{with_requests};
 ghost use Rattle.kube_model.specs.ReasonView.{reason_of};
-ghost use Rattle.kube_turn.specs.Views.{message_of};
+ghost use Rattle.kube_turn.specs.Views.{prioritized_of};
 ghost use Rattle.kube_core.specs.Pendings.{Stands};
 ghost use Rattle.kube_core.specs.Cores.{in_bulk};
 
@@ -19,8 +19,41 @@ use crate::pending::Pending;
 use kube_meta::{Action, Moment, NoMemory, ObjectRef, Resource};
 use kube_model::reason::ReconcileReason;
 use kube_reflect::Cache;
+use kube_sched::{Due, ScheduleRequest};
 use kube_turn::ReconcileRequest;
 use std::alloc::Global;
+
+/// A request as a schedule takes it: for a moment, with its priority.
+pub fn scheduled_at<K: Resource>(
+    request: ReconcileRequest<K>,
+    run_at: Moment,
+) -> ScheduleRequest<ReconcileRequest<K>>
+    ensures { result ≡ record { message = request; run_at = run_at; priority = request.priority } }
+{
+    let priority = request.priority;
+    ScheduleRequest {
+        message: request,
+        run_at,
+        priority,
+    }
+}
+
+/// The request that is due, with the greatest priority of its message's requests.
+pub fn with_priority<K: Resource>(due: Due<ReconcileRequest<K>>) -> ReconcileRequest<K>
+    ensures { result ≡ record due.message { priority = due.priority } }
+{
+    let Due { message, priority } = due;
+    let ReconcileRequest {
+        obj_ref,
+        reason,
+        priority: _,
+    } = message;
+    ReconcileRequest {
+        obj_ref,
+        reason,
+        priority,
+    }
+}
 
 /// The same requests in memory of their own.
 ///
@@ -31,7 +64,7 @@ pub fn copy_requests<K: Resource>(
     alloc: Global,
     requests: &[ReconcileRequest<K>],
 ) -> Result<Vec<ReconcileRequest<K>>, NoMemory>
-    ensures { IfOk result (λ v. map (message_of K.type_of) v.items ≡ map (message_of K.type_of) requests.now) }
+    ensures { IfOk result (λ v. map (prioritized_of K.type_of) v.items ≡ map (prioritized_of K.type_of) requests.now) }
 {
     let mut copies = Vec::new(alloc);
     for request in requests {
@@ -54,13 +87,14 @@ fn request_keys<K: Resource>(
     alloc: Global,
     keys: Vec<ObjectRef<K>>,
 ) -> Result<Vec<ReconcileRequest<K>>, NoMemory>
-    ensures { IfOk result (λ v. map (message_of K.type_of) v.items ≡ map in_bulk (map (reference_of K.type_of) keys.items)) }
+    ensures { IfOk result (λ v. map (prioritized_of K.type_of) v.items ≡ map in_bulk (map (reference_of K.type_of) keys.items)) }
 {
     let mut requests = Vec::new(alloc);
     for key in keys {
         requests.push(ReconcileRequest {
             obj_ref: key,
             reason: ReconcileReason::BulkReconcile,
+            priority: 0,
         })?;
     }
     Ok(requests)
@@ -75,7 +109,7 @@ pub fn requests_in_bulk<K: Resource>(
     alloc: Global,
     keys: Vec<ObjectRef<K>>,
 ) -> Result<Vec<ReconcileRequest<K>>, NoMemory>
-    ensures { IfOk result (λ v. map (message_of K.type_of) v.items ≡ map in_bulk (sorted_by reference_before (map (reference_of K.type_of) keys.items))) }
+    ensures { IfOk result (λ v. map (prioritized_of K.type_of) v.items ≡ map in_bulk (sorted_by reference_before (map (reference_of K.type_of) keys.items))) }
 {
     request_keys(alloc, sort_keys(keys)?)
 }
@@ -89,7 +123,7 @@ pub fn bulk_requests<K: Resource>(
     alloc: Global,
     cache: &Cache<K>,
 ) -> Result<Vec<ReconcileRequest<K>>, NoMemory>
-    ensures { IfOk result (λ v. map (message_of K.type_of) v.items ≡ map in_bulk (sorted_by reference_before (map (λ p. p.0) cache.now))) }
+    ensures { IfOk result (λ v. map (prioritized_of K.type_of) v.items ≡ map in_bulk (sorted_by reference_before (map (λ p. p.0) cache.now))) }
 {
     requests_in_bulk(alloc, cache.keys(alloc)?)
 }
@@ -102,7 +136,7 @@ pub fn request_each<K: Resource>(
 )
     requires { length pending.old.running + length requests.items ≤ pending.old.schedule.spare }
     ensures stands { (core : CoreWorld K) (qs : List (QueueEvent Message)) (rs : List (Running K)) → Stands K.type_of core pending.old qs rs
-        → Stands K.type_of core pending.new (with_requests qs now.0 (map (requested_at now.0) (map (message_of K.type_of) requests.items))) rs }
+        → Stands K.type_of core pending.new (with_requests qs now.0 (map (requested_at now.0) (map (prioritized_of K.type_of) requests.items))) rs }
 {
     for request in requests {
         pending.request_again(request, now, now);
@@ -138,6 +172,7 @@ pub fn requeue<K: Resource>(
     let request = ReconcileRequest {
         obj_ref: reference,
         reason: retry_reason(ok),
+        priority: 0,
     };
     pending.request_again(request, now.plus(nanos), now);
 }

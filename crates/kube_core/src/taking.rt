@@ -5,7 +5,6 @@ ghost use Rattle.std.specs.Option.{option_map};
 ghost use Rattle.std.specs.Arc.{arc_value};
 ghost use Rattle.kube_model.specs.History.{Message};
 ghost use Rattle.kube_model.specs.Queue.{QueueEvent};
-ghost use Rattle.kube_model.specs.Store.{found};
 ghost use Rattle.kube_model.specs.Takes.{Running};
 ghost use Rattle.kube_reflect.specs.Exchanged.{all_keyed};
 ghost use Rattle.kube_history.specs.CoreWorld.{CoreWorld};
@@ -14,54 +13,32 @@ ghost use Rattle.kube_turn.specs.Views.{taken_of};
 ghost use Rattle.kube_core.specs.Pendings.{Stands};
 ghost use Rattle.kube_core.specs.Cores.{looked_up};
 
-use crate::pending::Pending;
+use crate::pending::{Pending, share};
 use kube_meta::{NoMemory, Resource};
 use kube_reflect::Cache;
 use kube_turn::{ReconcileRequest, Taken};
 use std::alloc::Global;
 use std::sync::Arc;
 
-/// The same object.
-fn share<K: Drop>(object: &Arc<K>) -> Result<Arc<K>, NoMemory>
-    ensures { IfOk result (λ o. arc_value o ≡ arc_value object.now) }
-{
-    Ok(Arc::try_clone(object)?)
-}
-
-/// What is stored for the first candidate, where there is one.
-fn next_object<K: Resource>(
-    pending: &Pending<K>,
-    cache: &Cache<K>,
-) -> Result<Option<Option<Arc<K>>>, NoMemory>
-    ensures found { IfOk result (λ o. (core : CoreWorld K) (store : List K) (qs : List (QueueEvent Message)) (rs : List (Running K)) → Stands K.type_of core pending.now qs rs
-        → cache.now ≡ all_keyed core.key store
-        → option_map (option_map arc_value) o ≡ option_map (λ m. found core.key store m.reference) (next_candidate core qs rs)) }
-    ensures wanted { OnErr result ((core : CoreWorld K) (qs : List (QueueEvent Message)) (rs : List (Running K)) → Stands K.type_of core pending.now qs rs
-        → is_some (next_candidate core qs rs) ≡ true) }
-{
-    let Some(request) = pending.candidate() else {
-        return Ok(None);
-    };
-    let Some(object) = cache.get(&request.obj_ref) else {
-        return Ok(Some(None));
-    };
-    Ok(Some(Some(share(object)?)))
-}
-
 /// Takes the first candidate, for which nothing is stored. It takes no memory.
 pub fn take_missing<K: Resource>(pending: &mut Pending<K>) -> Taken<K>
     ensures first { (core : CoreWorld K) (qs : List (QueueEvent Message)) (rs : List (Running K)) → Stands K.type_of core pending.old qs rs
-        → taken_of K.type_of result ≡ option_map (λ m. record { message = m; object = None }) (next_candidate core qs rs) }
+        → taken_of K.type_of result ≡ option_map (λ q. record { message = q.message; priority = q.priority; object = None }) (next_candidate core qs rs) }
     ensures stands { (core : CoreWorld K) (qs : List (QueueEvent Message)) (rs : List (Running K)) → Stands K.type_of core pending.old qs rs
         → Stands K.type_of core pending.new (qs ++ queue_with core (Took 0 (taken_of K.type_of result))) (running_with rs (Took 0 (taken_of K.type_of result))) }
 {
     let Some(request) = pending.take_candidate() else {
         return Taken::Nothing;
     };
-    let ReconcileRequest { obj_ref, reason } = request;
+    let ReconcileRequest {
+        obj_ref,
+        reason,
+        priority,
+    } = request;
     Taken::NotFound {
         reference: obj_ref,
         reason,
+        priority,
     }
 }
 
@@ -76,7 +53,7 @@ pub fn take_found<K: Resource>(
     object: Arc<K>,
 ) -> Result<Taken<K>, NoMemory>
     ensures first { IfOk result (λ t. (core : CoreWorld K) (qs : List (QueueEvent Message)) (rs : List (Running K)) → Stands K.type_of core pending.old qs rs
-        → taken_of K.type_of t ≡ option_map (λ m. record { message = m; object = Some (arc_value object) }) (next_candidate core qs rs)) }
+        → taken_of K.type_of t ≡ option_map (λ q. record { message = q.message; priority = q.priority; object = Some (arc_value object) }) (next_candidate core qs rs)) }
     ensures stands { IfOk result (λ t. (core : CoreWorld K) (qs : List (QueueEvent Message)) (rs : List (Running K)) → Stands K.type_of core pending.old qs rs
         → Stands K.type_of core pending.new (qs ++ queue_with core (Took 0 (taken_of K.type_of t))) (running_with rs (Took 0 (taken_of K.type_of t)))) }
     ensures err { OnErr result (pending.new ≡ pending.old) }
@@ -84,11 +61,16 @@ pub fn take_found<K: Resource>(
     let Some(request) = pending.start_candidate(alloc, share(&object)?)? else {
         return Ok(Taken::Nothing);
     };
-    let ReconcileRequest { obj_ref, reason } = request;
+    let ReconcileRequest {
+        obj_ref,
+        reason,
+        priority,
+    } = request;
     Ok(Taken::Started {
         reference: obj_ref,
         reason,
         object,
+        priority,
     })
 }
 
@@ -113,7 +95,7 @@ pub fn take_next<K: Resource>(
     ensures wanted { OnErr result ((core : CoreWorld K) (store : List K) (qs : List (QueueEvent Message)) (rs : List (Running K)) → Stands K.type_of core pending.old qs rs
         → cache.now ≡ all_keyed core.key store → is_some (next_candidate core qs rs) ≡ true) }
 {
-    let Some(found) = next_object(pending, cache)? else {
+    let Some(found) = pending.next_object(cache)? else {
         return Ok(Taken::Nothing);
     };
     let Some(object) = found else {

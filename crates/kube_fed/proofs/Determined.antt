@@ -4,7 +4,7 @@ use Rattle.std.specs.List.{flat_map, AllByRecursion, AllZip}
 use Rattle.kube_meta.specs.declared.metadata.ObjectMeta.{ObjectMeta}
 use Rattle.kube_meta.specs.Reference.{ObjectType, Reference}
 use Rattle.kube_model.specs.World.{World}
-use Rattle.kube_model.specs.History.{Exchange, Message}
+use Rattle.kube_model.specs.History.{Exchange, Message, asked_by}
 use Rattle.kube_model.specs.Mapping.{IsMappedTo, mapped_requests}
 use Rattle.kube_model.specs.Named.{AreNamed, is_given_named}
 use Rattle.kube_model.specs.Streams.{StreamAnswer, Gives, GivesError, IsWaiting, GivesNothing, Ends, Unnamed, IsStreamed, IsStreamedMapped}
@@ -55,15 +55,15 @@ module _ {V : Type 0} (t : ObjectType) (meta : V → ObjectMeta) (answers : V �
   part-same o a b p q = p.2 ∙ (ap (mapped_requests t (meta o)) (once o p.0 q.0 p.1 q.1) ∙ sym q.2)
 
   -- one answer has one exchange
-  recorded-same : {O : Type 0} (is_named : V → Bool) (x y : Exchange O) → x.source ≡ y.source → (o : Option (StreamAnswer V)) → Came (λ came. IsStreamedMapped (IsMappedTo t meta answers) came x × (is_given_named is_named came ≡ true)) o
-      → Came (λ came. IsStreamedMapped (IsMappedTo t meta answers) came y × (is_given_named is_named came ≡ true)) o → x ≡ y
+  recorded-same : {O : Type 0} (is_named : V → Bool) (x y : Exchange O) → x.source ≡ y.source → (o : Option (StreamAnswer V)) → Came (λ came. IsStreamedMapped (IsMappedTo t meta answers) None came x × (is_given_named is_named came ≡ true)) o
+      → Came (λ came. IsStreamedMapped (IsMappedTo t meta answers) None came y × (is_given_named is_named came ≡ true)) o → x ≡ y
   recorded-same is_named x y source None p q = absurd p
   recorded-same is_named x y source (Some came) p q =
       let call = p.0.call ∙ sym q.0.call in
       let answer = some-is x.answer y.answer (p.0.answer ∙ sym q.0.answer) in
       let items = p.0.items ∙ sym q.0.items in
       let error = p.0.error ∙ sym q.0.error in
-      let requests = p.0.requests ∙ (ap (flat_map (λ part. part)) (zip-same (IsMappedTo t meta answers) part-same _ p.0.parts q.0.parts p.0.mapped q.0.mapped) ∙ sym q.0.requests) in
+      let requests = p.0.requests ∙ (ap (λ ps. asked_by None (flat_map (λ part. part) ps)) (zip-same (IsMappedTo t meta answers) part-same _ p.0.parts q.0.parts p.0.mapped q.0.mapped) ∙ sym q.0.requests) in
       λ i. record {
         source = source i;
         call = call i;
@@ -85,7 +85,7 @@ module _ {S I V O M : Type 0} (polls : S → ℕ → ℕ → Answer I → S → 
       let kind : a'.kind ≡ b'.kind = p.kind ∙ sym q.kind in
       let mapper : a'.mapper ≡ b'.mapper = p.mapper ∙ sym q.mapper in (
         recorded-same a.kind meta (answers a.mapper) (once a.mapper) is_named x y source (stream_answer value q.fed.answer)
-            (subst (λ e. Came (λ came. IsStreamedMapped (IsMappedTo a.kind meta (answers a.mapper)) came x × (is_given_named is_named came ≡ true)) (stream_answer value e)) same.0 p.fed.recorded)
+            (subst (λ e. Came (λ came. IsStreamedMapped (IsMappedTo a.kind meta (answers a.mapper)) None came x × (is_given_named is_named came ≡ true)) (stream_answer value e)) same.0 p.fed.recorded)
             q.fed.recorded,
         λ i. record { feeding = same.1 i; kind = kind i; mapper = mapper i },
       )

@@ -7,15 +7,17 @@ use Rattle.kube_model.specs.declared.call.Call.TheVariants.{Stream}
 use Rattle.kube_model.specs.declared.call.Answer.{Answer}
 use Rattle.kube_model.specs.declared.call.Answer.TheVariants.{NotReady, Item, Spent, End}
 use Rattle.kube_model.specs.World.{Feed, Streamed, Queued, is_watched}
-use Rattle.kube_model.specs.History.{Dated, Exchange, Message}
+use Rattle.kube_model.specs.History.{Dated, Exchange, Message, Prioritized, messages_of, asked_by, passed_by}
 use Rattle.kube_model.specs.Owed.{owed, is_next, mark}
-use Rattle.kube_model.specs.Fits.{answers, TextsFit, ErrorFits, error_of, has_references, is_related, RelatedRequestsFit, StreamItemsFit, QueuedRequestsFit}
+use Rattle.kube_model.specs.Fits.{answers, TextsFit, ErrorFits, error_of, has_references, is_related, RelatedRequestsFit, StreamItemsFit, QueuedRequestsFit, PrioritiesFit}
 use Rattle.kube_model.specs.Mapping.{IsMappedTo, related_by}
 use Rattle.kube_model.specs.Named.{is_given_named}
 use Rattle.kube_model.specs.Streams.{StreamAnswer, Gives, GivesError, IsWaiting, GivesNothing, Ends, Unnamed, recorded, given, error_given, IsStreamed, IsStreamedMapped, IsQueued}
 use Rattle.kube_watch.specs.Stands.{exchanges_in}
-use Rattle.kube_asks.specs.Noting.{updated_of}
+use Rattle.kube_asks.specs.Noting.{request_of}
 use Rattle.kube_asks.specs.Sources.{is_stream, IsOwed, IsRelatedNext, IsRootNext}
+use Rattle.kube_asks.proofs.RelatedFits.{asked-related, asked-fit}
+use Rattle.kube_asks.proofs.RootFits.{messages-are, none-fit}
 use Rattle.kube_fed.specs.Fed.{Came}
 
 abbrev pub HasSome : {A : Type 0} → Option A → Type 0
@@ -61,7 +63,7 @@ items-fit Ends x a i e = subst (λ z. StreamItemsFit (is_some x.error) z x.items
 items-fit Unnamed x a i e = absurd (subst HasSome a tt)
 
 -- as many requests came as a queue's answer may bring
-requests-fit : {O : Type 0} (came : StreamAnswer Message) (x : Exchange O) → Some x.answer ≡ recorded came → x.requests ≡ given came → x.error ≡ error_given came → QueuedRequestsFit (is_some x.error) x.answer x.requests
+requests-fit : {O : Type 0} (came : StreamAnswer Prioritized) (x : Exchange O) → Some x.answer ≡ recorded came → x.requests ≡ passed_by None (given came) → x.error ≡ error_given came → QueuedRequestsFit (is_some x.error) x.answer x.requests
 requests-fit (Gives item) x a i e =
     subst (λ z. QueuedRequestsFit (is_some x.error) z x.requests) (sym (some-is x.answer Item a)) (ap length i ∙ sym (ap (λ o. if is_some o then 0 else 1) e))
 requests-fit (GivesError error) x a i e =
@@ -93,20 +95,21 @@ module _ {V : Type 0} (t : ObjectType) (meta : V → ObjectMeta) (is_mapped : V 
   no-parts (p ∷ ps) h = absurd h
 
   module _ {O : Type 0} (xs : List (Exchange O)) where
-    related-fit : (came : StreamAnswer V) (x : Exchange O) → IsStreamedMapped (IsMappedTo t meta is_mapped) came x → RelatedRequestsFit (has_references (mark xs x)) x.requests
+    related-fit : (came : StreamAnswer V) (x : Exchange O) → IsStreamedMapped (IsMappedTo t meta is_mapped) None came x → RelatedRequestsFit (has_references (mark xs x)) x.requests
     related-fit (Gives item) x s =
-        let mine = subst (AllByRecursion (λ m. IsTrue (is_related m.reason))) (sym s.requests) (parts-related (item ∷ []) s.parts s.mapped) in
+        let mine =
+        subst (AllByRecursion (λ (q : Prioritized). IsTrue (is_related q.message.reason))) (sym s.requests) (asked-related None (flat_map (λ part. part) s.parts) (parts-related (item ∷ []) s.parts s.mapped)) in
         subst (λ e. RelatedRequestsFit (has_references (mark xs (record x { error = e }))) x.requests) (sym s.error)
         (subst (λ a. RelatedRequestsFit (has_references (mark xs (record x { answer = a; error = None }))) x.requests) (sym (some-is x.answer Item s.answer)) mine)
     related-fit (GivesError error) x s =
         subst (λ e. RelatedRequestsFit (has_references (mark xs (record x { error = e }))) x.requests) (sym s.error)
-        (subst (λ a. RelatedRequestsFit (has_references (mark xs (record x { answer = a; error = Some error }))) x.requests) (sym (some-is x.answer Item s.answer)) (s.requests ∙ no-parts s.parts s.mapped))
+        (subst (λ a. RelatedRequestsFit (has_references (mark xs (record x { answer = a; error = Some error }))) x.requests) (sym (some-is x.answer Item s.answer)) (s.requests ∙ ap (asked_by None) (no-parts s.parts s.mapped)))
     related-fit IsWaiting x s =
-        subst (λ a. RelatedRequestsFit (has_references (mark xs (record x { answer = a }))) x.requests) (sym (some-is x.answer NotReady s.answer)) (s.requests ∙ no-parts s.parts s.mapped)
+        subst (λ a. RelatedRequestsFit (has_references (mark xs (record x { answer = a }))) x.requests) (sym (some-is x.answer NotReady s.answer)) (s.requests ∙ ap (asked_by None) (no-parts s.parts s.mapped))
     related-fit GivesNothing x s =
-        subst (λ a. RelatedRequestsFit (has_references (mark xs (record x { answer = a }))) x.requests) (sym (some-is x.answer Spent s.answer)) (s.requests ∙ no-parts s.parts s.mapped)
+        subst (λ a. RelatedRequestsFit (has_references (mark xs (record x { answer = a }))) x.requests) (sym (some-is x.answer Spent s.answer)) (s.requests ∙ ap (asked_by None) (no-parts s.parts s.mapped))
     related-fit Ends x s =
-        subst (λ a. RelatedRequestsFit (has_references (mark xs (record x { answer = a }))) x.requests) (sym (some-is x.answer End s.answer)) (s.requests ∙ no-parts s.parts s.mapped)
+        subst (λ a. RelatedRequestsFit (has_references (mark xs (record x { answer = a }))) x.requests) (sym (some-is x.answer End s.answer)) (s.requests ∙ ap (asked_by None) (no-parts s.parts s.mapped))
     related-fit Unnamed x s = absurd (subst HasSome s.answer tt)
 
 -- the call of a stream is owed by a source that isn't watched
@@ -126,28 +129,36 @@ owed-too feed own at came x owes unwatched call answer error =
 
 -- an exchange of a root that is fed by a stream
 root-next : {O : Type 0} (t : ObjectType) (meta : O → ObjectMeta) (own : List (Dated O)) (at : ℕ) (came : StreamAnswer O) (x : Exchange O)
-    → IsStreamed came x → x.requests ≡ map (updated_of t meta) x.items → IsRootNext t meta Streamed own at x
+    → IsStreamed came x → x.requests ≡ map (request_of t meta) x.items → IsRootNext t meta Streamed own at x
 root-next t meta own at came x s requests =
     record {
       owed = owed-too Streamed own at came x refl refl s.call s.answer s.error;
-      content = record { items = items-fit came x s.answer s.items s.error; requests = requests };
+      content = record { items = items-fit came x s.answer s.items s.error; requests = ap messages_of requests ∙ messages-are t meta x.items };
+      priorities = subst (PrioritiesFit false None) (sym requests) (none-fit t meta x.items);
     }
 
+-- requests that came have their own priority
+own-fit : (qs : List Prioritized) → PrioritiesFit true None qs
+own-fit [] = tt
+own-fit (q ∷ qs) = (refl, own-fit qs)
+
 -- one of a queue
-queue-next : {O : Type 0} (t : ObjectType) (meta : O → ObjectMeta) (own : List (Dated O)) (at : ℕ) (came : StreamAnswer Message) (x : Exchange O) → IsQueued came x → IsRootNext t meta Queued own at x
+queue-next : {O : Type 0} (t : ObjectType) (meta : O → ObjectMeta) (own : List (Dated O)) (at : ℕ) (came : StreamAnswer Prioritized) (x : Exchange O) → IsQueued None came x → IsRootNext t meta Queued own at x
 queue-next t meta own at came x s =
     record {
       owed = owed-too Queued own at came x refl refl s.call s.answer s.error;
       content = record { items = s.items; requests = requests-fit came x s.answer s.requests s.error };
+      priorities = own-fit x.requests;
     }
 
 -- one of a related source
 related-next : {O V : Type 0} (t : ObjectType) (meta : V → ObjectMeta) (is_mapped : V → List Reference → Type 0) (own : List (Dated O)) (at : ℕ) (came : StreamAnswer V) (x : Exchange O)
-    → IsStreamedMapped (IsMappedTo t meta is_mapped) came x → IsRelatedNext Streamed own at x
+    → IsStreamedMapped (IsMappedTo t meta is_mapped) None came x → IsRelatedNext Streamed own at x
 related-next t meta is_mapped own at came x s =
     record {
       owed = owed-too Streamed own at came x refl refl s.call s.answer s.error;
       content = record { items = s.items; requests = related-fit t meta is_mapped (exchanges_in own) came x s };
+      priorities = subst (PrioritiesFit false None) (sym s.requests) (asked-fit None (flat_map (λ part. part) s.parts));
     }
 
 -- what follows of what came
@@ -156,23 +167,23 @@ came-so None f p = p
 came-so (Some came) f p = f came p
 
 module _ {O : Type 0} (t : ObjectType) (meta : O → ObjectMeta) (own : List (Dated O)) (at : ℕ) (x : Exchange O) where
-  pub root-came : (is_named : O → Bool) (o : Option (StreamAnswer O)) → Came (λ came. IsStreamed came x × (is_given_named is_named came ≡ true)) o → x.requests ≡ map (updated_of t meta) x.items → IsRootNext t meta Streamed own at x
+  pub root-came : (is_named : O → Bool) (o : Option (StreamAnswer O)) → Came (λ came. IsStreamed came x × (is_given_named is_named came ≡ true)) o → x.requests ≡ map (request_of t meta) x.items → IsRootNext t meta Streamed own at x
   root-came is_named None p requests = absurd p
   root-came is_named (Some came) p requests = root-next t meta own at came x p.0 requests
 
-  pub queue-came : (is_named : Message → Bool) (o : Option (StreamAnswer Message)) → Came (λ came. IsQueued came x × (is_given_named is_named came ≡ true)) o → IsRootNext t meta Queued own at x
+  pub queue-came : (is_named : Prioritized → Bool) (o : Option (StreamAnswer Prioritized)) → Came (λ came. IsQueued None came x × (is_given_named is_named came ≡ true)) o → IsRootNext t meta Queued own at x
   queue-came is_named None p = absurd p
   queue-came is_named (Some came) p = queue-next t meta own at came x p.0
 
 pub related-came : {O V : Type 0} (t : ObjectType) (meta : V → ObjectMeta) (is_mapped : V → List Reference → Type 0) (own : List (Dated O)) (at : ℕ) (x : Exchange O) (is_named : V → Bool) (o : Option (StreamAnswer V))
-    → Came (λ came. IsStreamedMapped (IsMappedTo t meta is_mapped) came x × (is_given_named is_named came ≡ true)) o → IsRelatedNext Streamed own at x
+    → Came (λ came. IsStreamedMapped (IsMappedTo t meta is_mapped) None came x × (is_given_named is_named came ≡ true)) o → IsRelatedNext Streamed own at x
 related-came t meta is_mapped own at x is_named None p = absurd p
 related-came t meta is_mapped own at x is_named (Some came) p = related-next t meta is_mapped own at came x p.0
 
 -- it is recorded so whatever its source
-pub mapped-same : {O V : Type 0} (is_mapped : V → List Message → Type 0) (came : StreamAnswer V) (x y : Exchange O) → y ≡ record x { source = y.source } → IsStreamedMapped is_mapped came x → IsStreamedMapped is_mapped came y
+pub mapped-same : {O V : Type 0} (is_mapped : V → List Message → Type 0) (came : StreamAnswer V) (x y : Exchange O) → y ≡ record x { source = y.source } → IsStreamedMapped is_mapped None came x → IsStreamedMapped is_mapped None came y
 mapped-same is_mapped came x y same s =
-    subst (IsStreamedMapped is_mapped came) (sym same)
+    subst (IsStreamedMapped is_mapped None came) (sym same)
     (record {
       call = s.call;
       answer = s.answer;

@@ -41,7 +41,7 @@ module _ {S I V : Type 0} (polls : S → ℕ → ℕ → Answer I → S → Type
 
   -- so it was of a source whose objects are mapped; their type and what maps them are as before
   pub record IsMappedPoll {M O : Type 0} (is_mapped : V → List Message → Type 0) (now : ℕ) (old : MappedFeeding S M) (x : Exchange O) (new : MappedFeeding S M) : Type 0 where
-    pub fed : IsFedPoll (IsStreamedMapped is_mapped) now old.feeding x new.feeding
+    pub fed : IsFedPoll (IsStreamedMapped is_mapped None) now old.feeding x new.feeding
     pub kind : new.kind ≡ old.kind
     pub mapper : new.mapper ≡ old.mapper
 

@@ -6,7 +6,7 @@ ghost use Rattle.kube_model.specs.declared.call.Answer.TheVariants.{Item};
 ghost use Rattle.kube_model.specs.Named.{is_given_named};
 ghost use Rattle.kube_model.specs.Streams.{IsQueued};
 ghost use Rattle.kube_watch.specs.Streams.{stream_answer};
-ghost use Rattle.kube_turn.specs.Views.{exchange_of, message_of};
+ghost use Rattle.kube_turn.specs.Views.{exchange_of, prioritized_of};
 ghost use Rattle.kube_fed.specs.Fed.{Came};
 ghost use Rattle.kube_fed.specs.Feedings.{takes_memory};
 
@@ -22,7 +22,8 @@ use std::marker::Model;
 
 /// The queue of requests for objects of type K by which an applier is fed (kube-runtime's `applier`).
 ///
-/// Each request is made as it comes. The stream is polled with fuel 1. Its end gives up, and no error of it pauses anything.
+/// Each request is made as it comes, with its own priority. The stream is polled with fuel 1. Its end gives up, and no
+/// error of it pauses anything.
 #[derive(Drop)]
 pub struct QueueRoot<K: Resource, St> {
     feeding: Feeding<St>,
@@ -56,7 +57,7 @@ fn requested<K: Resource>(
     alloc: Global,
     request: ReconcileRequest<K>,
 ) -> Result<SourceExchange<K>, NoMemory>
-    ensures { IfOk result (λ x. exchange_of K.type_of x ≡ record { source = 0; call = Stream; answer = Item; items = []; requests = message_of K.type_of request ∷ []; error = None }) }
+    ensures { IfOk result (λ x. exchange_of K.type_of x ≡ record { source = 0; call = Stream; answer = Item; items = []; requests = prioritized_of K.type_of request ∷ []; error = None }) }
 {
     let mut requests = List::new(alloc);
     requests.push(request)?;
@@ -75,7 +76,7 @@ fn exchange<K: Resource>(
     alloc: Global,
     next: Next<Result<ReconcileRequest<K>, Error>>,
 ) -> Result<SourceExchange<K>, NoMemory>
-    ensures queued { IfOk result (λ x. Came (λ came. IsQueued came (exchange_of K.type_of x) × (is_given_named (λ _. true) came ≡ true)) (stream_answer (message_of K.type_of) (Ok next))) }
+    ensures queued { IfOk result (λ x. Came (λ came. IsQueued None came (exchange_of K.type_of x) × (is_given_named (λ _. true) came ≡ true)) (stream_answer (prioritized_of K.type_of) (Ok next))) }
     ensures source { IfOk result (λ x. x.source ≡ 0) }
     ensures memory { OnErr result (IsTrue (takes_memory (Ok next))) }
 {
@@ -89,11 +90,11 @@ fn exchange<K: Resource>(
 }
 
 impl<K: Resource, St: EventStream<Item = ReconcileRequest<K>>> RootSource for QueueRoot<K, St> {
-    ghost use Rattle.std.specs.Prelude.{true};
+    ghost use Rattle.std.specs.Prelude.{true, None};
     ghost use Rattle.kube_model.specs.World.{Queued};
     ghost use Rattle.kube_model.specs.Streams.{IsQueued};
     ghost use Rattle.kube_watch.specs.Asking.{Said};
-    ghost use Rattle.kube_turn.specs.Views.{message_of};
+    ghost use Rattle.kube_turn.specs.Views.{prioritized_of};
     ghost use Rattle.kube_fed.specs.Fed.{FedStands, IsFedPoll, IsFedBroken, IsFedLost};
     ghost use Rattle.kube_fed.specs.Feedings.{failed_in};
 
@@ -109,9 +110,9 @@ impl<K: Resource, St: EventStream<Item = ReconcileRequest<K>>> RootSource for Qu
 
     ghost fault = { λ r. failed_in r.feeding.standing };
 
-    ghost polls = { λ old own now x new. IsFedPoll (Said St.polls St.told) (message_of K.type_of) (λ _. true) IsQueued now old.feeding x new.feeding };
+    ghost polls = { λ old own now x new. IsFedPoll (Said St.polls St.told) (prioritized_of K.type_of) (λ _. true) (IsQueued None) now old.feeding x new.feeding };
 
-    ghost breaks = { λ old now new. IsFedBroken (Said St.polls St.told) (message_of K.type_of) (λ _. true) now old.feeding new.feeding };
+    ghost breaks = { λ old now new. IsFedBroken (Said St.polls St.told) (prioritized_of K.type_of) (λ _. true) now old.feeding new.feeding };
 
     ghost loses = { λ old now new. IsFedLost (Said St.polls St.told) now old.feeding new.feeding };
 

@@ -1,16 +1,18 @@
 //! Related sources that are fed by a stream.
 
-ghost use Rattle.std.specs.Prelude.{◌≡◌, ◌++◌, [], true, false, IfOk, IsErrOf, IsTrue, OnOk, map, None, Ok};
+ghost use Rattle.std.specs.Prelude.{◌≡◌, ◌++◌, ◌∷◌, [], true, false, IfOk, IsErrOf, IsTrue, OnOk, map, None, Ok};
 ghost use Rattle.std.specs.Arc.{arc_value};
 ghost use Rattle.kube_meta.specs.Keys.{reference_of, is_named};
 ghost use Rattle.kube_meta.specs.Resources.{resource_type};
 ghost use Rattle.kube_model.specs.declared.call.Call.TheVariants.{Stream};
 ghost use Rattle.kube_model.specs.declared.call.Answer.TheVariants.{Item};
+ghost use Rattle.kube_model.specs.History.{asked_by};
 ghost use Rattle.kube_model.specs.Mapping.{IsMappedTo, related_by};
 ghost use Rattle.kube_model.specs.Named.{is_given_named};
 ghost use Rattle.kube_model.specs.Streams.{Gives, IsStreamedMapped};
 ghost use Rattle.kube_watch.specs.Streams.{stream_answer};
-ghost use Rattle.kube_turn.specs.Views.{exchange_of, message_of};
+ghost use Rattle.kube_turn.specs.Views.{exchange_of, prioritized_of};
+ghost use Rattle.kube_asks.specs.Mapped.{AreParts};
 ghost use Rattle.kube_asks.specs.Roots.{has_name};
 ghost use Rattle.kube_fed.specs.Fed.{Came};
 ghost use Rattle.kube_fed.specs.Feedings.{takes_memory};
@@ -68,7 +70,7 @@ fn request_each<K: Resource>(
     references: &[ObjectRef<K>],
     object: &ObjectRef<DynamicObject>,
 ) -> Result<List<ReconcileRequest<K>>, NoMemory>
-    ensures { IfOk result (λ qs. map (message_of K.type_of) qs ≡ map (related_by (reference_of (λ t. resource_type (arc_value t)) object.now)) (map (reference_of K.type_of) references.now)) }
+    ensures { IfOk result (λ qs. map (prioritized_of K.type_of) qs ≡ asked_by None (map (related_by (reference_of (λ t. resource_type (arc_value t)) object.now)) (map (reference_of K.type_of) references.now))) }
 {
     let mut requests = List::new(alloc);
     for reference in references {
@@ -85,7 +87,7 @@ fn map_object<V: Resource, K: Resource, M: Mapper<V, K>>(
     object: &Arc<V>,
 ) -> Result<List<ReconcileRequest<K>>, StreamFault>
     requires may { M.can_map mapper.now }
-    ensures mapped { IfOk result (λ qs. IsMappedTo (V.type_of dyntype.now) V.meta_of (M.answers mapper.now) (arc_value object.now) (map (message_of K.type_of) qs)) }
+    ensures mapped { IfOk result (λ qs. AreParts (IsMappedTo (V.type_of dyntype.now) V.meta_of (M.answers mapper.now)) (arc_value object.now ∷ []) [] (map (prioritized_of K.type_of) qs)) }
     ensures named { OnOk result (is_named (V.meta_of (arc_value object.now)) ≡ true) }
     ensures unnamed { IsErrOf result StreamFault.Unnamed → is_named (V.meta_of (arc_value object.now)) ≡ false }
 {
@@ -101,7 +103,7 @@ fn map_object<V: Resource, K: Resource, M: Mapper<V, K>>(
 
 /// The exchange of an object that requests these.
 fn mapped<K: Resource>(alloc: Global, requests: List<ReconcileRequest<K>>) -> SourceExchange<K>
-    ensures { exchange_of K.type_of result ≡ record { source = 0; call = Stream; answer = Item; items = []; requests = map (message_of K.type_of) requests; error = None } }
+    ensures { exchange_of K.type_of result ≡ record { source = 0; call = Stream; answer = Item; items = []; requests = map (prioritized_of K.type_of) requests; error = None } }
 {
     SourceExchange {
         source: 0,
@@ -121,7 +123,7 @@ fn of_object<V: Resource, K: Resource, M: Mapper<V, K>>(
     object: &Arc<V>,
 ) -> Result<SourceExchange<K>, StreamFault>
     requires may { M.can_map mapper.now }
-    ensures streamed { IfOk result (λ x. IsStreamedMapped (IsMappedTo (V.type_of dyntype.now) V.meta_of (M.answers mapper.now)) (Gives (arc_value object.now)) (exchange_of K.type_of x)) }
+    ensures streamed { IfOk result (λ x. IsStreamedMapped (IsMappedTo (V.type_of dyntype.now) V.meta_of (M.answers mapper.now)) None (Gives (arc_value object.now)) (exchange_of K.type_of x)) }
     ensures named { OnOk result (is_named (V.meta_of (arc_value object.now)) ≡ true) }
     ensures unnamed { IsErrOf result StreamFault.Unnamed → is_named (V.meta_of (arc_value object.now)) ≡ false }
 {
@@ -139,7 +141,7 @@ fn exchange<V: Resource, K: Resource, M: Mapper<V, K>>(
     next: Next<Result<Arc<V>, Error>>,
 ) -> Result<SourceExchange<K>, StreamFault>
     requires may { M.can_map mapper.now }
-    ensures streamed { IfOk result (λ x. Came (λ came. IsStreamedMapped (IsMappedTo (V.type_of dyntype.now) V.meta_of (M.answers mapper.now)) came (exchange_of K.type_of x)
+    ensures streamed { IfOk result (λ x. Came (λ came. IsStreamedMapped (IsMappedTo (V.type_of dyntype.now) V.meta_of (M.answers mapper.now)) None came (exchange_of K.type_of x)
         × (is_given_named (has_name V.meta_of) came ≡ true)) (stream_answer arc_value (Ok next))) }
     ensures unnamed { IsErrOf result StreamFault.Unnamed → Came (λ came. is_given_named (has_name V.meta_of) came ≡ false) (stream_answer arc_value (Ok next)) }
     ensures memory { IsErrOf result StreamFault.NoMemory → IsTrue (takes_memory (Ok next)) }

@@ -9,8 +9,8 @@ ghost use Rattle.kube_model.specs.Named.{is_given_named};
 ghost use Rattle.kube_model.specs.Reason.{ObjectUpdated};
 ghost use Rattle.kube_model.specs.Streams.{IsStreamed};
 ghost use Rattle.kube_watch.specs.Streams.{stream_answer};
-ghost use Rattle.kube_turn.specs.Views.{exchange_of, message_of};
-ghost use Rattle.kube_asks.specs.Noting.{updated_of};
+ghost use Rattle.kube_turn.specs.Views.{exchange_of, prioritized_of};
+ghost use Rattle.kube_asks.specs.Noting.{request_of};
 ghost use Rattle.kube_asks.specs.Roots.{has_name};
 ghost use Rattle.kube_fed.specs.Fed.{Came};
 ghost use Rattle.kube_fed.specs.Feedings.{takes_memory};
@@ -70,7 +70,7 @@ fn updated<K: Resource>(
       call = Stream;
       answer = Item;
       items = arc_value object ∷ [];
-      requests = record { reference = reference_of K.type_of obj_ref; reason = ObjectUpdated } ∷ [];
+      requests = record { message = record { reference = reference_of K.type_of obj_ref; reason = ObjectUpdated }; priority = 0 } ∷ [];
       error = None;
     }) }
 {
@@ -78,7 +78,11 @@ fn updated<K: Resource>(
     items.push(object)?;
     let mut requests = List::new(alloc);
     let reason = ReconcileReason::ObjectUpdated;
-    requests.push(ReconcileRequest { obj_ref, reason })?;
+    requests.push(ReconcileRequest {
+        obj_ref,
+        reason,
+        priority: 0,
+    })?;
     Ok(SourceExchange {
         source: 0,
         call: Call::Stream,
@@ -96,7 +100,7 @@ fn exchange<K: Resource>(
     next: Next<Result<Arc<K>, Error>>,
 ) -> Result<SourceExchange<K>, StreamFault>
     ensures streamed { IfOk result (λ x. Came (λ came. IsStreamed came (exchange_of K.type_of x) × (is_given_named (has_name K.meta_of) came ≡ true)) (stream_answer arc_value (Ok next))) }
-    ensures requests { IfOk result (λ x. map (message_of K.type_of) x.requests ≡ map (updated_of (K.type_of dyntype.now) K.meta_of) (map arc_value x.items)) }
+    ensures requests { IfOk result (λ x. map (prioritized_of K.type_of) x.requests ≡ map (request_of (K.type_of dyntype.now) K.meta_of) (map arc_value x.items)) }
     ensures source { IfOk result (λ x. x.source ≡ 0) }
     ensures unnamed { IsErrOf result StreamFault.Unnamed → Came (λ came. is_given_named (has_name K.meta_of) came ≡ false) (stream_answer arc_value (Ok next)) }
     ensures memory { IsErrOf result StreamFault.NoMemory → IsTrue (takes_memory (Ok next)) }

@@ -4,12 +4,12 @@ use Rattle.std.specs.List.{flat_map}
 use Rattle.std.proofs.lemmas.List.{map-append}
 use Rattle.std.proofs.lemmas.Grind.{flat_map-append}
 use Rattle.kube_meta.specs.declared.resource.Resource as resource
-use Rattle.kube_model.specs.World.{World}
+use Rattle.kube_model.specs.World.{World, priority_of, priority_at}
 use Rattle.kube_model.specs.History.{Dated, Exchange, Message, Turn, Step, dated, dated_of, exchanges, exchanges_of, exchanges_with}
 use Rattle.kube_model.specs.Asks.{next_asked}
 use Rattle.kube_model.specs.Queue.{QueueEvent}
 use Rattle.kube_model.specs.Requests.{requested_at, requests_of_exchanges}
-use Rattle.kube_model.specs.Named.{RootIsNamed}
+use Rattle.kube_model.specs.Named.{AreNamed, RootIsNamed}
 use Rattle.kube_model.specs.Turns.{next_source, running_in}
 use Rattle.kube_model.specs.Traces.{IsNext}
 use Rattle.kube_history.specs.CoreWorld.{core_world}
@@ -17,7 +17,7 @@ use Rattle.kube_history.specs.TurnCalls.{with_requests}
 use Rattle.kube_history.proofs.TurnCalls.{requests-join}
 use Rattle.kube_backoff.specs.declared.backoff.Backoff as backoff
 use Rattle.kube_core.specs.Pendings.{Parts as Pending, Stands as PendingStands}
-use Rattle.kube_asks.specs.Asking.{Asking, AskStands, IsNextAsked, IsPolledAt, IsBrokenAt, IfUnnamed, IsWorldOf, with_asked}
+use Rattle.kube_asks.specs.Asking.{Asking, AskStands, IsNextAsked, IsPolledAt, IsBrokenAt, IfUnnamed, IsWorldOf, with_asked, IsPolledWith, IsPlacePolledWith}
 use Rattle.kube_asks.specs.declared.asks.AskFault.{AskFault}
 use Rattle.kube_asks.specs.declared.asks.AskFault.TheVariants as faults
 use Rattle.kube_asks.specs.declared.root.RootSource as root_source
@@ -42,9 +42,11 @@ requests-more qs at xs x =
 module _ {R S B O D : Type 0} (root : root_source.Ghosts R O D) (related : related_set.Ghosts S O D) (delays : backoff.Ghosts B) (object : resource.Ghosts O D) (w : World O B) (h : List (Step O)) (t : Turn) (qs : List (QueueEvent Message)) where
   module _ (xs : List (Exchange O)) (a : Asking R S B) (p : Pending O D) (may : MayAsk root related delays object w h t qs xs a p) (x : Exchange O) (a' : Asking R S B)
       (asked : IsNextAsked w t.budget (exchanges h) (dated t.at xs) t.at (Some x))
-      (polled : (ds : List (Dated O)) → AllStand root related a.root a.related ds → IsPolledAt root.polls related.polls ds t.at x a.root a.related a'.root a'.related x.source) where
-    pub poll-is : IsPolledAt root.polls related.polls (exchanges_with h t xs) t.at x a.root a.related a'.root a'.related x.source
-    poll-is = polled (exchanges_with h t xs) may.asks_stand.sources
+      (polled : (ds : List (Dated O)) → AllStand root related a.root a.related ds → IsPolledAt (IsPolledWith (priority_at a.priorities 0) root.polls) (IsPlacePolledWith a.priorities related.polls) ds t.at x a.root a.related a'.root a'.related x.source) where
+    pub poll-is : IsPolledAt (IsPolledWith (priority_of w 0) root.polls) (IsPlacePolledWith w.priorities related.polls) (exchanges_with h t xs) t.at x a.root a.related a'.root a'.related x.source
+    poll-is =
+        subst (λ ps. IsPolledAt (IsPolledWith (priority_at ps 0) root.polls) (IsPlacePolledWith ps related.polls) (exchanges_with h t xs) t.at x a.root a.related a'.root a'.related x.source) (sym may.world.prioritized)
+        (polled (exchanges_with h t xs) may.asks_stand.sources)
 
     pub next-is : IsNext w h t xs x
     next-is = record { source = source-is w h t xs may.is_open ∙ asked.0; fits = asked.1 }
@@ -52,8 +54,8 @@ module _ {R S B O D : Type 0} (root : root_source.Ghosts R O D) (related : relat
     pub named-is : RootIsNamed w x.source (exchanges_of x.source (exchanges_with h t xs)) x
     named-is = go x.source poll-is
       where
-        go : (s : ℕ) → IsPolledAt root.polls related.polls (exchanges_with h t xs) t.at x a.root a.related a'.root a'.related s → RootIsNamed w s (exchanges_of s (exchanges_with h t xs)) x
-        go zero k = may.names (dated_of 0 (exchanges_with h t xs)) t.at x a.root a'.root k.0
+        go : (s : ℕ) → IsPolledAt (IsPolledWith (priority_of w 0) root.polls) (IsPlacePolledWith w.priorities related.polls) (exchanges_with h t xs) t.at x a.root a.related a'.root a'.related s → RootIsNamed w s (exchanges_of s (exchanges_with h t xs)) x
+        go zero k = subst (λ y. AreNamed w (exchanges_of 0 (exchanges_with h t xs)) y) (sym k.0.1) (may.names (dated_of 0 (exchanges_with h t xs)) t.at k.0.0 a.root a'.root k.0.2)
         go (suc place) k = tt
 
     pub may-go-on : (p' : Pending O D) → IsWorldOfAsks root related delays object w a' → AsksStand root related delays object w t.budget (exchanges h) (with_asked (dated t.at xs) t.at (Some x)) a' → a'.is_spent ≡ false
@@ -85,11 +87,12 @@ module _ {R S B O D : Type 0} (root : root_source.Ghosts R O D) (related : relat
     pub left-is : is_some (next_asked w t.budget (exchanges h) (dated t.at xs) at) ≡ true → is_some (next_source w h t xs) ≡ true
     left-is e = ap is_some (source-is w h t xs may.is_open ∙ ap (next_asked w t.budget (exchanges h) (dated t.at xs)) now) ∙ e
 
-    same-world : root.kind a'.root ≡ root.kind a.root → root.feed a'.root ≡ root.feed a.root → related.feeds a'.related ≡ related.feeds a.related → IsWorldOfAsks root related delays object w a'
-    same-world kind feed feeds =
-        subst (λ k. IsWorldOf w k object.meta_of (root.feed a'.root) (related.feeds a'.related) delays.delay delays.delayed delays.restarted) (sym kind)
-        (subst (λ f. IsWorldOf w (root.kind a.root) object.meta_of f (related.feeds a'.related) delays.delay delays.delayed delays.restarted) (sym feed)
-        (subst (λ f. IsWorldOf w (root.kind a.root) object.meta_of (root.feed a.root) f delays.delay delays.delayed delays.restarted) (sym feeds) may.world))
+    same-world : root.kind a'.root ≡ root.kind a.root → root.feed a'.root ≡ root.feed a.root → related.feeds a'.related ≡ related.feeds a.related → a'.priorities ≡ a.priorities → IsWorldOfAsks root related delays object w a'
+    same-world kind feed feeds priorities =
+        subst (λ k. IsWorldOf w k object.meta_of (root.feed a'.root) (related.feeds a'.related) a'.priorities delays.delay delays.delayed delays.restarted) (sym kind)
+        (subst (λ f. IsWorldOf w (root.kind a.root) object.meta_of f (related.feeds a'.related) a'.priorities delays.delay delays.delayed delays.restarted) (sym feed)
+        (subst (λ f. IsWorldOf w (root.kind a.root) object.meta_of (root.feed a.root) f a'.priorities delays.delay delays.delayed delays.restarted) (sym feeds)
+        (subst (λ ps. IsWorldOf w (root.kind a.root) object.meta_of (root.feed a.root) (related.feeds a.related) ps delays.delay delays.delayed delays.restarted) (sym priorities) may.world)))
 
     stand-none : AllStand root related a.root a.related (exchanges_with h t (xs ++ []))
     stand-none = subst (λ ys. AllStand root related a.root a.related (exchanges_with h t ys)) (sym (append-nil xs)) may.asks_stand.sources
@@ -122,8 +125,8 @@ module _ {R S B O D : Type 0} (root : root_source.Ghosts R O D) (related : relat
     ended-next faults.Spent lost unnamed only = absurd (let e : false ≡ true = sym may.unspent ∙ only refl in cc)
 
     module _ (x : Exchange O) (next : IsNextAsked w t.budget (exchanges h) (dated t.at xs) at (Some x) × AskStands w (root.stands a'.root) (related.stands a'.related) (length (related.feeds a.related)) t.budget (exchanges h) (with_asked (dated t.at xs) at (Some x)) a'.kept)
-        (polled : (ds : List (Dated O)) → AllStand root related a.root a.related ds → IsPolledAt root.polls related.polls ds at x a.root a.related a'.root a'.related x.source)
-        (kind : root.kind a'.root ≡ root.kind a.root) (feed : root.feed a'.root ≡ root.feed a.root) (feeds : related.feeds a'.related ≡ related.feeds a.related) where
+        (polled : (ds : List (Dated O)) → AllStand root related a.root a.related ds → IsPolledAt (IsPolledWith (priority_at a.priorities 0) root.polls) (IsPlacePolledWith a.priorities related.polls) ds at x a.root a.related a'.root a'.related x.source)
+        (kind : root.kind a'.root ≡ root.kind a.root) (feed : root.feed a'.root ≡ root.feed a.root) (feeds : related.feeds a'.related ≡ related.feeds a.related) (priorities : a'.priorities ≡ a.priorities) where
       asked-now : IsNextAsked w t.budget (exchanges h) (dated t.at xs) t.at (Some x)
       asked-now = subst (λ n. IsNextAsked w t.budget (exchanges h) (dated t.at xs) n (Some x)) (sym now) next.0
 
@@ -132,15 +135,15 @@ module _ {R S B O D : Type 0} (root : root_source.Ghosts R O D) (related : relat
           subst (λ n. AskStands w (root.stands a'.root) (related.stands a'.related) n t.budget (exchanges h) (with_asked (dated t.at xs) t.at (Some x)) a'.kept) (ap length (sym feeds))
           (subst (λ n. AskStands w (root.stands a'.root) (related.stands a'.related) (length (related.feeds a.related)) t.budget (exchanges h) (with_asked (dated t.at xs) n (Some x)) a'.kept) (sym now) next.1)
 
-      polled-now : (ds : List (Dated O)) → AllStand root related a.root a.related ds → IsPolledAt root.polls related.polls ds t.at x a.root a.related a'.root a'.related x.source
-      polled-now ds s = subst (λ n. IsPolledAt root.polls related.polls ds n x a.root a.related a'.root a'.related x.source) (sym now) (polled ds s)
+      polled-now : (ds : List (Dated O)) → AllStand root related a.root a.related ds → IsPolledAt (IsPolledWith (priority_at a.priorities 0) root.polls) (IsPlacePolledWith a.priorities related.polls) ds t.at x a.root a.related a'.root a'.related x.source
+      polled-now ds s = subst (λ n. IsPolledAt (IsPolledWith (priority_at a.priorities 0) root.polls) (IsPlacePolledWith a.priorities related.polls) ds n x a.root a.related a'.root a'.related x.source) (sym now) (polled ds s)
 
       pub asked-once : (p' : Pending O D) → a'.is_spent ≡ false
           → ((es : List (QueueEvent Message)) → PendingStands object.type_of (core_world w) p es (running_in w h t) → PendingStands object.type_of (core_world w) p' (with_requests es at (requests_of_exchanges at (x ∷ []))) (running_in w h t))
           → IsOneAsk root related delays object w h t qs xs a x a' p'
       asked-once p' unspent stands =
           one-ask xs a p may x a' asked-now polled-now p'
-          (may-go-on xs a p may x a' asked-now polled-now p' (same-world kind feed feeds) stand-now unspent
+          (may-go-on xs a p may x a' asked-now polled-now p' (same-world kind feed feeds priorities) stand-now unspent
           (subst (λ n. PendingStands object.type_of (core_world w) p' (with_requests (with_requests qs t.at (requests_of_exchanges t.at xs)) n (requests_of_exchanges n (x ∷ []))) (running_in w h t)) (sym now)
           (stands (with_requests qs t.at (requests_of_exchanges t.at xs)) may.waits)))
 
@@ -169,8 +172,8 @@ module _ {R S B O D : Type 0} (root : root_source.Ghosts R O D) (related : relat
     asked = next-append w h t [] xs (x ∷ []) k.asked (one.next, tt);
     each_named = named-append w h t (RootIsNamed w) [] xs (x ∷ []) k.each_named (one.is_named, tt);
     polled =
-        subst (λ ds. ArePolled root.polls related.polls (exchanges h) a.root a.related ds b'.root b'.related) (sym (dated-more t.at xs (x ∷ [])))
-        (polled-append root.polls related.polls (exchanges h) a.root a.related (dated t.at xs) (dated t.at (x ∷ [])) b.root b.related b'.root b'.related k.polled (b'.root, b'.related, one.polled, (refl, refl)));
+        subst (λ ds. ArePolled (IsPolledWith (priority_of w 0) root.polls) (IsPlacePolledWith w.priorities related.polls) (exchanges h) a.root a.related ds b'.root b'.related) (sym (dated-more t.at xs (x ∷ [])))
+        (polled-append (IsPolledWith (priority_of w 0) root.polls) (IsPlacePolledWith w.priorities related.polls) (exchanges h) a.root a.related (dated t.at xs) (dated t.at (x ∷ [])) b.root b.related b'.root b'.related k.polled (b'.root, b'.related, one.polled, (refl, refl)));
     may = one.may;
   }
 
@@ -187,9 +190,9 @@ module _ {R S B O D : Type 0} (root : root_source.Ghosts R O D) (related : relat
     reached_root = cut.reached_root;
     reached_related = cut.reached_related;
     polled =
-        subst (λ ds. ArePolled root.polls related.polls ds a.root a.related (dated t.at (xs ++ cut.made)) cut.reached_root cut.reached_related) (sym (append-nil (exchanges h)))
-        (subst (λ ds. ArePolled root.polls related.polls (exchanges h) a.root a.related ds cut.reached_root cut.reached_related) (sym (dated-more t.at xs cut.made))
-        (polled-append root.polls related.polls (exchanges h) a.root a.related (dated t.at xs) (dated t.at cut.made) b.root b.related cut.reached_root cut.reached_related k.polled cut.polled));
+        subst (λ ds. ArePolled (IsPolledWith (priority_of w 0) root.polls) (IsPlacePolledWith w.priorities related.polls) ds a.root a.related (dated t.at (xs ++ cut.made)) cut.reached_root cut.reached_related) (sym (append-nil (exchanges h)))
+        (subst (λ ds. ArePolled (IsPolledWith (priority_of w 0) root.polls) (IsPlacePolledWith w.priorities related.polls) (exchanges h) a.root a.related ds cut.reached_root cut.reached_related) (sym (dated-more t.at xs cut.made))
+        (polled-append (IsPolledWith (priority_of w 0) root.polls) (IsPlacePolledWith w.priorities related.polls) (exchanges h) a.root a.related (dated t.at xs) (dated t.at cut.made) b.root b.related cut.reached_root cut.reached_related k.polled cut.polled));
     stand = cut.stand;
     rest = cut.rest;
   }
@@ -210,7 +213,7 @@ module _ {R S B O D : Type 0} (root : root_source.Ghosts R O D) (related : relat
     each_named = k.each_named;
     reached_root = b.root;
     reached_related = b.related;
-    polled = subst (λ ds. ArePolled root.polls related.polls ds a.root a.related (dated t.at xs) b.root b.related) (sym (append-nil (exchanges h))) k.polled;
+    polled = subst (λ ds. ArePolled (IsPolledWith (priority_of w 0) root.polls) (IsPlacePolledWith w.priorities related.polls) ds a.root a.related (dated t.at xs) b.root b.related) (sym (append-nil (exchanges h))) k.polled;
     stand = k.may.asks_stand.sources;
     rest = NotAsked refl refl;
   }
@@ -233,7 +236,7 @@ module _ {R S B O D : Type 0} (root : root_source.Ghosts R O D) (related : relat
     asked = k.asked;
     each_named = k.each_named;
     polled =
-        subst (λ r. ArePolled root.polls related.polls (exchanges h) a.root a.related (dated t.at xs) r b'.related) (sym same_root)
-        (subst (λ s. ArePolled root.polls related.polls (exchanges h) a.root a.related (dated t.at xs) b.root s) (sym same_related) k.polled);
+        subst (λ r. ArePolled (IsPolledWith (priority_of w 0) root.polls) (IsPlacePolledWith w.priorities related.polls) (exchanges h) a.root a.related (dated t.at xs) r b'.related) (sym same_root)
+        (subst (λ s. ArePolled (IsPolledWith (priority_of w 0) root.polls) (IsPlacePolledWith w.priorities related.polls) (exchanges h) a.root a.related (dated t.at xs) b.root s) (sym same_related) k.polled);
     may = may;
   }

@@ -1,5 +1,5 @@
 -- Controllers that are fed, before their first turn.
-use Rattle.std.proofs.Common.{◌≡◌, ℕ, ◌+◌, ◌-◌, ◌<◌, nat_lt, Bool, true, false, List, [], ◌∷◌, ◌++◌, length, IsTrue, refl, sym, ap, subst, ◌∙◌, arith}
+use Rattle.std.proofs.Common.{◌≡◌, ℕ, ◌+◌, ◌-◌, ◌<◌, nat_lt, Bool, true, false, List, [], ◌∷◌, ◌++◌, length, IsTrue, refl, sym, ap, subst, ◌∙◌, arith, Option}
 use Rattle.std.proofs.lemmas.Bool.{ltb-true, ltb-false}
 use Rattle.std.proofs.lemmas.List.{length-append}
 use Rattle.std.specs.List.{AllByRecursion}
@@ -69,13 +69,13 @@ module _ {R S B O D : Type 0} (root : root_source.Ghosts R O D) (related : relat
   pub started : (w : World O B) (a : Asking R S B) (p : Parts O D) (r : R) (s : S) (start : B) → a.root ≡ r → a.related ≡ s → a.is_spent ≡ false → IsWorldOfAsks root related delays object w a → w.backoff ≡ start
       → is_watched (root.feed r) ≡ false → NamesObjects root related w → PendingStands object.type_of (core_world w) p.pending [] [] → p.ready ≡ false → p.shut ≡ false
       → SourcesStand (root.stands r) (related.stands s) (length (related.feeds s)) []
-      → ((v : World O B) → IsWorldOf v (root.kind r) object.meta_of (root.feed r) (related.feeds s) delays.delay delays.delayed delays.restarted → v.backoff ≡ start
+      → ((v : World O B) (ps : List (Option ℕ)) → IsWorldOf v (root.kind r) object.meta_of (root.feed r) (related.feeds s) ps delays.delay delays.delayed delays.restarted → v.backoff ≡ start
       → SourcesStand (root.stands r) (related.stands s) (length (related.feeds s)) [] → AsksStand root related delays object v [] [] [] a)
       → PartsStand root related delays object w [] a p
   started w a p r s start same-root same-related unspent is backoff fed names waits ready shut sources asked =
-      let own = subst (λ x. IsWorldOf w (root.kind x) object.meta_of (root.feed x) (related.feeds s) delays.delay delays.delayed delays.restarted) same-root
-      (subst (λ x. IsWorldOf w (root.kind a.root) object.meta_of (root.feed a.root) (related.feeds x) delays.delay delays.delayed delays.restarted) same-related is) in
-      parts-first w a p [] [] [] refl is (ap (λ x. is_watched (root.feed x)) same-root ∙ fed) names waits ready shut (asked w own backoff sources) unspent
+      let own = subst (λ x. IsWorldOf w (root.kind x) object.meta_of (root.feed x) (related.feeds s) a.priorities delays.delay delays.delayed delays.restarted) same-root
+      (subst (λ x. IsWorldOf w (root.kind a.root) object.meta_of (root.feed a.root) (related.feeds x) a.priorities delays.delay delays.delayed delays.restarted) same-related is) in
+      parts-first w a p [] [] [] refl is (ap (λ x. is_watched (root.feed x)) same-root ∙ fed) names waits ready shut (asked w a.priorities own backoff sources) unspent
 
 -- what waits and runs stands for nothing in each world with this limit and this debounce
 waits-alike : {O B C D : Type 0} (object : resource.Ghosts O D) (v : World O B) (w : World O C) (p : Pending O D) → w.limit ≡ v.limit → w.debounce ≡ v.debounce → PendingStands object.type_of (core_world v) p [] [] → PendingStands object.type_of (core_world w) p [] []
@@ -86,6 +86,7 @@ waits-alike object v w p limit debounce s = record {
   scheduled = s.scheduled;
   seen_as = s.seen_as;
   running = s.running;
+  count = s.count;
   once = s.once;
 }
 
@@ -97,18 +98,18 @@ module _ {R S B C O D : Type 0} (root : root_source.Ghosts R O D) (related : rel
   -- parts before the first turn are so under another backoff, once the sources r and s are asked anew
   pub triggered : (v : World O B) (w : World O C) (a : Asking R S B) (p : Parts O D) (r : R) (s : S) (a' : Asking R S C) (start : C) → PartsStand root related delays object v [] a p
       → r ≡ a.root → s ≡ a.related → a'.root ≡ r → a'.related ≡ s → a'.is_spent ≡ false → IsWorldOfAsks root related others object w a' → w.backoff ≡ start → w.limit ≡ v.limit → w.debounce ≡ v.debounce
-      → (IsWorldOf w (root.kind r) object.meta_of (root.feed r) (related.feeds s) others.delay others.delayed others.restarted → w.backoff ≡ start
+      → ((ps : List (Option ℕ)) → IsWorldOf w (root.kind r) object.meta_of (root.feed r) (related.feeds s) ps others.delay others.delayed others.restarted → w.backoff ≡ start
       → SourcesStand (root.stands r) (related.stands s) (length (related.feeds s)) [] → AsksStand root related others object w [] [] [] a')
       → PartsStand root related others object w [] a' p
   triggered v w a p r s a' start k of-root of-related same-root same-related unspent is backoff limit debounce asked =
-      let own = subst (λ x. IsWorldOf w (root.kind x) object.meta_of (root.feed x) (related.feeds s) others.delay others.delayed others.restarted) same-root
-      (subst (λ x. IsWorldOf w (root.kind a'.root) object.meta_of (root.feed a'.root) (related.feeds x) others.delay others.delayed others.restarted) same-related is) in
+      let own = subst (λ x. IsWorldOf w (root.kind x) object.meta_of (root.feed x) (related.feeds s) a'.priorities others.delay others.delayed others.restarted) same-root
+      (subst (λ x. IsWorldOf w (root.kind a'.root) object.meta_of (root.feed a'.root) (related.feeds x) a'.priorities others.delay others.delayed others.restarted) same-related is) in
       let sources = subst (SourcesStand (root.stands a.root) (related.stands a.related) (length (related.feeds a.related))) k.joined k.asks_stand.sources in
       parts-first root related others object w a' p [] [] [] refl is
       (ap (λ x. is_watched (root.feed x)) (same-root ∙ of-root) ∙ root-fed root related delays object v a k.world k.is_fed)
       (alike-names root related related v w (k.world.named ∙ sym own.named) k.names)
       (waits-alike object v w p.pending limit debounce k.waits) k.ready k.shut
-      (asked own backoff (subst (λ x. SourcesStand (root.stands x) (related.stands s) (length (related.feeds s)) []) (sym of-root)
+      (asked a'.priorities own backoff (subst (λ x. SourcesStand (root.stands x) (related.stands s) (length (related.feeds s)) []) (sym of-root)
       (subst (λ x. SourcesStand (root.stands a.root) (related.stands x) (length (related.feeds x)) []) (sym of-related) sources)))
       unspent
 
@@ -120,12 +121,12 @@ module _ {R S T U B O D : Type 0} (root : root_source.Ghosts R O D) (related : r
       → ((place : ℕ) (own : List (Dated O)) → Either (nat_lt place (length (related.feeds a.related))) (related.stands a.related place own) (more.stands t (place - length (related.feeds a.related)) own) → wider.stands u place own)
       → ((place : ℕ) → place < length (more.feeds t) → more.stands t place [])
       → IsWorldOfAsks root wider delays object w a' → w.backoff ≡ v.backoff → w.limit ≡ v.limit → w.debounce ≡ v.debounce
-      → (IsWorldOf w (root.kind r) object.meta_of (root.feed r) (wider.feeds u) delays.delay delays.delayed delays.restarted → w.backoff ≡ start
+      → ((ps : List (Option ℕ)) → IsWorldOf w (root.kind r) object.meta_of (root.feed r) (wider.feeds u) ps delays.delay delays.delayed delays.restarted → w.backoff ≡ start
       → SourcesStand (root.stands r) (wider.stands u) (length (wider.feeds u)) [] → AsksStand root wider delays object w [] [] [] a')
       → PartsStand root wider delays object w [] a' p
   added v w a p r t u a' start k of-root begins same-root same-related unspent feeds stands fresh is backoff limit debounce asked =
-      let own = subst (λ x. IsWorldOf w (root.kind x) object.meta_of (root.feed x) (wider.feeds u) delays.delay delays.delayed delays.restarted) same-root
-      (subst (λ x. IsWorldOf w (root.kind a'.root) object.meta_of (root.feed a'.root) (wider.feeds x) delays.delay delays.delayed delays.restarted) same-related is) in
+      let own = subst (λ x. IsWorldOf w (root.kind x) object.meta_of (root.feed x) (wider.feeds u) a'.priorities delays.delay delays.delayed delays.restarted) same-root
+      (subst (λ x. IsWorldOf w (root.kind a'.root) object.meta_of (root.feed a'.root) (wider.feeds x) a'.priorities delays.delay delays.delayed delays.restarted) same-related is) in
       let sources = subst (SourcesStand (root.stands a.root) (related.stands a.related) (length (related.feeds a.related))) k.joined k.asks_stand.sources in
       let first : v.backoff ≡ a.kept.pause.backoff = sym (ap (λ (z : Pause B). z.backoff) (k.asks_stand.kept.pause ∙ ap (pause_of v) k.joined)) in
       let n = length (related.feeds a.related) in
@@ -134,7 +135,7 @@ module _ {R S T U B O D : Type 0} (root : root_source.Ghosts R O D) (related : r
       (ap (λ x. is_watched (root.feed x)) (same-root ∙ of-root) ∙ root-fed root related delays object v a k.world k.is_fed)
       (alike-names root related wider v w (k.world.named ∙ sym own.named) k.names)
       (waits-alike object v w p.pending limit debounce k.waits) k.ready k.shut
-      (asked own (backoff ∙ (first ∙ sym begins)) (record {
+      (asked a'.priorities own (backoff ∙ (first ∙ sym begins)) (record {
         root = subst (λ x. root.stands x []) (sym of-root) sources.root;
         related = λ place below.
             stands place [] (either-of (nat_lt place n) (related.stands a.related place []) (more.stands t (place - n) [])

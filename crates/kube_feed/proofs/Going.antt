@@ -2,12 +2,12 @@
 use Rattle.std.proofs.Common.{◌≡◌, ℕ, Bool, true, false, not, ◌||◌, ◌&&◌, List, [], ◌∷◌, ◌++◌, map, Option, None, Result, Ok, Err, IfOk, is_some, refl, sym, ap, ap₂, subst, ◌∙◌, append-nil}
 use Rattle.std.specs.List.{filter_map}
 use Rattle.std.proofs.lemmas.List.{map-append}
-use Rattle.kube_meta.specs.Reference.{ObjectType, Reference}
+use Rattle.kube_meta.specs.Reference.{ObjectType}
 use Rattle.kube_meta.specs.declared.resource.Resource as resource
-use Rattle.kube_model.specs.World.{World}
+use Rattle.kube_model.specs.World.{World, priority_of}
 use Rattle.kube_model.specs.declared.error.RunnerError.{RunnerError}
 use Rattle.kube_model.specs.Reads.{Readiness, Reads, failure_in, is_told_ready, told_ready}
-use Rattle.kube_model.specs.History.{Exchange, Message, same_message, Taken, Turn, Step, dated, exchanges, exchanges_with}
+use Rattle.kube_model.specs.History.{Exchange, Message, same_message, Taken, Turn, Step, dated, exchanges, exchanges_with, Named}
 use Rattle.kube_model.specs.Named.{EachIsNamed, RootIsNamed}
 use Rattle.kube_model.specs.Pause.{gave_up}
 use Rattle.kube_model.specs.Queue.{QueueEvent, Settled, waiting}
@@ -24,7 +24,7 @@ use Rattle.kube_backoff.specs.declared.backoff.Backoff as backoff
 use Rattle.kube_reflect.specs.Writers.{Reader}
 use Rattle.kube_core.specs.Cores.{IsOfType}
 use Rattle.kube_core.specs.Pendings.{Parts as Pending, Stands as PendingStands}
-use Rattle.kube_asks.specs.Asking.{Asking}
+use Rattle.kube_asks.specs.Asking.{Asking, IsPolledWith, IsPlacePolledWith}
 use Rattle.kube_asks.specs.declared.root.RootSource as root_source
 use Rattle.kube_asks.specs.declared.set.RelatedSet as related_set
 use Rattle.kube_step.specs.Calls.{ArePolled}
@@ -42,10 +42,10 @@ both (Err e) P Q S f p q = tt
 
 -- Requests that name references, one after another.
 
-pub names-push : (at : ℕ) (rs : List Reference) (r : Reference) → name_requests at rs ++ name_requests at (r ∷ []) ≡ name_requests at (rs ++ r ∷ [])
+pub names-push : (at : ℕ) (rs : List Named) (r : Named) → name_requests at rs ++ name_requests at (r ∷ []) ≡ name_requests at (rs ++ r ∷ [])
 names-push at rs r = sym (ap (map (requested_at at)) (map-append by_name rs (r ∷ [])) ∙ map-append (requested_at at) (map by_name rs) (by_name r ∷ []))
 
-pub named-more : (qs : List (QueueEvent Message)) (at : ℕ) (rs : List Reference) (r : Reference)
+pub named-more : (qs : List (QueueEvent Message)) (at : ℕ) (rs : List Named) (r : Named)
     → with_requests (with_requests qs at (name_requests at rs)) at (name_requests at (r ∷ [])) ≡ with_requests qs at (name_requests at (rs ++ r ∷ []))
 named-more qs at rs r = requests-join qs at (name_requests at rs) (name_requests at (r ∷ [])) ∙ ap (with_requests qs at) (names-push at rs r)
 
@@ -130,7 +130,7 @@ module _ {R S B O D : Type 0} (root : root_source.Ghosts R O D) (related : relat
   pub record HasGoneOn (qs : List (QueueEvent Message)) (a : Asking R S B) (r : Reads O) (xs : List (Exchange O)) (ts : List (Taken O)) (a' : Asking R S B) (p' : Parts O D) : Type 0 where
     pub asked : EachIsNext w h t [] xs
     pub each_named : EachIsNamed w (RootIsNamed w) h t [] xs
-    pub polled : ArePolled root.polls related.polls (exchanges h) a.root a.related (dated t.at xs) a'.root a'.related
+    pub polled : ArePolled (IsPolledWith (priority_of w 0) root.polls) (IsPlacePolledWith w.priorities related.polls) (exchanges h) a.root a.related (dated t.at xs) a'.root a'.related
     pub done : next_source w h t xs ≡ None
     pub world : IsWorldOfAsks root related delays object w a'
     pub asks_stand : AsksStand root related delays object w t.budget (exchanges h) (dated t.at xs) a'

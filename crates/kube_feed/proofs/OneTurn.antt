@@ -4,7 +4,7 @@ use Rattle.std.specs.List.{filter_map}
 use Rattle.std.proofs.lemmas.List.{map-append}
 use Rattle.kube_meta.specs.declared.resource.Resource as resource
 use Rattle.kube_model.specs.declared.error.RunnerError.{RunnerError}
-use Rattle.kube_model.specs.World.{World}
+use Rattle.kube_model.specs.World.{World, priority_of}
 use Rattle.kube_model.specs.Reads.{Readiness, Reads, is_told_ready, told_ready, failure_in}
 use Rattle.kube_model.specs.History.{Dated, Exchange, Finished, Message, same_message, Taken, Turn, TurnRecord, Step, dated, exchanges, exchanges_with}
 use Rattle.kube_model.specs.Asks.{stops_of}
@@ -23,7 +23,7 @@ use Rattle.kube_history.proofs.TurnParts.{none-next}
 use Rattle.kube_backoff.specs.declared.backoff.Backoff as backoff
 use Rattle.kube_reflect.specs.Writers.{Reader}
 use Rattle.kube_core.specs.Pendings.{Parts as Pending, Stands as PendingStands}
-use Rattle.kube_asks.specs.Asking.{Asking, AskStands, IsWorldOf, asking_begun}
+use Rattle.kube_asks.specs.Asking.{Asking, AskStands, IsWorldOf, asking_begun, IsPolledWith, IsPlacePolledWith}
 use Rattle.kube_asks.specs.declared.asks.AskFault.{AskFault}
 use Rattle.kube_asks.specs.declared.asks.AskFault.TheVariants as faults
 use Rattle.kube_asks.specs.declared.root.RootSource as root_source
@@ -37,6 +37,7 @@ use Rattle.kube_feed.specs.Asked.{AreEndedBy}
 use Rattle.kube_feed.specs.Fed.{PartsStand}
 use Rattle.kube_feed.specs.Reads.{AreListed, IsLater, IsReadFirst, IsReadIn}
 use Rattle.kube_feed.specs.Requests.{finish_requests}
+use Rattle.kube_feed.specs.Takes.{taken_as}
 use Rattle.kube_feed.specs.Turns.{AmongTakes, AreFirstReads, AreFirstTaken, AreTakenWhere, BeforeTakes, HasAsked, HaveReadAndTaken, HaveReadAndTakenFirst, IsEndedBy, IsTaken, MayGoOn, only_reloaded, queue_asked}
 use Rattle.kube_feed.proofs.Going.{HasGoneOn, may-take, next-so, read-first-of, read-whole, reads-first, reads_of, taken-so}
 use Rattle.kube_feed.proofs.Requested.{queue-is, ready-is}
@@ -115,8 +116,9 @@ module _ {R S B O D : Type 0} (root : root_source.Ghosts R O D) (related : relat
 
   world-now : IsWorldOfAsks root related delays object w a1
   world-now =
-      subst (λ x. IsWorldOf w (root.kind x) object.meta_of (root.feed x) (related.feeds a1.related) delays.delay delays.delayed delays.restarted) (sym same-root)
-      (subst (λ y. IsWorldOf w (root.kind a.root) object.meta_of (root.feed a.root) (related.feeds y) delays.delay delays.delayed delays.restarted) (sym same-related) may.world)
+      subst (λ x. IsWorldOf w (root.kind x) object.meta_of (root.feed x) (related.feeds a1.related) a1.priorities delays.delay delays.delayed delays.restarted) (sym same-root)
+      (subst (λ y. IsWorldOf w (root.kind a.root) object.meta_of (root.feed a.root) (related.feeds y) a1.priorities delays.delay delays.delayed delays.restarted) (sym same-related)
+      (subst (λ ps. IsWorldOf w (root.kind a.root) object.meta_of (root.feed a.root) (related.feeds a.related) ps delays.delay delays.delayed delays.restarted) (sym (ap (λ (z : Asking R S B). z.priorities) begun)) may.world))
 
   stands-now : AsksStand root related delays object w t.budget (exchanges h) [] a1
   stands-now =
@@ -181,7 +183,7 @@ module _ {R S B O D : Type 0} (root : root_source.Ghosts R O D) (related : relat
             each_named = g.each_named;
             reached_root = a'.root;
             reached_related = a'.related;
-            polled = subst (λ ds. ArePolled root.polls related.polls ds a1.root a1.related (dated t.at xs) a'.root a'.related) (sym (append-nil (exchanges h))) g.polled;
+            polled = subst (λ ds. ArePolled (IsPolledWith (priority_of w 0) root.polls) (IsPlacePolledWith w.priorities related.polls) ds a1.root a1.related (dated t.at xs) a'.root a'.related) (sym (append-nil (exchanges h))) g.polled;
             stand = g.asks_stand.sources;
             rest = NotAsked refl refl;
           }
@@ -230,10 +232,10 @@ module _ {R S B O D : Type 0} (root : root_source.Ghosts R O D) (related : relat
           takes-are = first-is w may.is_fed h t (reads_of found-now told ts) fs xs ts open-yet reads-are (taken-so root related delays object w h t finished_queue a1 p2 (may-go e) found-now xs a' p3 (went-now e).1 told ts p4 q)
 
           pub next-is : (found : Option O)
-              → taken_in w h t (record (reads_of found-now told ts) { looked_up = map (λ (u : Taken O). u.object) ts ++ found ∷ [] }) fs xs ≡ ts ++ record { message = q.taken.next; object = found } ∷ []
+              → taken_in w h t (record (reads_of found-now told ts) { looked_up = map (λ (u : Taken O). u.object) ts ++ found ∷ [] }) fs xs ≡ ts ++ taken_as q.taken.next found ∷ []
           next-is found =
-              let more : List (Taken O) = ts ++ record { message = q.taken.next; object = found } ∷ [] in
-              let joined : map (λ (u : Taken O). u.object) more ≡ map (λ (u : Taken O). u.object) ts ++ found ∷ [] = map-append (λ (u : Taken O). u.object) ts (record { message = q.taken.next; object = found } ∷ []) in
+              let more : List (Taken O) = ts ++ taken_as q.taken.next found ∷ [] in
+              let joined : map (λ (u : Taken O). u.object) more ≡ map (λ (u : Taken O). u.object) ts ++ found ∷ [] = map-append (λ (u : Taken O). u.object) ts (taken_as q.taken.next found ∷ []) in
               subst (λ os. taken_in w h t (record (reads_of found-now told ts) { looked_up = os }) fs xs ≡ more) joined
               (first-is w may.is_fed h t (reads_of found-now told more) fs xs more open-yet
               (record { polled = reads-are.polled; reloaded = reads-are.reloaded; looked_up = refl; shown = refl })
@@ -312,9 +314,9 @@ module _ {R S B O D : Type 0} (root : root_source.Ghosts R O D) (related : relat
             recorded = subst (λ (x : TurnRecord O). IsRecord w (answered_in x.finished) h t (x, with_shown r store)) (sym is-now) made-now.0;
             each_named = subst (EachIsNamed w (RootIsNamed w) h t []) (sym asked) g.each_named;
             polled =
-                subst (λ ys. ArePolled root.polls related.polls (exchanges h) a.root a.related (dated t.at ys) a'.root a'.related) (sym asked)
-                (subst (λ x. ArePolled root.polls related.polls (exchanges h) x a.related (dated t.at xs) a'.root a'.related) same-root
-                (subst (λ y. ArePolled root.polls related.polls (exchanges h) a1.root y (dated t.at xs) a'.root a'.related) same-related g.polled));
+                subst (λ ys. ArePolled (IsPolledWith (priority_of w 0) root.polls) (IsPlacePolledWith w.priorities related.polls) (exchanges h) a.root a.related (dated t.at ys) a'.root a'.related) (sym asked)
+                (subst (λ x. ArePolled (IsPolledWith (priority_of w 0) root.polls) (IsPlacePolledWith w.priorities related.polls) (exchanges h) x a.related (dated t.at xs) a'.root a'.related) same-root
+                (subst (λ y. ArePolled (IsPolledWith (priority_of w 0) root.polls) (IsPlacePolledWith w.priorities related.polls) (exchanges h) a1.root y (dated t.at xs) a'.root a'.related) same-related g.polled));
             parts =
                 parts-after root related delays object w h t a p may v fs z a' last (with_shown r store) xs ts q is-now taken asked finished g.world g.asks_stand g.unspent
                 (subst (λ y. PendingStands object.type_of (core_world w) y (events_of w h ++ turn_events w h t (with_shown r store) fs xs ++ took ts) (running_in w h t ++ filter_map started ts)) (sym same-pending) waits-after)
@@ -384,8 +386,8 @@ module _ {R S B O D : Type 0} (root : root_source.Ghosts R O D) (related : relat
             recorded = subst (λ (x : TurnRecord O). IsRecord w (answered_in x.finished) h t (x, closed_reads)) (sym closed-record) closed-made.0;
             each_named = subst (EachIsNamed w (RootIsNamed w) h t []) (sym (asked ∙ stay.0)) tt;
             polled =
-                subst (λ ys. ArePolled root.polls related.polls (exchanges h) a.root a.related (dated t.at ys) a'.root a'.related) (sym (asked ∙ stay.0))
-                (subst (λ (y : Asking R S B). ArePolled root.polls related.polls (exchanges h) a.root a.related [] y.root y.related) (sym stay.3) (same-root, same-related));
+                subst (λ ys. ArePolled (IsPolledWith (priority_of w 0) root.polls) (IsPlacePolledWith w.priorities related.polls) (exchanges h) a.root a.related (dated t.at ys) a'.root a'.related) (sym (asked ∙ stay.0))
+                (subst (λ (y : Asking R S B). ArePolled (IsPolledWith (priority_of w 0) root.polls) (IsPlacePolledWith w.priorities related.polls) (exchanges h) a.root a.related [] y.root y.related) (sym stay.3) (same-root, same-related));
             parts =
                 parts-after root related delays object w h t a p may v fs z a' last closed_reads [] [] q closed-record (taken ∙ stay.1) (asked ∙ stay.0) finished world-stays stands-stay
                 (ap (λ (y : Asking R S B). y.is_spent) stay.3 ∙ unspent-now)

@@ -6,7 +6,7 @@ use Rattle.kube_meta.specs.declared.metadata.ObjectMeta.{ObjectMeta}
 use Rattle.kube_meta.specs.Reference.{ObjectType, Reference}
 use Rattle.kube_meta.specs.declared.action.Action.{Action}
 use Rattle.kube_meta.specs.declared.resource.Resource as resource
-use Rattle.kube_model.specs.World.{World}
+use Rattle.kube_model.specs.World.{World, priority_of}
 use Rattle.kube_model.specs.Raw.{grown_by}
 use Rattle.kube_model.specs.History.{Turn, TurnRecord, Step, dated, exchanges}
 use Rattle.kube_model.specs.Named.{AreNamedTurns, RootIsNamed}
@@ -14,7 +14,7 @@ use Rattle.kube_model.specs.Takes.{running}
 use Rattle.kube_model.specs.Traces.{IsRecord, IsRefusedAfter, IsTrace, Made, Refusal, has_ended, refusal, step, steps}
 use Rattle.kube_backoff.specs.declared.backoff.Backoff as backoff
 use Rattle.kube_reflect.specs.Writers.{Reader}
-use Rattle.kube_asks.specs.Asking.{Asking}
+use Rattle.kube_asks.specs.Asking.{Asking, IsPolledWith, IsPlacePolledWith}
 use Rattle.kube_asks.specs.declared.asks.AskFault.{AskFault}
 use Rattle.kube_asks.specs.declared.asks.AskFault.TheVariants as faults
 use Rattle.kube_asks.specs.declared.root.RootSource as root_source
@@ -104,7 +104,7 @@ module _ {R S B O D : Type 0} (root : root_source.Ghosts R O D) (related : relat
         recorded = taken.recorded;
         each_named = taken.each_named;
         polled =
-            subst (λ n. ArePolled root.polls related.polls (exchanges h) c.asks.root c.asks.related (dated n m.0.exchanges) c'.asks.root c'.asks.related) (sym (ap (λ (q : TurnRecord O). q.at) taken.recorded.determined))
+            subst (λ n. ArePolled (IsPolledWith (priority_of w 0) root.polls) (IsPlacePolledWith w.priorities related.polls) (exchanges h) c.asks.root c.asks.related (dated n m.0.exchanges) c'.asks.root c'.asks.related) (sym (ap (λ (q : TurnRecord O). q.at) taken.recorded.determined))
             taken.polled;
         stands = record {
           parts = taken.parts;
@@ -154,9 +154,9 @@ module _ {R S B O D : Type 0} (root : root_source.Ghosts R O D) (related : relat
           traced = trace-push w h ts ms t m (run-long going) k.traced (open-yet going) n.recorded;
           all_named = subst (AreNamedTurns w (RootIsNamed w) h) (sym pushed) (named-push w (RootIsNamed w) h (steps ts ms) (step t m) k.all_named n.each_named);
           polled =
-              subst (λ ds. ArePolled root.polls related.polls (exchanges h) c.asks.root c.asks.related ds c''.asks.root c''.asks.related) (sym all)
-              (polled-append root.polls related.polls (exchanges h) c.asks.root c.asks.related (dated_in (records_in ms)) (dated m.0.at m.0.exchanges) c'.asks.root c'.asks.related c''.asks.root c''.asks.related k.polled
-              (subst (λ ds. ArePolled root.polls related.polls ds c'.asks.root c'.asks.related (dated m.0.at m.0.exchanges) c''.asks.root c''.asks.related) asked n.polled));
+              subst (λ ds. ArePolled (IsPolledWith (priority_of w 0) root.polls) (IsPlacePolledWith w.priorities related.polls) (exchanges h) c.asks.root c.asks.related ds c''.asks.root c''.asks.related) (sym all)
+              (polled-append (IsPolledWith (priority_of w 0) root.polls) (IsPlacePolledWith w.priorities related.polls) (exchanges h) c.asks.root c.asks.related (dated_in (records_in ms)) (dated m.0.at m.0.exchanges) c'.asks.root c'.asks.related c''.asks.root c''.asks.related k.polled
+              (subst (λ ds. ArePolled (IsPolledWith (priority_of w 0) root.polls) (IsPlacePolledWith w.priorities related.polls) ds c'.asks.root c'.asks.related (dated m.0.at m.0.exchanges) c''.asks.root c''.asks.related) asked n.polled));
           stands = subst (λ g. StandsFor root related delays object w g c'') (append_assoc h (steps ts ms) (step t m ∷ []) ∙ ap (λ ss. h ++ ss) (sym pushed)) n.stands;
         }
 

@@ -5,10 +5,10 @@ use Rattle.std.proofs.lemmas.List.{map-append, length-append}
 use Rattle.std.proofs.lemmas.List.Elements.{filter_map-append}
 use Rattle.kube_meta.specs.ReferenceLaws.{same_reference_equiv, seen_equiv}
 use Rattle.kube_meta.specs.declared.resource.Resource as resource
-use Rattle.kube_model.specs.History.{Message, same_message, Taken}
+use Rattle.kube_model.specs.History.{Message, Prioritized, same_message, Taken}
 use Rattle.kube_model.specs.Queue.{QueueEvent, Frozen, Took, waiting}
 use Rattle.kube_model.specs.Requests.{took}
-use Rattle.kube_model.specs.Takes.{Running, runs, started, candidates, found_so, found_with, has_room, within_room}
+use Rattle.kube_model.specs.Takes.{Running, runs, started, candidates, found_so, found_with, has_room, prioritized, within_room}
 use Rattle.kube_model.specs.WaitingOnce.{HasEachOnce}
 use Rattle.kube_model.proofs.Waits.{waiting-once}
 use Rattle.kube_history.specs.CoreWorld.{CoreWorld}
@@ -19,7 +19,7 @@ use Rattle.kube_history.proofs.TakesInTurn.{messages, more-is, more-len, once-wi
 use Rattle.kube_reflect.specs.Writers.{Reader}
 use Rattle.kube_core.specs.Pendings.{Parts as Pending, Stands}
 use Rattle.kube_feed.specs.Reads.{AreFound, IsFound, IsLater}
-use Rattle.kube_feed.specs.Takes.{IsTake, IsLookedUp}
+use Rattle.kube_feed.specs.Takes.{IsTake, IsLookedUp, taken_as, taken_for}
 use Rattle.kube_feed.specs.Turns.{AreAllTaken, AreFirstTaken, HaveTakenFirst, IsTakenNext}
 
 -- What waits, after a take.
@@ -63,26 +63,26 @@ module _ {O : Type 0} (core : CoreWorld O) (qs : List (QueueEvent Message)) (rs 
   abbrev pub waits : List (Frozen Message)
   waits = waiting same_message core.debounce qs
 
-  -- a message is that of the first candidate, for which there is room
-  pub record IsFirst (m : Message) : Type 0 where
+  -- a message is that of the first candidate, for which there is room, with its priority
+  pub record IsFirst (q : Prioritized) : Type 0 where
     pub first : Frozen Message
     pub others : List (Frozen Message)
     pub room : has_room core.limit (length rs) 0 ≡ true
     pub are : candidates rs (waiting same_message core.debounce qs) ≡ first ∷ others
-    pub message : m ≡ first.entry.message
+    pub is : q ≡ prioritized first
 
-  pub is-first : (m : Message) → next_candidate core qs rs ≡ Some m → IsFirst m
-  is-first m e = go (has_room core.limit (length rs) 0) refl (candidates rs waits) refl e
+  pub is-first : (q : Prioritized) → next_candidate core qs rs ≡ Some q → IsFirst q
+  is-first q e = go (has_room core.limit (length rs) 0) refl (candidates rs waits) refl e
     where
-      go : (b : Bool) → has_room core.limit (length rs) 0 ≡ b → (cs : List (Frozen Message)) → candidates rs waits ≡ cs → (if b then option_map (λ z. z.entry.message) (first_of cs) else None) ≡ Some m → IsFirst m
+      go : (b : Bool) → has_room core.limit (length rs) 0 ≡ b → (cs : List (Frozen Message)) → candidates rs waits ≡ cs → (if b then option_map prioritized (first_of cs) else None) ≡ Some q → IsFirst q
       go true r [] c k = absurd (cc)
-      go true r (z ∷ zs) c k = record { first = z; others = zs; room = r; are = c; message = let is : z.entry.message ≡ m = cc in sym is }
+      go true r (z ∷ zs) c k = record { first = z; others = zs; room = r; are = c; is = let same : prioritized z ≡ q = cc in sym same }
       go false r cs c k = absurd (cc)
 
   pub none-left : next_candidate core qs rs ≡ None → IsNoneLeft (has_room core.limit (length rs) 0) (candidates rs waits)
   none-left e = go (has_room core.limit (length rs) 0) (candidates rs waits) e
     where
-      go : (b : Bool) (cs : List (Frozen Message)) → (if b then option_map (λ z. z.entry.message) (first_of cs) else None) ≡ None → IsNoneLeft b cs
+      go : (b : Bool) (cs : List (Frozen Message)) → (if b then option_map prioritized (first_of cs) else None) ≡ None → IsNoneLeft b cs
       go true [] k = refl
       go true (z ∷ zs) k = absurd (cc)
       go false cs k = tt
@@ -99,10 +99,10 @@ module _ {O : Type 0} (core : CoreWorld O) (qs : List (QueueEvent Message)) (rs 
       go [] k = left (has_room core.limit (length rs) 0)
       go (z ∷ ws) k = absurd (omega (arith, k))
 
-  pub fewer-wait : (m : Message) → IsFirst m → length (waiting same_message core.debounce (qs ++ Took m ∷ [])) + 1 ≤ length waits
-  fewer-wait m f =
-      let there = ap (λ n. list_any (λ y. same_message n y.entry.message) waits) f.message ∙ among rs waits f.first f.others f.are in
-      subst (λ ws. length ws + 1 ≤ length waits) (sym (waiting-took core.debounce qs m)) (one-less m waits there)
+  pub fewer-wait : (q : Prioritized) → IsFirst q → length (waiting same_message core.debounce (qs ++ Took q.message ∷ [])) + 1 ≤ length waits
+  fewer-wait q f =
+      let there = ap (λ (z : Prioritized). list_any (λ y. same_message z.message y.entry.message) waits) f.is ∙ among rs waits f.first f.others f.are in
+      subst (λ ws. length ws + 1 ≤ length waits) (sym (waiting-took core.debounce qs q.message)) (one-less q.message waits there)
 
 -- One after another.
 
@@ -131,11 +131,11 @@ module _ {O : Type 0} (limit : ℕ) where
   abbrev pub AreTakenTo : List (Frozen Message) → List (Running O) → List (Taken O) → List (Frozen Message) → List (Running O) → Type 0
   AreTakenTo ws rs [] ws' rs' = (ws' ≡ ws) × (rs' ≡ rs)
   AreTakenTo ws rs (t ∷ ts) ws' rs' =
-      (z : Frozen Message) × (zs : List (Frozen Message)) × (has_room limit (length rs) 0 ≡ true) × (candidates rs ws ≡ z ∷ zs) × (t.message ≡ z.entry.message)
+      (z : Frozen Message) × (zs : List (Frozen Message)) × (has_room limit (length rs) 0 ≡ true) × (candidates rs ws ≡ z ∷ zs) × (taken_for t ≡ prioritized z)
       × AreTakenTo (without z.entry.message ws) (rs ++ cons_option (started t) []) ts ws' rs'
 
   pub taken-more : (ws : List (Frozen Message)) (rs : List (Running O)) (ts : List (Taken O)) (ws' : List (Frozen Message)) (rs' : List (Running O)) (t : Taken O) (z : Frozen Message) (zs : List (Frozen Message))
-      → AreTakenTo ws rs ts ws' rs' → has_room limit (length rs') 0 ≡ true → candidates rs' ws' ≡ z ∷ zs → t.message ≡ z.entry.message
+      → AreTakenTo ws rs ts ws' rs' → has_room limit (length rs') 0 ≡ true → candidates rs' ws' ≡ z ∷ zs → taken_for t ≡ prioritized z
       → AreTakenTo ws rs (ts ++ t ∷ []) (without z.entry.message ws') (rs' ++ cons_option (started t) [])
   taken-more ws rs [] ws' rs' t z zs k room are is = (
     z,
@@ -164,7 +164,7 @@ module _ {O : Type 0} (limit : ℕ) where
     k.1,
     k.2,
     k.3,
-    ap₂ (λ m o. record { message = m; object = o }) k.4 (sym l.0 ∙ ap (look n) k.4),
+    ap₂ (λ (q : Prioritized) o. taken_as q o) k.4 (sym l.0 ∙ ap (λ (q : Prioritized). look n q.message) k.4),
     taken-end look (n + 1) (without k.0.entry.message ws) (rs ++ cons_option (started t) []) ts ws' rs' l.1 k.5 none,
   )
 
@@ -172,7 +172,7 @@ module _ {O : Type 0} (limit : ℕ) where
       → IsNoneLeft (has_room limit (length rs') 0) (candidates rs' ws') → AreAllTaken limit ws rs ts
   taken-all ws rs ts ws' rs' k none = taken-end (look_so (found ts)) 0 ws rs ts ws' rs' (looks-from [] ts) k none
 
-  none-found : (ms : List Message) → found_so {O = O} [] ms ≡ []
+  none-found : (ms : List Prioritized) → found_so {O = O} [] ms ≡ []
   none-found [] = refl
   none-found (m ∷ ms) = refl
 
@@ -183,19 +183,19 @@ module _ {O : Type 0} (limit : ℕ) where
   first-from base ws rs (t ∷ ts) ws' rs' n e once (z, zs, room, cands, is, rest) =
       whole (λ d f. first-from base (without z.entry.message ws) (rs ++ cons_option (started t) []) ts ws' rs' d f (once-without z.entry.message ws once) rest)
     where
-      taken : Message → Taken O
-      taken m = record { message = m; object = t.object }
+      taken : Prioritized → Taken O
+      taken q = taken_as q t.object
 
       here : has_room limit base n ≡ true
       here = sym (ap (λ c. has_room limit c 0) e ∙ room-shift limit base n) ∙ room
 
       left : candidates (rs ++ cons_option (started t) []) (without z.entry.message ws) ≡ zs
-      left = rest-left rs (cons_option (started t) []) ws z zs once cands (λ r h. more-is limit (λ k m. t.object) 0 z.entry.message r (ap (λ m. runs (cons_option (started (taken m)) []) r) (sym is) ∙ h))
+      left = rest-left rs (cons_option (started t) []) ws z zs once cands (λ r h. more-is limit (λ k m. t.object) 0 (prioritized z) r (ap (λ q. runs (cons_option (started (taken q)) []) r) (sym is) ∙ h))
 
       len : length (rs ++ cons_option (started t) []) ≡ base + (n + (if is_some t.object then 1 else 0))
       len =
           let a : length (rs ++ cons_option (started t) []) ≡ length rs + length (cons_option (started t) []) = length-append rs (cons_option (started t) []) in
-          let b : length (cons_option (started t) []) ≡ (if is_some t.object then 1 else 0) = more-len t.message t.object in
+          let b : length (cons_option (started t) []) ≡ (if is_some t.object then 1 else 0) = more-len t.message t.priority t.object in
           omega (arith, a, b, e)
 
       again : Type 0
@@ -206,7 +206,7 @@ module _ {O : Type 0} (limit : ℕ) where
       whole : again → within_room limit base n (found_so (found (t ∷ ts)) (messages (candidates rs ws))) ≡ t ∷ ts
       whole r =
           ap (λ cs. within_room limit base n (found_so (found (t ∷ ts)) (messages cs))) cands
-          ∙ (ap (λ b. (if b then taken z.entry.message ∷ [] else []) ++ within_room limit base (found_with n t.object) (found_so (found ts) (messages zs))) here
+          ∙ (ap (λ b. (if b then taken (prioritized z) ∷ [] else []) ++ within_room limit base (found_with n t.object) (found_so (found ts) (messages zs))) here
           ∙ ap₂ (λ u us. u ∷ us) (ap taken (sym is)) (ap (λ cs. within_room limit base (found_with n t.object) (found_so (found ts) (messages cs))) (sym left) ∙ r (found_with n t.object) len))
 
   pub taken-first : (ws : List (Frozen Message)) (rs : List (Running O)) (ts : List (Taken O)) (ws' : List (Frozen Message)) (rs' : List (Running O)) → HasEachOnce same_message ws → AreTakenTo ws rs ts ws' rs' → AreFirstTaken true limit ws rs ts
@@ -218,7 +218,7 @@ module _ {O : Type 0} (limit : ℕ) where
   taken-to look n ws rs [] k = (ws, rs, (refl, refl))
   taken-to look n ws rs (t ∷ ts) (z, zs, room, cands, is, rest) =
       let p = taken-to look (n + 1) (without z.entry.message ws) (rs ++ cons_option (started t) []) ts rest in
-      (p.0, p.1, (z, zs, room, cands, ap (λ (u : Taken O). u.message) is, p.2))
+      (p.0, p.1, (z, zs, room, cands, ap (λ (u : Taken O). taken_for u) is, p.2))
 
   pub all-first : (ws : List (Frozen Message)) (rs : List (Running O)) (ts : List (Taken O)) → HasEachOnce same_message ws → AreAllTaken limit ws rs ts → AreFirstTaken true limit ws rs ts
   all-first ws rs ts once k =
@@ -257,15 +257,15 @@ module _ {O D : Type 0} (object : resource.Ghosts O D) (core : CoreWorld O) (qs 
   pub gone-more : (ts : List (Taken O)) (p : Pending O D) (mid : Reader O) (t : Taken O) (p' : Pending O D) (new : Reader O) → HaveGone ts p mid
       → IsTake object core (qs ++ took ts) (rs ++ filter_map started ts) (Some t) p' mid new → HaveGone (ts ++ t ∷ []) p' new
   gone-more ts p mid t p' new g k =
-      let first = is-first core (qs ++ took ts) (rs ++ filter_map started ts) t.message k.0 in
+      let first = is-first core (qs ++ took ts) (rs ++ filter_map started ts) (taken_for t) k.0 in
       let q : (qs ++ took ts) ++ Took t.message ∷ [] ≡ qs ++ took (ts ++ t ∷ []) =
       append_assoc qs (took ts) (Took t.message ∷ []) ∙ ap (λ es. qs ++ es) (sym (map-append (λ (u : Taken O). Took u.message) ts (t ∷ []))) in
       let r : (rs ++ filter_map started ts) ++ cons_option (started t) [] ≡ rs ++ filter_map started (ts ++ t ∷ []) =
       append_assoc rs (filter_map started ts) (cons_option (started t) []) ∙ ap (λ us. rs ++ us) (sym (filter_map-append started ts (t ∷ []))) in
-      let more = taken-more core.limit (waiting same_message core.debounce qs) rs ts (waiting same_message core.debounce (qs ++ took ts)) (rs ++ filter_map started ts) t first.first first.others g.gone first.room first.are first.message in
+      let more = taken-more core.limit (waiting same_message core.debounce qs) rs ts (waiting same_message core.debounce (qs ++ took ts)) (rs ++ filter_map started ts) t first.first first.others g.gone first.room first.are first.is in
       let left : without first.first.entry.message (waiting same_message core.debounce (qs ++ took ts)) ≡ waiting same_message core.debounce (qs ++ took (ts ++ t ∷ [])) =
-      ap (λ m. without m (waiting same_message core.debounce (qs ++ took ts))) (sym first.message) ∙ (sym (waiting-took core.debounce (qs ++ took ts) t.message) ∙ ap (waiting same_message core.debounce) q) in
-      let less = fewer-wait core (qs ++ took ts) (rs ++ filter_map started ts) t.message first in
+      ap (λ (q : Prioritized). without q.message (waiting same_message core.debounce (qs ++ took ts))) (sym first.is) ∙ (sym (waiting-took core.debounce (qs ++ took ts) t.message) ∙ ap (waiting same_message core.debounce) q) in
+      let less = fewer-wait core (qs ++ took ts) (rs ++ filter_map started ts) (taken_for t) first in
       let n = length-append ts (t ∷ []) in
       let before = g.fewer in
       record {
@@ -286,21 +286,21 @@ module _ {O D : Type 0} (object : resource.Ghosts O D) (core : CoreWorld O) (qs 
       taken-all core.limit (waiting same_message core.debounce qs) rs ts (waiting same_message core.debounce (qs ++ took ts)) (rs ++ filter_map started ts) g.gone none
 
   -- the first candidate of what is left was to be taken next, whatever its look-up would have answered
-  next-taken : (ts : List (Taken O)) (p : Pending O D) (mid : Reader O) → HaveGone ts p mid → (m : Message) → next_candidate core (qs ++ took ts) (rs ++ filter_map started ts) ≡ Some m
-      → IsTakenNext true core.limit (waiting same_message core.debounce qs) rs ts m
-  next-taken ts p mid g m e found =
-      let t : Taken O = record { message = m; object = found } in
-      let first = is-first core (qs ++ took ts) (rs ++ filter_map started ts) m e in
-      let more = taken-more core.limit (waiting same_message core.debounce qs) rs ts (waiting same_message core.debounce (qs ++ took ts)) (rs ++ filter_map started ts) t first.first first.others g.gone first.room first.are first.message in
+  next-taken : (ts : List (Taken O)) (p : Pending O D) (mid : Reader O) → HaveGone ts p mid → (q : Prioritized) → next_candidate core (qs ++ took ts) (rs ++ filter_map started ts) ≡ Some q
+      → IsTakenNext true core.limit (waiting same_message core.debounce qs) rs ts q
+  next-taken ts p mid g q e found =
+      let t : Taken O = taken_as q found in
+      let first = is-first core (qs ++ took ts) (rs ++ filter_map started ts) q e in
+      let more = taken-more core.limit (waiting same_message core.debounce qs) rs ts (waiting same_message core.debounce (qs ++ took ts)) (rs ++ filter_map started ts) t first.first first.others g.gone first.room first.are first.is in
       taken-first core.limit (waiting same_message core.debounce qs) rs (ts ++ t ∷ []) (without first.first.entry.message (waiting same_message core.debounce (qs ++ took ts))) ((rs ++ filter_map started ts) ++ cons_option (started t) []) (waits-once core.debounce qs) more
 
   -- and where memory was wanting they are those taken first
-  pub first-taken : (ts : List (Taken O)) (p : Pending O D) (mid new : Reader O) → HaveGone ts p mid → IsLater mid new → (m : Message) → next_candidate core (qs ++ took ts) (rs ++ filter_map started ts) ≡ Some m
+  pub first-taken : (ts : List (Taken O)) (p : Pending O D) (mid new : Reader O) → HaveGone ts p mid → IsLater mid new → (q : Prioritized) → next_candidate core (qs ++ took ts) (rs ++ filter_map started ts) ≡ Some q
       → HaveTakenFirst object.meta_of core true qs rs ts old new
-  first-taken ts p mid new g later m e = record {
+  first-taken ts p mid new g later q e = record {
     taken = taken-first core.limit (waiting same_message core.debounce qs) rs ts (waiting same_message core.debounce (qs ++ took ts)) (rs ++ filter_map started ts) (waits-once core.debounce qs) g.gone;
-    next = m;
-    is_next = next-taken ts p mid g m e;
+    next = q;
+    is_next = next-taken ts p mid g q e;
     found_by = mid;
     looked_up = g.looked_up;
     later = later;
@@ -308,10 +308,10 @@ module _ {O D : Type 0} (object : resource.Ghosts O D) (core : CoreWorld O) (qs 
 
   -- the first candidate was taken, with what was found of it
   pub took-found : (found : Option O) (taken : Option (Taken O)) (p' : Pending O D) (new : Reader O) → IsLookedUp object core qs rs (Some found) old new
-      → taken ≡ option_map (λ (m : Message). record { message = m; object = found }) (next_candidate core qs rs)
+      → taken ≡ option_map (λ (q : Prioritized). taken_as q found) (next_candidate core qs rs)
       → Stands object.type_of core p' (qs ++ queue_with core (CoreTook 0 taken)) (running_with rs (CoreTook 0 taken)) → IsTake object core qs rs taken p' old new
   took-found found taken p' new k first stands =
-      let is : taken ≡ Some (record { message = k.0; object = found }) = first ∙ ap (option_map (λ (m : Message). record { message = m; object = found })) k.1 in
+      let is : taken ≡ Some (taken_as k.0 found) = first ∙ ap (option_map (λ (q : Prioritized). taken_as q found)) k.1 in
       subst (λ o. IsTake object core qs rs o p' old new) (sym is) (
         k.1,
         subst (λ o. Stands object.type_of core p' (qs ++ queue_with core (CoreTook 0 o)) (running_with rs (CoreTook 0 o))) is stands,

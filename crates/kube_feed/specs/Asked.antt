@@ -1,7 +1,7 @@
 -- Asks of a turn, one after another, each of which requests. R is the type of a controller's root, S that of its related sources, B that of its backoff's states, O that of objects and D that of their dynamic types.
 use Rattle.std.specs.Prelude.{◌≡◌, false, List, [], ◌∷◌, ◌++◌, Option, Some, None}
 use Rattle.kube_meta.specs.declared.resource.Resource as resource
-use Rattle.kube_model.specs.World.{World}
+use Rattle.kube_model.specs.World.{World, priority_of}
 use Rattle.kube_model.specs.History.{Exchange, Message, Turn, Step, dated, exchanges, exchanges_with, exchanges_of}
 use Rattle.kube_model.specs.Queue.{QueueEvent}
 use Rattle.kube_model.specs.Requests.{requests_of_exchanges}
@@ -15,7 +15,7 @@ use Rattle.kube_backoff.specs.declared.backoff.Backoff as backoff
 use Rattle.kube_core.specs.Pendings.{Parts as Pending, Stands as PendingStands}
 use Rattle.kube_asks.specs.declared.asks.AskFault.{AskFault}
 use Rattle.kube_asks.specs.declared.asks.AskFault.TheVariants as faults
-use Rattle.kube_asks.specs.Asking.{Asking, IsPolledAt}
+use Rattle.kube_asks.specs.Asking.{Asking, IsPolledAt, IsPolledWith, IsPlacePolledWith}
 use Rattle.kube_asks.specs.declared.root.RootSource as root_source
 use Rattle.kube_asks.specs.declared.set.RelatedSet as related_set
 use Rattle.kube_step.specs.Asked.{NamesObjects, AreCutOff, IsCutEarly, IsLostNext, IsUnnamedNext}
@@ -43,7 +43,7 @@ module _ {R S B O D : Type 0} (root : root_source.Ghosts R O D) (related : relat
   pub record IsOneAsk (xs : List (Exchange O)) (a : Asking R S B) (x : Exchange O) (a' : Asking R S B) (p' : Pending O D) : Type 0 where
     pub next : IsNext w h t xs x
     pub is_named : RootIsNamed w x.source (exchanges_of x.source (exchanges_with h t xs)) x
-    pub polled : IsPolledAt root.polls related.polls (exchanges_with h t xs) t.at x a.root a.related a'.root a'.related x.source
+    pub polled : IsPolledAt (IsPolledWith (priority_of w 0) root.polls) (IsPlacePolledWith w.priorities related.polls) (exchanges_with h t xs) t.at x a.root a.related a'.root a'.related x.source
     pub may : MayAsk (xs ++ x ∷ []) a' p'
 
   -- or none is left to make
@@ -55,5 +55,5 @@ module _ {R S B O D : Type 0} (root : root_source.Ghosts R O D) (related : relat
   pub record AreAsked (a : Asking R S B) (xs : List (Exchange O)) (a' : Asking R S B) (p' : Pending O D) : Type 0 where
     pub asked : EachIsNext w h t [] xs
     pub each_named : EachIsNamed w (RootIsNamed w) h t [] xs
-    pub polled : ArePolled root.polls related.polls (exchanges h) a.root a.related (dated t.at xs) a'.root a'.related
+    pub polled : ArePolled (IsPolledWith (priority_of w 0) root.polls) (IsPlacePolledWith w.priorities related.polls) (exchanges h) a.root a.related (dated t.at xs) a'.root a'.related
     pub may : MayAsk xs a' p'

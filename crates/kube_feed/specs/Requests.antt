@@ -3,15 +3,15 @@ use Rattle.std.specs.Prelude.{ℕ, Bool, List, [], map, Option, Some, None, if�
 use Rattle.std.specs.List.{flat_map}
 use Rattle.kube_meta.specs.Reference.{ObjectType, Reference, reference_before}
 use Rattle.kube_model.specs.Reason.{Unknown}
-use Rattle.kube_model.specs.History.{Message, Finished}
+use Rattle.kube_model.specs.History.{Finished, Named, Prioritized}
 use Rattle.kube_model.specs.Queue.{sorted_by}
 use Rattle.kube_model.specs.Requests.{Timed, requested_at, requests_of_finish}
 use Rattle.kube_history.specs.CoreEvents.{action_requests}
 use Rattle.kube_core.specs.Cores.{in_bulk}
 
--- a message that names a reference
-abbrev pub by_name : Reference → Message
-by_name r = record { reference = r; reason = Unknown }
+-- a request that names a reference
+abbrev pub by_name : Named → Prioritized
+by_name n = record { message = record { reference = n.reference; reason = Unknown }; priority = n.priority }
 
 -- the same reference of an object of this type
 abbrev pub typed_as : ObjectType → Reference → Reference
@@ -22,8 +22,8 @@ abbrev pub bulk_requests : {O : Type 0} → (O → Reference) → ℕ → Option
 bulk_requests key at None = []
 bulk_requests key at (Some os) = map (requested_at at) (map in_bulk (sorted_by reference_before (map key os)))
 
-abbrev pub name_requests : ℕ → List Reference → List Timed
-name_requests at references = map (requested_at at) (map by_name references)
+abbrev pub name_requests : ℕ → List Named → List Timed
+name_requests at named = map (requested_at at) (map by_name named)
 
 -- the end of a reconcile requests its reference again where its action asks for that, and not in a turn that is closed
 abbrev pub ended_requests : Bool → ℕ → Reference → Bool → Option ℕ → List Timed

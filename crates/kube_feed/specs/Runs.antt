@@ -3,7 +3,7 @@ use Rattle.std.specs.Prelude.{◌≡◌, false, List, [], ◌∷◌, ◌++◌, m
 use Rattle.kube_meta.specs.declared.action.Action.{Action}
 use Rattle.kube_meta.specs.Reference.{ObjectType, Reference}
 use Rattle.kube_meta.specs.declared.resource.Resource as resource
-use Rattle.kube_model.specs.World.{World}
+use Rattle.kube_model.specs.World.{World, priority_of}
 use Rattle.kube_model.specs.History.{Taken, Turn, TurnRecord, Step, dated, exchanges}
 use Rattle.kube_model.specs.Named.{RootIsNamed, EachIsNamed, AreNamedTurns}
 use Rattle.kube_model.specs.Raw.{grown_by}
@@ -19,6 +19,7 @@ use Rattle.kube_asks.specs.declared.set.RelatedSet as related_set
 use Rattle.kube_turn.specs.declared.turn.Turn.{Turn as HeldTurn}
 use Rattle.kube_turn.specs.declared.record.TurnRecord.{TurnRecord as HeldRecord}
 use Rattle.kube_turn.specs.Records.{records_of, turn_of, turns_of}
+use Rattle.kube_asks.specs.Asking.{IsPolledWith, IsPlacePolledWith}
 use Rattle.kube_step.specs.Calls.{ArePolled, dated_in}
 use Rattle.kube_step.specs.Finishes.{AreFinished}
 use Rattle.kube_step.specs.HandOvers.{handed_by, taken_by}
@@ -52,14 +53,14 @@ module _ {R S B O D : Type 0} (root : root_source.Ghosts R O D) (related : relat
   pub record IsNextTurn (h : List (Step O)) (t : Turn) (c : Feeding R S B O D) (m : Made O) (c' : Feeding R S B O D) : Type 0 where
     pub recorded : IsRecord w (answered_in m.0.finished) h t m
     pub each_named : EachIsNamed w (RootIsNamed w) h t [] m.0.exchanges
-    pub polled : ArePolled root.polls related.polls (exchanges h) c.asks.root c.asks.related (dated m.0.at m.0.exchanges) c'.asks.root c'.asks.related
+    pub polled : ArePolled (IsPolledWith (priority_of w 0) root.polls) (IsPlacePolledWith w.priorities related.polls) (exchanges h) c.asks.root c.asks.related (dated m.0.at m.0.exchanges) c'.asks.root c'.asks.related
     pub stands : StandsFor root related delays object w (h ++ step t m ∷ []) c'
 
   -- these turns made this, with what the error policy answered, and it is their trace; all exchanges came with their names, and nothing else was asked
   pub record HaveRun (h : List (Step O)) (ts : List Turn) (c : Feeding R S B O D) (ms : List (Made O)) (c' : Feeding R S B O D) : Type 0 where
     pub traced : IsTrace w (answered_by (records_in ms)) h ts ms
     pub all_named : AreNamedTurns w (RootIsNamed w) h (steps ts ms)
-    pub polled : ArePolled root.polls related.polls (exchanges h) c.asks.root c.asks.related (dated_in (records_in ms)) c'.asks.root c'.asks.related
+    pub polled : ArePolled (IsPolledWith (priority_of w 0) root.polls) (IsPlacePolledWith w.priorities related.polls) (exchanges h) c.asks.root c.asks.related (dated_in (records_in ms)) c'.asks.root c'.asks.related
     pub stands : StandsFor root related delays object w (h ++ steps ts ms) c'
 
   -- so did the turns before one that is refused. It changed nothing and asked nothing
@@ -83,7 +84,7 @@ module _ {R S O D E : Type 0} (root : root_source.Ghosts R O D) (related : relat
     pub all_named : AreNamedTurns w (RootIsNamed w) h (steps (take (length ms) (turns_of object.type_of ts)) ms)
     pub reached_root : R
     pub reached_related : S
-    pub polled : ArePolled root.polls related.polls (exchanges h) c.asks.root c.asks.related (dated_in (records_in ms)) reached_root reached_related
+    pub polled : ArePolled (IsPolledWith (priority_of w 0) root.polls) (IsPlacePolledWith w.priorities related.polls) (exchanges h) c.asks.root c.asks.related (dated_in (records_in ms)) reached_root reached_related
     pub reached_reader : Reader O
     pub read : AreReadIn object.meta_of ms c.reader reached_reader
     pub turn : HeldTurn O E D

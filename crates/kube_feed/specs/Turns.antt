@@ -5,9 +5,9 @@ use Rattle.kube_meta.specs.declared.action.Action.{Action}
 use Rattle.kube_meta.specs.Reference.{Reference}
 use Rattle.kube_meta.specs.declared.metadata.ObjectMeta.{ObjectMeta}
 use Rattle.kube_meta.specs.declared.resource.Resource as resource
-use Rattle.kube_model.specs.World.{World}
+use Rattle.kube_model.specs.World.{World, priority_of}
 use Rattle.kube_model.specs.Reads.{Reads, Readiness, is_told_ready}
-use Rattle.kube_model.specs.History.{Exchange, Finished, Message, same_message, Taken, Turn, Step, dated, exchanges, exchanges_with}
+use Rattle.kube_model.specs.History.{Exchange, Finished, Message, same_message, Taken, Turn, Step, dated, exchanges, exchanges_with, Prioritized}
 use Rattle.kube_model.specs.Named.{RootIsNamed, EachIsNamed}
 use Rattle.kube_model.specs.Pause.{gave_up}
 use Rattle.kube_model.specs.Queue.{QueueEvent, Settled, Frozen, waiting}
@@ -25,7 +25,7 @@ use Rattle.kube_reflect.specs.Writers.{Reader}
 use Rattle.kube_core.specs.Pendings.{Parts as Pending, Stands as PendingStands}
 use Rattle.kube_turn.specs.declared.turn.Turn.{Turn as HeldTurn}
 use Rattle.kube_turn.specs.Records.{turn_of}
-use Rattle.kube_asks.specs.Asking.{Asking}
+use Rattle.kube_asks.specs.Asking.{Asking, IsPolledWith, IsPlacePolledWith}
 use Rattle.kube_asks.specs.declared.asks.AskFault.{AskFault}
 use Rattle.kube_asks.specs.declared.asks.AskFault.TheVariants as faults
 use Rattle.kube_asks.specs.declared.root.RootSource as root_source
@@ -40,6 +40,7 @@ use Rattle.kube_feed.specs.Asked.{AreEndedBy, MayAsk}
 use Rattle.kube_feed.specs.Fed.{PartsStand}
 use Rattle.kube_feed.specs.Reads.{AreFound, AreListed, IsLater, IsReadFirst, IsTold}
 use Rattle.kube_feed.specs.Requests.{bulk_requests, name_requests}
+use Rattle.kube_feed.specs.Takes.{taken_as}
 
 -- the requests of a turn that come before its asks: of a reload that found these objects, and those that name references
 abbrev pub first_requests : {O : Type 0} → (O → Reference) → Turn → Reads O → List Timed
@@ -63,8 +64,8 @@ abbrev pub AreFirstTaken : {O : Type 0} → Bool → ℕ → List (Frozen Messag
 AreFirstTaken takes limit ws rs ts = (if takes then taken_of limit (found_so (map (λ t. t.object) ts)) rs ws else []) ≡ ts
 
 -- so were these, and then this message was to be taken, whatever its look-up would have answered
-abbrev pub IsTakenNext : {O : Type 0} → Bool → ℕ → List (Frozen Message) → List (Running O) → List (Taken O) → Message → Type 0
-IsTakenNext {O} takes limit ws rs ts m = (found : Option O) → AreFirstTaken takes limit ws rs (ts ++ record { message = m; object = found } ∷ [])
+abbrev pub IsTakenNext : {O : Type 0} → Bool → ℕ → List (Frozen Message) → List (Running O) → List (Taken O) → Prioritized → Type 0
+IsTakenNext {O} takes limit ws rs ts q = (found : Option O) → AreFirstTaken takes limit ws rs (ts ++ taken_as q found ∷ [])
 
 -- takes of what waits and runs, and what they leave
 pub record HaveTaken {K D : Type 0} (object : resource.Ghosts K D) (core : CoreWorld K) (takes : Bool) (qs : List (QueueEvent Message)) (rs : List (Running K)) (ts : List (Taken K)) (p' : Pending K D) : Type 0 where
@@ -74,7 +75,7 @@ pub record HaveTaken {K D : Type 0} (object : resource.Ghosts K D) (core : CoreW
 -- takes made first of what waits and runs, one read for each, and what was to be taken next; the reader has read no less since
 pub record HaveTakenFirst {K : Type 0} (meta : K → ObjectMeta) (core : CoreWorld K) (takes : Bool) (qs : List (QueueEvent Message)) (rs : List (Running K)) (ts : List (Taken K)) (old new : Reader K) : Type 0 where
   pub taken : AreFirstTaken takes core.limit (waiting same_message core.debounce qs) rs ts
-  pub next : Message
+  pub next : Prioritized
   pub is_next : IsTakenNext takes core.limit (waiting same_message core.debounce qs) rs ts next
   pub found_by : Reader K
   pub looked_up : AreFound meta ts old found_by
@@ -108,8 +109,8 @@ module _ {O B : Type 0} (w : World O B) (h : List (Step O)) (t : Turn) where
 module _ {O D E B : Type 0} (object : resource.Ghosts O D) (policy : O → E → Action → Type 0) (w : World O B) (h : List (Step O)) (t : HeldTurn O E D) where
   -- more than these takes was to be done: one more take, whatever its look-up would have answered; or what the turn shows was to be read
   pub data IsMoreLeft (fs : List Finished) (xs : List (Exchange O)) (ts : List (Taken O)) (r : Reads O) : Type 0 where
-    TakeIsLeft : (m : Message)
-        → ((found : Option O) → taken_in w h (turn_of object.type_of t) (record r { looked_up = r.looked_up ++ found ∷ [] }) fs xs ≡ ts ++ record { message = m; object = found } ∷ []) → IsMoreLeft fs xs ts r
+    TakeIsLeft : (q : Prioritized)
+        → ((found : Option O) → taken_in w h (turn_of object.type_of t) (record r { looked_up = r.looked_up ++ found ∷ [] }) fs xs ≡ ts ++ taken_as q found ∷ []) → IsMoreLeft fs xs ts r
     ShowIsLeft : t.show ≡ true → IsMoreLeft fs xs ts r
 
   -- takes that a turn makes first after these exchanges, by what the error policy answered for its finishes and by what was read for it so far; and more was left
@@ -152,7 +153,7 @@ module _ {R S B O D : Type 0} (root : root_source.Ghosts R O D) (related : relat
     pub listed : AreListed object.meta_of found p.reader p'.reader
     pub asked : EachIsNext w h t [] xs
     pub each_named : EachIsNamed w (RootIsNamed w) h t [] xs
-    pub polled : ArePolled root.polls related.polls (exchanges h) a.root a.related (dated t.at xs) a'.root a'.related
+    pub polled : ArePolled (IsPolledWith (priority_of w 0) root.polls) (IsPlacePolledWith w.priorities related.polls) (exchanges h) a.root a.related (dated t.at xs) a'.root a'.related
     pub done : next_source w h t xs ≡ None
     pub world : IsWorldOfAsks root related delays object w a'
     pub asks_stand : AsksStand root related delays object w t.budget (exchanges h) (dated t.at xs) a'
@@ -165,5 +166,5 @@ module _ {R S B O D : Type 0} (root : root_source.Ghosts R O D) (related : relat
   pub record IsTaken (a : Asking R S B) (m : Made O) (a' : Asking R S B) (p' : Parts O D) : Type 0 where
     pub recorded : IsRecord w (answered_in m.0.finished) h t m
     pub each_named : EachIsNamed w (RootIsNamed w) h t [] m.0.exchanges
-    pub polled : ArePolled root.polls related.polls (exchanges h) a.root a.related (dated t.at m.0.exchanges) a'.root a'.related
+    pub polled : ArePolled (IsPolledWith (priority_of w 0) root.polls) (IsPlacePolledWith w.priorities related.polls) (exchanges h) a.root a.related (dated t.at m.0.exchanges) a'.root a'.related
     pub parts : PartsStand root related delays object w (h ++ step t m ∷ []) a' p'

@@ -7,7 +7,7 @@ ghost use Rattle.kube_model.specs.Requests.{requested_at};
 ghost use Rattle.kube_model.specs.Takes.{Running};
 ghost use Rattle.kube_history.specs.CoreWorld.{CoreWorld};
 ghost use Rattle.kube_history.specs.TurnCalls.{with_requests};
-ghost use Rattle.kube_turn.specs.Views.{message_of};
+ghost use Rattle.kube_turn.specs.Views.{prioritized_of};
 ghost use Rattle.kube_core.specs.Pendings.{Stands};
 
 use kube_core::Pending;
@@ -28,7 +28,7 @@ pub fn request_all<K: Resource>(
     now: Moment,
 ) -> Result<(), NoMemory>
     ensures { OnOk result ((core : CoreWorld K) (qs : List (QueueEvent Message)) (rs : List (Running K)) → Stands K.type_of core pending.old qs rs
-        → Stands K.type_of core pending.new (with_requests qs now.0 (map (requested_at now.0) (map (message_of K.type_of) requests.items))) rs) }
+        → Stands K.type_of core pending.new (with_requests qs now.0 (map (requested_at now.0) (map (prioritized_of K.type_of) requests.items))) rs) }
 {
     pending.reserve(alloc, requests.len())?;
     request_each(pending, requests, now);

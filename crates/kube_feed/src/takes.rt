@@ -34,17 +34,18 @@ fn next_object<K: Resource, W: Wait>(
     rt: &W,
     alloc: Global,
     reader: &mut Store<K>,
-    pending: &Pending<K>,
+    pending: &mut Pending<K>,
 ) -> Result<Option<Option<Arc<K>>>, NoMemory>
     ensures same { IsLater reader.old reader.new }
-    ensures looked_up { IfOk result (λ o. (core : CoreWorld K) (qs : List (QueueEvent Message)) (rs : List (Running K)) → Stands K.type_of core pending.now qs rs
+    ensures pending { pending.new ≡ pending.old }
+    ensures looked_up { IfOk result (λ o. (core : CoreWorld K) (qs : List (QueueEvent Message)) (rs : List (Running K)) → Stands K.type_of core pending.old qs rs
         → IsLookedUp K.Resource core qs rs (option_map (option_map arc_value) o) reader.old reader.new) }
-    ensures wanted { OnErr result ((core : CoreWorld K) (qs : List (QueueEvent Message)) (rs : List (Running K)) → Stands K.type_of core pending.now qs rs → is_some (next_candidate core qs rs) ≡ true) }
+    ensures wanted { OnErr result ((core : CoreWorld K) (qs : List (QueueEvent Message)) (rs : List (Running K)) → Stands K.type_of core pending.old qs rs → is_some (next_candidate core qs rs) ≡ true) }
 {
-    let Some(request) = pending.candidate() else {
+    let Some(reference) = pending.candidate(alloc)? else {
         return Ok(None);
     };
-    let found = reader.get(rt, alloc, &request.obj_ref)?;
+    let found = reader.get(rt, alloc, &reference)?;
     Ok(Some(found))
 }
 

@@ -3,7 +3,6 @@
 ghost use Rattle.std.specs.Prelude.{◌≡◌, ◌<◌, ◌+◌, ◌^◌, ◌++◌, ◌∷◌, ◌||◌, ◌==◌, ◌&&◌, [], ℕ, List, Option, length, map, IfOk, IfErr, OnOk, OnErr, None, true, false, is_some};
 ghost use Rattle.std.specs.Arc.{arc_value};
 ghost use Rattle.std.specs.List.{AllByRecursion, filter_map};
-ghost use Rattle.kube_meta.specs.Keys.{reference_of};
 ghost use Rattle.kube_model.specs.World.{World};
 ghost use Rattle.kube_model.specs.Reads.{Readiness, Reads, failure_in};
 ghost use Rattle.kube_model.specs.History.{Dated, Message, Step, Taken as PlainTaken, Turn as PlainTurn};
@@ -18,7 +17,7 @@ ghost use Rattle.kube_history.specs.TurnCalls.{with_requests};
 ghost use Rattle.kube_core.specs.Cores.{IsOfType};
 ghost use Rattle.kube_core.specs.Pendings.{Stands};
 ghost use Rattle.kube_turn.specs.Records.{record_of, turn_of};
-ghost use Rattle.kube_turn.specs.Views.{exchange_of, taken_of};
+ghost use Rattle.kube_turn.specs.Views.{exchange_of, named_of, taken_of};
 ghost use Rattle.kube_step.specs.Controllers.{AsksStand};
 ghost use Rattle.kube_step.specs.Errors.{IfUnnamedAsk};
 ghost use Rattle.kube_step.specs.Finishes.{AreFinished};
@@ -38,12 +37,12 @@ use crate::sources::ask_all;
 use crate::takes::take_all;
 use kube_asks::{AskFault, Asks, Backoff, RelatedSet, RootSource};
 use kube_core::Pending;
-use kube_meta::{Action, List, Moment, NoMemory, ObjectRef, Resource};
+use kube_meta::{Action, List, Moment, NoMemory, Resource};
 use kube_model::error::RunnerError;
 use kube_model::turn::Shutdown;
 use kube_reflect::Store;
 use kube_step::Reconciler;
-use kube_turn::{ReconcileRequest, SourceExchange, Taken, Turn, TurnRecord};
+use kube_turn::{Named, ReconcileRequest, SourceExchange, Taken, Turn, TurnRecord};
 use std::alloc::Global;
 use std::sync::{Arc, Wait};
 
@@ -72,17 +71,25 @@ fn request_first<K: Resource, W: Wait>(
     pending: &mut Pending<K>,
     dyntype: &K::DynamicType,
     reload: bool,
-    on: List<ObjectRef<K>>,
+    on: List<Named<K>>,
     at: Moment,
 ) -> Result<(), NoMemory>
     ensures same { IsLater reader.old reader.new }
     ensures requested { OnOk result ((found : _) × AreListed K.meta_of found reader.old reader.new × (is_some found ≡ reload)
         × ((core : CoreWorld K) (qs : List (QueueEvent Message)) (rs : List (Running K)) → IsOfType (K.type_of dyntype.now) K.meta_of core → Stands K.type_of core pending.old qs rs
-        → Stands K.type_of core pending.new (with_requests qs at.0 (bulk_requests core.key at.0 found ++ name_requests at.0 (map (reference_of K.type_of) on))) rs)) }
+        → Stands K.type_of core pending.new (with_requests qs at.0 (bulk_requests core.key at.0 found ++ name_requests at.0 (map (named_of K.type_of) on))) rs)) }
 {
     reload_where(rt, alloc, reader, pending, dyntype, reload, at)?;
-    for reference in Vec::from(on) {
-        pending.request(alloc, ReconcileRequest::from_ref(reference), at, at)?;
+    for named in Vec::from(on) {
+        let Named {
+            reference,
+            priority,
+        } = named;
+        let request = ReconcileRequest {
+            priority,
+            ..ReconcileRequest::from_ref(reference)
+        };
+        pending.request(alloc, request, at, at)?;
     }
     Ok(())
 }
@@ -195,7 +202,7 @@ fn ask_where<R, S, B, W>(
     asks: &mut Asks<R, S, B>,
     parts: &mut Parts<R::Object>,
     reload: bool,
-    on: List<ObjectRef<R::Object>>,
+    on: List<Named<R::Object>>,
     at: Moment,
 ) -> Result<List<SourceExchange<R::Object>>, AskFault>
 where
@@ -212,10 +219,10 @@ where
     ensures kind { R.kind asks.new.root ≡ R.kind asks.old.root }
     ensures same { IsLater parts.old.reader parts.new.reader }
     ensures closed { IfOk result (λ xs. goes_on ≡ false → (xs ≡ []) × (asks.new ≡ asks.old) × (parts.new ≡ parts.old)) }
-    ensures asked { IfOk result (λ xs. goes_on ≡ true → (w : World R.Object B) (h : List (Step R.Object)) (t : PlainTurn) (qs : List (QueueEvent Message)) → t.at ≡ at.0 → t.reload ≡ reload → t.on ≡ map (reference_of R.Object.type_of) on
+    ensures asked { IfOk result (λ xs. goes_on ≡ true → (w : World R.Object B) (h : List (Step R.Object)) (t : PlainTurn) (qs : List (QueueEvent Message)) → t.at ≡ at.0 → t.reload ≡ reload → t.on ≡ map (named_of R.Object.type_of) on
         → MayGoOn R.RootSource S.RelatedSet B.Backoff R.Object.Resource w h t qs asks.old parts.old
         → (found : Option (List R.Object)) × HasAsked R.RootSource S.RelatedSet B.Backoff R.Object.Resource w h t qs asks.old parts.old found (map (exchange_of R.Object.type_of) xs) asks.new parts.new) }
-    ensures ended { IfErr result (λ f. (goes_on ≡ true) × ((w : World R.Object B) (h : List (Step R.Object)) (t : PlainTurn) (qs : List (QueueEvent Message)) → t.at ≡ at.0 → t.reload ≡ reload → t.on ≡ map (reference_of R.Object.type_of) on
+    ensures ended { IfErr result (λ f. (goes_on ≡ true) × ((w : World R.Object B) (h : List (Step R.Object)) (t : PlainTurn) (qs : List (QueueEvent Message)) → t.at ≡ at.0 → t.reload ≡ reload → t.on ≡ map (named_of R.Object.type_of) on
         → MayGoOn R.RootSource S.RelatedSet B.Backoff R.Object.Resource w h t qs asks.old parts.old
         → AreEndedBy R.RootSource S.RelatedSet w h t f [] asks.old.root asks.old.related asks.new.root asks.new.related)) }
 {

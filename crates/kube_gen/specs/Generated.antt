@@ -108,7 +108,7 @@ abbrev pub never_idle : Settings
 never_idle = record default_settings { timeout = Some 0 }
 
 abbrev pub source_of : List (RawAnswer ObjectData) → List (Step ObjectData) → Source
-source_of lists steps = record { watcher = never_idle; lists = lists; watches = steps ∷ [] }
+source_of lists steps = record { watcher = never_idle; lists = lists; watches = steps ∷ []; priority = 0 }
 
 abbrev pub root_of : ℕ → ℕ → ℕ → Source
 root_of seed n count = source_of (pages_of Parents n) (change_steps seed n count)

@@ -46,6 +46,7 @@ fn source(
         watcher: WatcherConfig::default().timeout(0),
         lists,
         watches,
+        priority: 0,
     })
 }
 

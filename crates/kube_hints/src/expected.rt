@@ -32,6 +32,7 @@ const ENDS: &str = r#"/metadata/labels: an object whose members are texts
 /at: a whole number, 0 to 9223372036854775807
 /budget: an array of whole numbers, one for each source
 /budget/*: a whole number, 0 to 4294967295
+/priority: a whole number, 0 to 4294967295
 /shutdown: "no", "graceful" or "forced"
 /finishes: an array of objects with ref, and ok or err
 /finishes/*: an object with ref, and ok or err

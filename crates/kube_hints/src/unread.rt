@@ -128,7 +128,7 @@ pub fn find_unread(alloc: Global, script: &Value) -> Result<Unread, NoMemory> {
             &mut found,
             "/root",
             root,
-            &["lists", "watcher", "watches"],
+            &["lists", "priority", "watcher", "watches"],
         )?;
     }
     note_related(alloc, &mut found, items(script, "related"))?;
@@ -150,7 +150,7 @@ fn note_related(alloc: Global, found: &mut Unread, related: &[Value]) -> Result<
     for index in 0..related.len() {
         let place = in_item(alloc, "/related", index)?;
         let source = &related[index];
-        let names = ["kind", "lists", "map", "watcher", "watches"];
+        let names = ["kind", "lists", "map", "priority", "watcher", "watches"];
         note_source(alloc, found, &place, source, &names)?;
         note_kind(alloc, found, &place, source)?;
         note_member(alloc, found, &place, source, "map", &["label"])?;
@@ -323,7 +323,7 @@ fn note_references(
             found,
             &place,
             &references[index],
-            &["name", "namespace"],
+            &["name", "namespace", "priority"],
         )?;
     }
     Ok(())

@@ -6,7 +6,7 @@ use Rattle.std.proofs.lemmas.Grind.{flat_map-append}
 use Rattle.kube_meta.specs.Reference.{Reference, reference_before}
 use Rattle.kube_model.specs.Reason.{Reason, Unknown, BulkReconcile}
 use Rattle.kube_model.specs.World.{World}
-use Rattle.kube_model.specs.History.{Exchange, Outcome, Succeeded, Failed, Turn, Finished}
+use Rattle.kube_model.specs.History.{Exchange, Outcome, Succeeded, Failed, Turn, Finished, Named}
 use Rattle.kube_model.specs.Queue.{sorted_by, plus}
 use Rattle.kube_model.specs.Requests.{Timed, requested_at, retry_reason, asked_at, requests_of_action, requests_of_finish, requests_of_exchanges, named_requests, reload_requests, requests_of_turn}
 use Rattle.kube_history.specs.CoreEvents.{CoreEvent, Answered, Requested, Reloaded, Finished as Ended, Settled, Took, Shut, was_shut, queue_after, queue_by, requests_by, retry_of, action_requests, cache_of}
@@ -55,7 +55,7 @@ module _ (O : Type 0) where
   ask-reload at true = (refl, tt)
   ask-reload at false = tt
 
-  ask-named : (at : ℕ) (ns : List Reference) → AllByRecursion (IsAsk {O = O} at) (map (Requested at) ns)
+  ask-named : (at : ℕ) (ns : List Named) → AllByRecursion (IsAsk {O = O} at) (map (Requested at) ns)
   ask-named at [] = tt
   ask-named at (n ∷ ns) = (refl, ask-named at ns)
 
@@ -116,7 +116,7 @@ module _ {O : Type 0} (core : CoreWorld O) where
   asked-finish : (at : ℕ) (f : Finished) (a : Option ℕ) → action_requests at f.finish.reference (is_success f.finish.outcome) a ≡ requests_of_action at f a
   asked-finish at f None = refl
   asked-finish at f (Some nanos) =
-      ap (λ (r : Reason). record { message = record { reference = f.finish.reference; reason = r }; run_at = plus at nanos } ∷ []) (same-reason f.finish.outcome)
+      ap (λ (r : Reason). record { message = record { reference = f.finish.reference; reason = r }; run_at = plus at nanos; priority = 0 } ∷ []) (same-reason f.finish.outcome)
 
   asked-finishes : (before : List (CoreEvent O)) (at : ℕ) (fs : List Finished) → asked_by before (map (finish_event at) fs) ≡ flat_map (requests_of_finish at) fs
   asked-finishes before at [] = refl
@@ -126,16 +126,16 @@ module _ {O : Type 0} (core : CoreWorld O) where
 
   asked-reload : (before : List (CoreEvent O)) (at : ℕ) (b : Bool) (store : List O) → cache_of core before ≡ store
       → asked_by before (reload_events at b)
-      ≡ (if b then map (λ r. requested_at at (record { reference = r; reason = BulkReconcile })) (sorted_by reference_before (map core.key store)) else [])
+      ≡ (if b then map (λ r. requested_at at (record { message = record { reference = r; reason = BulkReconcile }; priority = 0 })) (sorted_by reference_before (map core.key store)) else [])
   asked-reload before at true store e =
-      append-nil (map (λ r. requested_at at (record { reference = r; reason = BulkReconcile })) (sorted_by reference_before (map core.key (cache_of core before))))
-      ∙ ap (λ os. map (λ r. requested_at at (record { reference = r; reason = BulkReconcile })) (sorted_by reference_before (map core.key os))) e
+      append-nil (map (λ r. requested_at at (record { message = record { reference = r; reason = BulkReconcile }; priority = 0 })) (sorted_by reference_before (map core.key (cache_of core before))))
+      ∙ ap (λ os. map (λ r. requested_at at (record { message = record { reference = r; reason = BulkReconcile }; priority = 0 })) (sorted_by reference_before (map core.key os))) e
   asked-reload before at false store e = refl
 
-  asked-named : (before : List (CoreEvent O)) (at : ℕ) (ns : List Reference)
-      → asked_by before (map (Requested at) ns) ≡ map (λ r. requested_at at (record { reference = r; reason = Unknown })) ns
+  asked-named : (before : List (CoreEvent O)) (at : ℕ) (ns : List Named)
+      → asked_by before (map (Requested at) ns) ≡ map (λ n. requested_at at (record { message = record { reference = n.reference; reason = Unknown }; priority = n.priority })) ns
   asked-named before at [] = refl
-  asked-named before at (n ∷ ns) = ap (λ rs. requested_at at (record { reference = n; reason = Unknown }) ∷ rs) (asked-named (before ++ Requested at n ∷ []) at ns)
+  asked-named before at (n ∷ ns) = ap (λ rs. requested_at at (record { message = record { reference = n.reference; reason = Unknown }; priority = n.priority }) ∷ rs) (asked-named (before ++ Requested at n ∷ []) at ns)
 
   asked-answers : (before : List (CoreEvent O)) (at : ℕ) (xs : List (Exchange O)) → asked_by before (map (Answered at) xs) ≡ requests_of_exchanges at xs
   asked-answers before at [] = refl

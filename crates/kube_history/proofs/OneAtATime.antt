@@ -9,7 +9,7 @@ use Rattle.kube_meta.specs.ReferenceLaws.{same_reference_equiv}
 use Rattle.kube_model.specs.History.{Message, same_message, Taken, exchanges_of}
 use Rattle.kube_model.specs.Store.{is_ready}
 use Rattle.kube_model.specs.Queue.{Frozen, waiting}
-use Rattle.kube_model.specs.Takes.{Running, runs, started, candidates, has_room}
+use Rattle.kube_model.specs.Takes.{Running, runs, started, candidates, has_room, prioritized}
 use Rattle.kube_model.proofs.Alls.{or-left, or-right}
 use Rattle.kube_history.specs.CoreWorld.{CoreWorld}
 use Rattle.kube_history.specs.CoreEvents.{CoreEvent, Answered, Requested, Reloaded, Finished as Ended, Settled, Took, Shut, answers_in, was_shut, running_with, running_of, queue_of, first_of, next_candidate, take_of, next_taken}
@@ -86,10 +86,10 @@ module _ {O : Type 0} where
       go false f k rest = let is : y ≡ z = cc in subst (λ u. runs rs u.entry.message.reference ≡ false) is f
 
   -- a take starts what didn't run, where there is room
-  start-may : (limit : ℕ) (rs : List (Running O)) (m : Message) (o : Option O) → runs rs m.reference ≡ false → has_room limit (length rs) 0 ≡ true → MayRun limit rs
-      → MayRun limit (rs ++ cons_option (started (record { message = m; object = o })) [])
-  start-may limit rs m None h room k = subst (MayRun limit) (sym (append-nil rs)) k
-  start-may limit rs m (Some o) h room k = more-may limit rs (record { reference = m.reference; object = o }) h room k
+  start-may : (limit : ℕ) (rs : List (Running O)) (m : Message) (rank : ℕ) (o : Option O) → runs rs m.reference ≡ false → has_room limit (length rs) 0 ≡ true → MayRun limit rs
+      → MayRun limit (rs ++ cons_option (started (record { message = m; priority = rank; object = o })) [])
+  start-may limit rs m rank None h room k = subst (MayRun limit) (sym (append-nil rs)) k
+  start-may limit rs m rank (Some o) h room k = more-may limit rs (record { reference = m.reference; object = o }) h room k
 
   -- takes one after another
   pub takes-may : (limit : ℕ) (look : ℕ → Message → Option O) (n : ℕ) (ws : List (Frozen Message)) (rs : List (Running O)) (ts : List (Taken O)) → AreTaken limit look n ws rs ts
@@ -98,7 +98,7 @@ module _ {O : Type 0} where
   takes-may limit look n ws rs (t ∷ ts) (z, zs, room, cands, is, rest) k =
       let m = z.entry.message in
       let one : MayRun limit (rs ++ cons_option (started t) []) =
-      subst (λ u. MayRun limit (rs ++ cons_option (started u) [])) (sym is) (start-may limit rs m (look n m) (not-running rs ws z zs cands) room k) in
+      subst (λ u. MayRun limit (rs ++ cons_option (started u) [])) (sym is) (start-may limit rs m z.priority (look n m) (not-running rs ws z zs cands) room k) in
       subst (MayRun limit) (onto (started t) rs (filter_map started ts)) (takes-may limit look (n + 1) _ (rs ++ cons_option (started t) []) ts rest one)
 
 -- in a legal list of a core's events
@@ -114,15 +114,15 @@ module _ {O : Type 0} (core : CoreWorld O) where
       ws = waiting same_message core.debounce (queue_of core es)
 
       first : (cs : List (Frozen Message)) → candidates (running_of es) (waiting same_message core.debounce (queue_of core es)) ≡ cs → has_room core.limit (length (running_of es)) 0 ≡ true
-          → Some t ≡ option_map (take_of core es) (option_map (λ (z : Frozen Message). z.entry.message) (first_of cs)) → MayRun core.limit (running_of es ++ cons_option (started t) [])
+          → Some t ≡ option_map (take_of core es) (option_map prioritized (first_of cs)) → MayRun core.limit (running_of es ++ cons_option (started t) [])
       first [] c room f = absurd (cc)
       first (z ∷ zs) c room f =
-          let is : t ≡ take_of core es z.entry.message = cc in
+          let is : t ≡ take_of core es (prioritized z) = cc in
           subst (λ u. MayRun core.limit (running_of es ++ cons_option (started u) [])) (sym is)
-          (start-may core.limit (running_of es) z.entry.message (take_of core es z.entry.message).object (not-running (running_of es) (waiting same_message core.debounce (queue_of core es)) z zs c) room k)
+          (start-may core.limit (running_of es) z.entry.message z.priority (take_of core es (prioritized z)).object (not-running (running_of es) (waiting same_message core.debounce (queue_of core es)) z zs c) room k)
 
       room-go : (b : Bool) → has_room core.limit (length (running_of es)) 0 ≡ b
-          → Some t ≡ option_map (take_of core es) (cond b (option_map (λ (z : Frozen Message). z.entry.message) (first_of (candidates (running_of es) (waiting same_message core.debounce (queue_of core es))))) None)
+          → Some t ≡ option_map (take_of core es) (cond b (option_map prioritized (first_of (candidates (running_of es) (waiting same_message core.debounce (queue_of core es))))) None)
           → MayRun core.limit (running_of es ++ cons_option (started t) [])
       room-go true room f = first (candidates (running_of es) (waiting same_message core.debounce (queue_of core es))) refl room f
       room-go false room f = absurd (cc)

@@ -2,7 +2,8 @@
 use Rattle.std.proofs.Common.{◌≡◌, Bool, true, false, List, [], ◌∷◌, if◌then◌else◌, cond, refl, sym, ap, ◌∙◌, arith}
 use Rattle.std.specs.List.{filter, AllByRecursion}
 use Rattle.std.proofs.lemmas.Bool.{false≢true}
-use Rattle.std.proofs.lemmas.Bool.Decides.{nat_tests}
+use Rattle.kube_model.proofs.Sorted.{Orders as Ordered}
+use Rattle.kube_model.proofs.Waits.{before-orders as goes-orders}
 use Rattle.kube_model.specs.Queue.{Frozen, goes_before, insert_by, sorted_by}
 
 -- a test of pairs that orders: not both ways, and what is before one is before all that isn't before that one
@@ -11,14 +12,11 @@ pub record Orders {A : Type 0} (before : A → A → Bool) : Type 0 where
   pub between : (a b c : A) → before a c ≡ true → before b c ≡ false → before a b ≡ true
 
 module _ {M : Type 0} where
-  before-one_way : (a b : Frozen M) → goes_before a b ≡ true → goes_before b a ≡ false
-  before-one_way a b h = grind (arith, nat_tests)
-
-  before-between : (a b c : Frozen M) → goes_before a c ≡ true → goes_before b c ≡ false → goes_before a b ≡ true
-  before-between a b c h k = grind (arith, nat_tests)
+  as-ordered : Ordered {A = Frozen M} goes_before
+  as-ordered = goes-orders
 
   pub before-orders : Orders {A = Frozen M} goes_before
-  before-orders = record { one_way = before-one_way; between = before-between }
+  before-orders = record { one_way = as-ordered.one_way; between = as-ordered.between }
 
 -- each stands before none that is before it
 abbrev pub IsSorted : {A : Type 0} → (A → A → Bool) → List A → Type 0

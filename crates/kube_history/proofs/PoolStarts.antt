@@ -11,7 +11,7 @@ use Rattle.kube_meta.specs.ReferenceLaws.{same_reference_equiv}
 use Rattle.kube_model.specs.History.{Message, same_message, Taken, exchanges_of}
 use Rattle.kube_model.specs.Store.{is_ready}
 use Rattle.kube_model.specs.Queue.{Frozen, waiting}
-use Rattle.kube_model.specs.Takes.{Running, runs, candidates, has_room}
+use Rattle.kube_model.specs.Takes.{Running, runs, candidates, has_room, prioritized}
 use Rattle.kube_model.proofs.Stores as stores
 use Rattle.kube_history.specs.CoreWorld.{CoreWorld}
 use Rattle.kube_history.specs.CoreEvents.{CoreEvent, Answered, Requested, Reloaded, Finished as Ended, Settled, Took, Shut, answers_in, was_shut, running_with, running_of, queue_of, first_of, next_candidate, take_of, next_taken}
@@ -65,14 +65,14 @@ module _ {O : Type 0} (core : CoreWorld O) where
   taken-idle es t e = go (is_ready (exchanges_of 0 (answers_in es)) && not (was_shut es)) e
     where
       first : (cs : List (Frozen Message)) → candidates (running_of es) (waiting same_message core.debounce (queue_of core es)) ≡ cs
-          → Some t ≡ option_map (take_of core es) (option_map (λ (z : Frozen Message). z.entry.message) (first_of cs)) → runs (running_of es) t.message.reference ≡ false
+          → Some t ≡ option_map (take_of core es) (option_map prioritized (first_of cs)) → runs (running_of es) t.message.reference ≡ false
       first [] c f = absurd (cc)
       first (z ∷ zs) c f =
-          let is : t ≡ take_of core es z.entry.message = cc in
+          let is : t ≡ take_of core es (prioritized z) = cc in
           subst (λ (u : Taken O). runs (running_of es) u.message.reference ≡ false) (sym is) (not-running (running_of es) (waiting same_message core.debounce (queue_of core es)) z zs c)
 
       room : (b : Bool)
-          → Some t ≡ option_map (take_of core es) (cond b (option_map (λ (z : Frozen Message). z.entry.message) (first_of (candidates (running_of es) (waiting same_message core.debounce (queue_of core es))))) None)
+          → Some t ≡ option_map (take_of core es) (cond b (option_map prioritized (first_of (candidates (running_of es) (waiting same_message core.debounce (queue_of core es))))) None)
           → runs (running_of es) t.message.reference ≡ false
       room true f = first (candidates (running_of es) (waiting same_message core.debounce (queue_of core es))) refl f
       room false f = absurd (cc)
@@ -136,27 +136,27 @@ module _ {O : Type 0} (core : CoreWorld O) where
     abbrev New : ℕ → Message → ℕ → Reference → Type 0
     New pass m p r = (pass ≡ p) × (same_reference m.reference r ≡ true)
 
-    starts : (es : List (PoolEntry O)) (pass at : ℕ) (m : Message) (o : O) → runs (running_of (opening ++ events_in es)) m.reference ≡ false → Holds es
-        → Holds (es ++ SettledAndTook pass at (Some (record { message = m; object = Some o })) ∷ [])
-    starts es pass at m o idle k = record { run = λ p r h. run p r (origin p r h); one = λ p q r s w h i. one p q r s w (origin p r h) (origin q s i) }
+    starts : (es : List (PoolEntry O)) (pass at : ℕ) (m : Message) (rank : ℕ) (o : O) → runs (running_of (opening ++ events_in es)) m.reference ≡ false → Holds es
+        → Holds (es ++ SettledAndTook pass at (Some (record { message = m; priority = rank; object = Some o })) ∷ [])
+    starts es pass at m rank o idle k = record { run = λ p r h. run p r (origin p r h); one = λ p q r s w h i. one p q r s w (origin p r h) (origin q s i) }
       where
         pick : (p : ℕ) (r : Reference) (b c : Bool) → (pass == p) ≡ b → same_reference m.reference r ≡ c
-            → fold (says r) (has_started p r es) (if b then Settled at ∷ Took at (Some (record { message = m; object = Some o })) ∷ [] else []) ≡ true → New pass m p r ⊎ (has_started p r es ≡ true)
+            → fold (says r) (has_started p r es) (if b then Settled at ∷ Took at (Some (record { message = m; priority = rank; object = Some o })) ∷ [] else []) ≡ true → New pass m p r ⊎ (has_started p r es ≡ true)
         pick p r true true e f i = inl (eqb-true pass p e, f)
         pick p r true false e f i = inr (sym (ap (λ c. unwrap_or (if c then Some true else None) (has_started p r es)) f) ∙ i)
         pick p r false c e f i = inr i
 
-        origin : (p : ℕ) (r : Reference) → has_started p r (es ++ SettledAndTook pass at (Some (record { message = m; object = Some o })) ∷ []) ≡ true → New pass m p r ⊎ (has_started p r es ≡ true)
-        origin p r h = pick p r (pass == p) (same_reference m.reference r) refl refl (sym (started-push p r es (SettledAndTook pass at (Some (record { message = m; object = Some o })))) ∙ h)
+        origin : (p : ℕ) (r : Reference) → has_started p r (es ++ SettledAndTook pass at (Some (record { message = m; priority = rank; object = Some o })) ∷ []) ≡ true → New pass m p r ⊎ (has_started p r es ≡ true)
+        origin p r h = pick p r (pass == p) (same_reference m.reference r) refl refl (sym (started-push p r es (SettledAndTook pass at (Some (record { message = m; priority = rank; object = Some o })))) ∙ h)
 
         then-runs : (r : Reference) → (runs (running_of (opening ++ events_in es)) r || (same_reference m.reference r || false)) ≡ true
-            → runs (running_of (opening ++ events_in (es ++ SettledAndTook pass at (Some (record { message = m; object = Some o })) ∷ []))) r ≡ true
+            → runs (running_of (opening ++ events_in (es ++ SettledAndTook pass at (Some (record { message = m; priority = rank; object = Some o })) ∷ []))) r ≡ true
         then-runs r h =
-            ap (λ rs. runs rs r) (now-push es (SettledAndTook pass at (Some (record { message = m; object = Some o }))))
+            ap (λ rs. runs rs r) (now-push es (SettledAndTook pass at (Some (record { message = m; priority = rank; object = Some o }))))
             ∙ (list_any-append (λ (u : Running O). same_reference u.reference r) (running_of (opening ++ events_in es)) (record { reference = m.reference; object = o } ∷ []) ∙ h)
 
         run : (p : ℕ) (r : Reference) → New pass m p r ⊎ (has_started p r es ≡ true)
-            → runs (running_of (opening ++ events_in (es ++ SettledAndTook pass at (Some (record { message = m; object = Some o })) ∷ []))) r ≡ true
+            → runs (running_of (opening ++ events_in (es ++ SettledAndTook pass at (Some (record { message = m; priority = rank; object = Some o })) ∷ []))) r ≡ true
         run p r (inl n) = then-runs r (ap (λ b. runs (running_of (opening ++ events_in es)) r || (b || false)) n.1 ∙ or-last (runs (running_of (opening ++ events_in es)) r))
           where
             or-last : (b : Bool) → (b || true) ≡ true
@@ -175,15 +175,15 @@ module _ {O : Type 0} (core : CoreWorld O) where
         one p q r s w (inr h) (inl i) = absurd (clash p s r i.1 (same_reference_equiv.symm s r ∙ w) h)
         one p q r s w (inr h) (inr i) = k.one p q r s w h i
 
-    takes : (es : List (PoolEntry O)) (pass at : ℕ) (m : Message) (o : Option O) → runs (running_of (opening ++ events_in es)) m.reference ≡ false → Holds es
-        → Holds (es ++ SettledAndTook pass at (Some (record { message = m; object = o })) ∷ [])
-    takes es pass at m None idle k =
-        fewer es (SettledAndTook pass at (Some (record { message = m; object = None }))) (λ r b h. go (same_reference m.reference r) b h) (λ rs. append-nil rs) k
+    takes : (es : List (PoolEntry O)) (pass at : ℕ) (m : Message) (rank : ℕ) (o : Option O) → runs (running_of (opening ++ events_in es)) m.reference ≡ false → Holds es
+        → Holds (es ++ SettledAndTook pass at (Some (record { message = m; priority = rank; object = o })) ∷ [])
+    takes es pass at m rank None idle k =
+        fewer es (SettledAndTook pass at (Some (record { message = m; priority = rank; object = None }))) (λ r b h. go (same_reference m.reference r) b h) (λ rs. append-nil rs) k
       where
         go : (c b : Bool) → unwrap_or (if c then Some false else None) b ≡ true → b ≡ true
         go true b h = absurd (cc)
         go false b h = h
-    takes es pass at m (Some o) idle k = starts es pass at m o idle k
+    takes es pass at m rank (Some o) idle k = starts es pass at m rank o idle k
 
     one-entry : (es : List (PoolEntry O)) (e : PoolEntry O) → Holds es → AreLegal core (opening ++ events_in es) (entry_events e) → IsOfPass es e → Holds (es ++ e ∷ [])
     one-entry es (Single pass (Answered at x)) k l m = fewer es (Single pass (Answered at x)) (λ r b h. h) (λ rs. refl) k
@@ -196,7 +196,7 @@ module _ {O : Type 0} (core : CoreWorld O) where
     one-entry es (SettledAndTook pass at None) k l m = fewer es (SettledAndTook pass at None) (λ r b h. h) (λ rs. refl) k
     one-entry es (SettledAndTook pass at (Some t)) k l m =
         let idle : runs (running_of ((opening ++ events_in es) ++ Settled at ∷ [])) t.message.reference ≡ false = taken-idle ((opening ++ events_in es) ++ Settled at ∷ []) t l.1.0.reply in
-        takes es pass at t.message t.object (ap (λ rs. runs rs t.message.reference) (sym (running-append (opening ++ events_in es) (Settled at ∷ []))) ∙ idle) k
+        takes es pass at t.message t.priority t.object (ap (λ rs. runs rs t.message.reference) (sym (running-append (opening ++ events_in es) (Settled at ∷ []))) ∙ idle) k
 
     all-hold : (before es : List (PoolEntry O)) → Holds before → AreLegal core (opening ++ events_in before) (events_in es) → AreOfPasses before es → Holds (before ++ es)
     all-hold before [] k l m = subst Holds (sym (append-nil before)) k

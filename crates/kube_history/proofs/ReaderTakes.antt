@@ -1,10 +1,10 @@
 -- Takes with what a reader answered, one answer for each look-up.
 use Rattle.std.proofs.Common.{◌≡◌, ℕ, ◌+◌, Bool, true, false, List, [], ◌∷◌, ◌++◌, map, length, Option, None, is_some, unwrap_or, slice_get, if◌then◌else◌, refl, sym, ap, subst, ◌∙◌, append_assoc, length-append, arith}
 use Rattle.std.specs.List.{cons_option}
-use Rattle.kube_model.specs.History.{Message, same_message, Taken}
+use Rattle.kube_model.specs.History.{Message, same_message, Taken, Prioritized}
 use Rattle.kube_model.specs.Queue.{Frozen}
 use Rattle.kube_model.specs.Stored.{AreLookedUp}
-use Rattle.kube_model.specs.Takes.{Running, runs, started, candidates, has_room, within_room, taken_of, found_so}
+use Rattle.kube_model.specs.Takes.{Running, runs, started, candidates, has_room, within_room, taken_of, found_so, prioritized}
 use Rattle.kube_model.specs.WaitingOnce.{HasEachOnce}
 use Rattle.kube_history.specs.InTurn.{without, AreTaken, IsNoneLeft, look_so}
 use Rattle.kube_history.proofs.TakesInTurn.{rest-left, once-without, more-is, more-len, room-shift, full, looked, messages}
@@ -27,13 +27,13 @@ module _ {O : Type 0} where
         (subst (λ k. Gives (look_so ((front ++ o ∷ []) ++ os)) k os) (length-append front (o ∷ [])) (gives (front ++ o ∷ []) os)),
   )
 
-  looked-from : (look : ℕ → Message → Option O) (l r n k : ℕ) (ms : List Message) (os : List (Option O)) → Gives look k os → AreLookedUp l r n ms os
+  looked-from : (look : ℕ → Message → Option O) (l r n k : ℕ) (ms : List Prioritized) (os : List (Option O)) → Gives look k os → AreLookedUp l r n ms os
       → within_room l r n (found_so os ms) ≡ within_room l r n (looked look k ms)
   looked-from look l r n k [] os g a = refl
   looked-from look l r n k (m ∷ ms) [] g a = sym (full l r n (looked look k (m ∷ ms)) a)
   looked-from look l r n k (m ∷ ms) (o ∷ os) g a =
-      ap (λ ts. (if has_room l r n then record { message = m; object = o } ∷ [] else []) ++ ts) (looked-from look l r (n + (if is_some o then 1 else 0)) (k + 1) ms os g.1 a.1)
-      ∙ ap (λ (p : Option O). (if has_room l r n then record { message = m; object = p } ∷ [] else []) ++ within_room l r (n + (if is_some p then 1 else 0)) (looked look (k + 1) ms)) (sym (g.0 m))
+      ap (λ ts. (if has_room l r n then record { message = m.message; priority = m.priority; object = o } ∷ [] else []) ++ ts) (looked-from look l r (n + (if is_some o then 1 else 0)) (k + 1) ms os g.1 a.1)
+      ∙ ap (λ (p : Option O). (if has_room l r n then record { message = m.message; priority = m.priority; object = p } ∷ [] else []) ++ within_room l r (n + (if is_some p then 1 else 0)) (looked look (k + 1) ms)) (sym (g.0 m.message))
 
   -- what a reader answered of the candidates, as look-ups
   pub looked-so : (l : ℕ) (rs : List (Running O)) (ws : List (Frozen Message)) (os : List (Option O)) → AreLookedUp l (length rs) 0 (messages (candidates rs ws)) os
@@ -59,12 +59,12 @@ module _ {O : Type 0} where
       )
     where
       left : candidates (rs ++ cons_option (started t) []) (without z.entry.message ws) ≡ zs
-      left = rest-left rs (cons_option (started t) []) ws z zs once cands (λ r h. more-is l look k z.entry.message r (ap (λ (u : Taken O). runs (cons_option (started u) []) r) (sym is) ∙ h))
+      left = rest-left rs (cons_option (started t) []) ws z zs once cands (λ r h. more-is l look k (prioritized z) r (ap (λ (u : Taken O). runs (cons_option (started u) []) r) (sym is) ∙ h))
 
       len : length (rs ++ cons_option (started t) []) ≡ base + (n + (if is_some t.object then 1 else 0))
       len =
           let a : length (rs ++ cons_option (started t) []) ≡ length rs + length (cons_option (started t) []) = length-append rs (cons_option (started t) []) in
-          let b : length (cons_option (started t) []) ≡ (if is_some t.object then 1 else 0) = more-len t.message t.object in
+          let b : length (cons_option (started t) []) ≡ (if is_some t.object then 1 else 0) = more-len t.message t.priority t.object in
           omega (arith, a, b, e)
 
   pub looked-up : (l : ℕ) (look : ℕ → Message → Option O) (ts : List (Taken O)) (rs : List (Running O)) (ws : List (Frozen Message)) → HasEachOnce same_message ws → AreTaken l look 0 ws rs ts

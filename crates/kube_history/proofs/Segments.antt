@@ -5,7 +5,7 @@ use Rattle.std.proofs.lemmas.List.Elements.{filter_map-append}
 use Rattle.std.proofs.lemmas.List.Folds.{list_any-append}
 use Rattle.std.proofs.lemmas.List.Sums.{fold-append}
 use Rattle.kube_meta.specs.Reference.{Reference}
-use Rattle.kube_model.specs.History.{Exchange, Finished, Taken, dated}
+use Rattle.kube_model.specs.History.{Exchange, Finished, Taken, dated, Named}
 use Rattle.kube_model.specs.Takes.{Running, started}
 use Rattle.kube_history.specs.CoreEvents.{CoreEvent, Answered, Requested, moment_of, is_shutdown, answer_in, answers_in, was_shut, clock_of, running_with, running_of, queue_after, queue_by}
 use Rattle.kube_history.specs.TurnEvents.{finish_event, reload_events, shut_if, takes}
@@ -42,7 +42,7 @@ module _ {O : Type 0} where
   answers-reload at true = refl
   answers-reload at false = refl
 
-  pub answers-named : (at : ℕ) (rs : List Reference) → answers_in {O = O} (map (Requested at) rs) ≡ []
+  pub answers-named : (at : ℕ) (rs : List Named) → answers_in {O = O} (map (Requested at) rs) ≡ []
   answers-named at [] = refl
   answers-named at (r ∷ rs) = answers-named at rs
 
@@ -62,7 +62,7 @@ module _ {O : Type 0} where
   running-reload at true rs = refl
   running-reload at false rs = refl
 
-  pub running-named : (at : ℕ) (ns : List Reference) (rs : List (Running O)) → fold running_with rs (map (Requested at) ns) ≡ rs
+  pub running-named : (at : ℕ) (ns : List Named) (rs : List (Running O)) → fold running_with rs (map (Requested at) ns) ≡ rs
   running-named at [] rs = refl
   running-named at (n ∷ ns) rs = running-named at ns rs
 
@@ -128,7 +128,7 @@ module _ (O : Type 0) where
   at-reload at true = (refl, tt)
   at-reload at false = tt
 
-  pub at-named : (at : ℕ) (ns : List Reference) → AllByRecursion (IsAt {O = O} at) (map (Requested at) ns)
+  pub at-named : (at : ℕ) (ns : List Named) → AllByRecursion (IsAt {O = O} at) (map (Requested at) ns)
   at-named at [] = tt
   at-named at (n ∷ ns) = (refl, at-named at ns)
 

@@ -11,13 +11,13 @@ use Rattle.std.proofs.lemmas.List.Folds.{list_any-append}
 use Rattle.kube_meta.specs.Reference.{Reference}
 use Rattle.kube_meta.specs.ReferenceLaws.{same_reference_equiv}
 use Rattle.kube_model.specs.World.{World}
-use Rattle.kube_model.specs.History.{Message, same_message, Exchange, Dated, Taken, exchanges_of}
+use Rattle.kube_model.specs.History.{Message, Prioritized, same_message, Exchange, Dated, Taken, exchanges_of}
 use Rattle.kube_model.specs.Fits.{IsOfSource, updated}
 use Rattle.kube_model.specs.Queue.{Request, QueueEvent, Requested as QueueRequested, Settled as QueueSettled, Took as QueueTook, Entry, entry_of, entry_requested, entry_settled}
 use Rattle.kube_model.specs.Requests.{Timed, asked_at, requested_at}
 use Rattle.kube_model.specs.Settled.{about}
 use Rattle.kube_model.specs.Store.{found, is_ready, store_of}
-use Rattle.kube_model.proofs.Alls.{all-both, all-map, all-of_map, or-left, or-right}
+use Rattle.kube_model.proofs.Alls.{all-both, all-into_map, all-map, all-of_map, or-left, or-right}
 use Rattle.kube_model.proofs.Entries.{entry-append, entry_by, on_from}
 use Rattle.kube_model.proofs.HandedOver.{IsLookUp, last_or-append, last-stays, last-taken}
 use Rattle.kube_model.proofs.Histories.{exchanges_of-other, exchanges_of-own}
@@ -69,7 +69,7 @@ made debounce m p e at [] h = absurd (false≢true h)
 made debounce m p e at (q ∷ qs) h = go (same_message q.message m) refl h (made debounce m (p + 1) (if same_message q.message m then entry_requested debounce p asked e else e) at qs)
   where
     asked : Request Message
-    asked = record { message = q.message; run_at = q.run_at; now = at }
+    asked = record { message = q.message; run_at = q.run_at; priority = q.priority; now = at }
 
     go : (b : Bool) → same_message q.message m ≡ b → b || list_any (λ q. same_message q.message m) qs ≡ true
         → (list_any (λ q. same_message q.message m) qs ≡ true → is_some (on_from debounce m p e (map (asked_at at) (q ∷ qs))) ≡ true)
@@ -79,12 +79,12 @@ made debounce m p e at (q ∷ qs) h = go (same_message q.message m) refl h (made
         (ap (λ b. is_some (if b then entry_requested debounce p asked e else e)) s ∙ requested-some debounce p asked e)
     go false s h rest = rest h
 
-each-asked : (at : ℕ) (ms : List Message) → AllByRecursion (λ m. list_any (λ q. same_message q.message m) (map (requested_at at) ms) ≡ true) ms
+each-asked : (at : ℕ) (ps : List Prioritized) → AllByRecursion (λ p. list_any (λ q. same_message q.message p.message) (map (requested_at at) ps) ≡ true) ps
 each-asked at [] = tt
-each-asked at (m ∷ ms) = (
-  ap (λ b. b || list_any (λ q. same_message q.message m) (map (requested_at at) ms)) (same_reference_equiv.refl m.reference),
-  all-map (λ n. list_any (λ q. same_message q.message n) (map (requested_at at) ms) ≡ true) (λ n. list_any (λ q. same_message q.message n) (map (requested_at at) (m ∷ ms)) ≡ true)
-      (λ n h. ap (λ b. same_message m n || b) h ∙ or-true (same_message m n)) ms (each-asked at ms),
+each-asked at (p ∷ ps) = (
+  ap (λ b. b || list_any (λ q. same_message q.message p.message) (map (requested_at at) ps)) (same_reference_equiv.refl p.message.reference),
+  all-map (λ n. list_any (λ q. same_message q.message n.message) (map (requested_at at) ps) ≡ true) (λ n. list_any (λ q. same_message q.message n.message) (map (requested_at at) (p ∷ ps)) ≡ true)
+      (λ n h. ap (λ b. same_message p.message n.message || b) h ∙ or-true (same_message p.message n.message)) ps (each-asked at ps),
 )
 
 module _ {O : Type 0} (core : CoreWorld O) where
@@ -191,8 +191,9 @@ module _ {O : Type 0} (core : CoreWorld O) where
         all-map (λ o. is_some (entry_by core.debounce (queue_of core answered) (updated world o)) ≡ true) (IsSettledIn core answered) asked-settled (requested core.key (root_answers before) x)
         (all-of_map (λ m. is_some (entry_by core.debounce (queue_of core answered) m) ≡ true) (updated world) (requested core.key (root_answers before) x)
         (subst (AllByRecursion (λ m. is_some (entry_by core.debounce (queue_of core answered) m) ≡ true)) (own.requests ∙ requests-brought world (root_answers before) x)
-        (all-map (λ m. list_any (λ q. same_message q.message m) (map (requested_at at) x.requests) ≡ true) (λ m. is_some (entry_by core.debounce (queue_of core answered) m) ≡ true) asked-entry x.requests
-        (each-asked at x.requests))))
+        (all-into_map (λ m. is_some (entry_by core.debounce (queue_of core answered) m) ≡ true) (λ (p : Prioritized). p.message) x.requests
+        (all-map (λ p. list_any (λ q. same_message q.message p.message) (map (requested_at at) x.requests) ≡ true) (λ p. is_some (entry_by core.debounce (queue_of core answered) p.message) ≡ true) (λ p. asked-entry p.message) x.requests
+        (each-asked at x.requests)))))
 
     answer-settles : IsOfSource world x.source (exchanges_of x.source (answers_in before)) x → AreSettled core before → AreSettled core answered
     answer-settles content s =
@@ -209,8 +210,8 @@ module _ {O : Type 0} (core : CoreWorld O) where
 
   -- ---- a take
 
-  looked-up : (before : List (CoreEvent O)) (t : Taken O) (b : Bool) (c : Option Message) → Some t ≡ (if b then option_map (take_of core before) c else None) → IsLookUp world (cache_of core before) t
-  looked-up before t true (Some m) e = let same : t ≡ take_of core before m = cc in subst (λ u. IsLookUp world (cache_of core before) u) (sym same) refl
+  looked-up : (before : List (CoreEvent O)) (t : Taken O) (b : Bool) (c : Option Prioritized) → Some t ≡ (if b then option_map (take_of core before) c else None) → IsLookUp world (cache_of core before) t
+  looked-up before t true (Some q) e = let same : t ≡ take_of core before q = cc in subst (λ u. IsLookUp world (cache_of core before) u) (sym same) refl
   looked-up before t true None e = absurd (cc)
   looked-up before t false c e = absurd (cc)
 

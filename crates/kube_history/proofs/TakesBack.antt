@@ -1,5 +1,6 @@
 -- The takes of a turn, one after another.
-use Rattle.std.proofs.Common.{◌≡◌, ℕ, ◌+◌, Bool, true, false, not, cond, ◌&&◌, ◌||◌, List, [], ◌∷◌, ◌++◌, length, Option, Some, None, if◌then◌else◌, refl, sym, ap, subst, ◌∙◌, append-nil}
+use Rattle.kube_model.proofs.Priorities.{priority-took}
+use Rattle.std.proofs.Common.{◌≡◌, ℕ, ◌+◌, Bool, true, false, not, cond, ◌&&◌, ◌||◌, List, [], ◌∷◌, ◌++◌, length, Option, Some, None, if◌then◌else◌, refl, sym, ap, subst, ◌∙◌, append-nil, ap₂}
 use Rattle.std.specs.List.{filter, filter_map, cons_option}
 use Rattle.std.specs.Option.{option_map}
 use Rattle.std.specs.Cmp.{IsEquivalence}
@@ -8,9 +9,9 @@ use Rattle.kube_meta.specs.Reference.{Reference}
 use Rattle.kube_meta.specs.ReferenceLaws.{seen_equiv}
 use Rattle.kube_model.specs.History.{Message, same_message, Taken, exchanges_of}
 use Rattle.kube_model.specs.Store.{is_ready, found, store_of}
-use Rattle.kube_model.specs.Queue.{QueueEvent, Took as QueueTook, Frozen, entry, frozen, requested_message, distinct, waiting, sorted_by, goes_before}
+use Rattle.kube_model.specs.Queue.{QueueEvent, Took as QueueTook, Frozen, entry, frozen, requested_message, distinct, waiting, sorted_by, goes_before, priority}
 use Rattle.kube_model.specs.Requests.{took}
-use Rattle.kube_model.specs.Takes.{Running, started, candidates, has_room, within_room, taken_of, found_in}
+use Rattle.kube_model.specs.Takes.{Running, started, candidates, has_room, within_room, taken_of, found_in, prioritized}
 use Rattle.kube_model.specs.WaitingOnce.{HasEachOnce}
 use Rattle.kube_model.proofs.Entries.{entry-append}
 use Rattle.kube_model.proofs.Waits.{frozen-own}
@@ -46,32 +47,32 @@ module _ (d : ℕ) (es : List (QueueEvent Message)) (m : Message) where
   keeps None fs h = refl
   keeps (Some f) fs h = ap (λ b. cond (not b) (f ∷ filter stays fs) (filter stays fs)) (h f refl)
 
-  frozen-after : (ns : List Message) → filter_map (λ n. frozen (entry same_message d after n)) ns ≡ filter stays (filter_map (λ n. frozen (entry same_message d es n)) ns)
+  frozen-after : (ns : List Message) → filter_map (λ n. frozen (priority same_message after n) (entry same_message d after n)) ns ≡ filter stays (filter_map (λ n. frozen (priority same_message es n) (entry same_message d es n)) ns)
   frozen-after [] = refl
   frozen-after (n ∷ ns) = go (same_message m n) refl (frozen-after ns)
     where
-      is-of : (f : Frozen Message) → frozen (entry same_message d es n) ≡ Some f → same_message m f.entry.message ≡ same_message m n
+      is-of : (f : Frozen Message) → frozen (priority same_message es n) (entry same_message d es n) ≡ Some f → same_message m f.entry.message ≡ same_message m n
       is-of f e = message_equiv.symm m f.entry.message ∙ (message_equiv.congr f.entry.message n m (frozen-own same_message message_equiv d es n f e).1 ∙ message_equiv.symm n m)
 
       go : (b : Bool) → same_message m n ≡ b
-          → filter_map (λ n. frozen (entry same_message d after n)) ns ≡ filter stays (filter_map (λ n. frozen (entry same_message d es n)) ns)
-          → cons_option (frozen (entry same_message d after n)) (filter_map (λ n. frozen (entry same_message d after n)) ns)
-          ≡ filter stays (cons_option (frozen (entry same_message d es n)) (filter_map (λ n. frozen (entry same_message d es n)) ns))
+          → filter_map (λ n. frozen (priority same_message after n) (entry same_message d after n)) ns ≡ filter stays (filter_map (λ n. frozen (priority same_message es n) (entry same_message d es n)) ns)
+          → cons_option (frozen (priority same_message after n) (entry same_message d after n)) (filter_map (λ n. frozen (priority same_message after n) (entry same_message d after n)) ns)
+          ≡ filter stays (cons_option (frozen (priority same_message es n) (entry same_message d es n)) (filter_map (λ n. frozen (priority same_message es n) (entry same_message d es n)) ns))
       go true e rest =
-          ap (λ o. cons_option (frozen o) (filter_map (λ n. frozen (entry same_message d after n)) ns)) (entry-after n ∙ ap (λ b. if b then None else entry same_message d es n) e)
-          ∙ (rest ∙ sym (drops (frozen (entry same_message d es n)) (filter_map (λ n. frozen (entry same_message d es n)) ns) (λ f k. is-of f k ∙ e)))
+          ap (λ o. cons_option (frozen (priority same_message after n) o) (filter_map (λ n. frozen (priority same_message after n) (entry same_message d after n)) ns)) (entry-after n ∙ ap (λ b. if b then None else entry same_message d es n) e)
+          ∙ (rest ∙ sym (drops (frozen (priority same_message es n) (entry same_message d es n)) (filter_map (λ n. frozen (priority same_message es n) (entry same_message d es n)) ns) (λ f k. is-of f k ∙ e)))
       go false e rest =
-          ap (λ o. cons_option (frozen o) (filter_map (λ n. frozen (entry same_message d after n)) ns)) (entry-after n ∙ ap (λ b. if b then None else entry same_message d es n) e)
-          ∙ (ap (cons_option (frozen (entry same_message d es n))) rest ∙ sym (keeps (frozen (entry same_message d es n)) (filter_map (λ n. frozen (entry same_message d es n)) ns) (λ f k. is-of f k ∙ e)))
+          ap₂ (λ p o. cons_option (frozen p o) (filter_map (λ n. frozen (priority same_message after n) (entry same_message d after n)) ns)) (priority-took same_message es n m ∙ ap (λ b. if b then 0 else priority same_message es n) e) (entry-after n ∙ ap (λ b. if b then None else entry same_message d es n) e)
+          ∙ (ap (cons_option (frozen (priority same_message es n) (entry same_message d es n))) rest ∙ sym (keeps (frozen (priority same_message es n) (entry same_message d es n)) (filter_map (λ n. frozen (priority same_message es n) (entry same_message d es n)) ns) (λ f k. is-of f k ∙ e)))
 
   requested-after : filter_map requested_message after ≡ filter_map requested_message es
   requested-after = filter_map-append requested_message es (QueueTook m ∷ []) ∙ append-nil (filter_map requested_message es)
 
   pub waiting-took : waiting same_message d (es ++ QueueTook m ∷ []) ≡ without m (waiting same_message d es)
   waiting-took =
-      ap (λ ms. sorted_by goes_before (filter_map (λ n. frozen (entry same_message d after n)) (distinct same_message ms))) requested-after
+      ap (λ ms. sorted_by goes_before (filter_map (λ n. frozen (priority same_message after n) (entry same_message d after n)) (distinct same_message ms))) requested-after
       ∙ ap (sorted_by goes_before) (frozen-after (distinct same_message (filter_map requested_message es)))
-      ∙ sym (filter-sorted goes_before before-orders stays (filter_map (λ n. frozen (entry same_message d es n)) (distinct same_message (filter_map requested_message es))))
+      ∙ sym (filter-sorted goes_before before-orders stays (filter_map (λ n. frozen (priority same_message es n) (entry same_message d es n)) (distinct same_message (filter_map requested_message es))))
 
 -- There are takes one after another, and so they are those of a turn.
 module _ {O : Type 0} (l : ℕ) (look : ℕ → Message → Option O) where
@@ -83,17 +84,17 @@ module _ {O : Type 0} (l : ℕ) (look : ℕ → Message → Option O) where
       go true = e
       go false = tt
   are-some n ws rs (z ∷ zs) once e =
-      go (has_room l (length rs) 0) refl (are-some (n + 1) (without m ws) (rs ++ more) zs (once-without m ws once) (rest-left rs more ws z zs once e (λ r h. more-is l look n m r h)))
+      go (has_room l (length rs) 0) refl (are-some (n + 1) (without m ws) (rs ++ more) zs (once-without m ws once) (rest-left rs more ws z zs once e (λ r h. more-is l look n (prioritized z) r h)))
     where
       m : Message
       m = z.entry.message
 
       more : List (Running O)
-      more = cons_option (started (taken_by l look n m)) []
+      more = cons_option (started (taken_by l look n (prioritized z))) []
 
       go : (b : Bool) → has_room l (length rs) 0 ≡ b → ((ts : List (Taken O)) × AreTaken l look (n + 1) (without m ws) (rs ++ more) ts)
           → (ts : List (Taken O)) × AreTaken l look n ws rs ts
-      go true f r = (taken_by l look n m ∷ r.0, (z, zs, f, e, refl, r.1))
+      go true f r = (taken_by l look n (prioritized z) ∷ r.0, (z, zs, f, e, refl, r.1))
       go false f r = ([], subst (λ b. IsNoneLeft b (candidates rs ws)) (sym f) tt)
 
   pub turn-taken : (ws : List (Frozen Message)) (rs : List (Running O)) → HasEachOnce same_message ws → AreTaken l look 0 ws rs (taken_of l (looked look 0) rs ws)
@@ -148,13 +149,13 @@ module _ {O : Type 0} (core : CoreWorld O) where
   next-is : (before : List (CoreEvent O)) (rs : List (Running O)) (ws : List (Frozen Message)) → is_ready (exchanges_of 0 (answers_in before)) ≡ true → was_shut before ≡ false
       → running_of before ≡ rs → waiting same_message core.debounce (queue_of core before) ≡ ws
       → next_taken core before
-      ≡ option_map (take_of core before) (if has_room core.limit (length rs) 0 then option_map (λ (z : Frozen Message). z.entry.message) (first_of (candidates rs ws)) else None)
+      ≡ option_map (take_of core before) (if has_room core.limit (length rs) 0 then option_map prioritized (first_of (candidates rs ws)) else None)
   next-is before rs ws ready unshut r q =
       let some = option_map (take_of core before) (next_candidate core (queue_of core before) (running_of before)) in
       ap (λ b. cond (b && not (was_shut before)) some None) ready
       ∙ (ap (λ b. cond (not b) some None) unshut
-      ∙ (ap (λ us. option_map (take_of core before) (if has_room core.limit (length us) 0 then option_map (λ (z : Frozen Message). z.entry.message) (first_of (candidates us (waiting same_message core.debounce (queue_of core before)))) else None)) r
-      ∙ ap (λ us. option_map (take_of core before) (if has_room core.limit (length rs) 0 then option_map (λ (z : Frozen Message). z.entry.message) (first_of (candidates rs us)) else None)) q))
+      ∙ (ap (λ us. option_map (take_of core before) (if has_room core.limit (length us) 0 then option_map prioritized (first_of (candidates us (waiting same_message core.debounce (queue_of core before)))) else None)) r
+      ∙ ap (λ us. option_map (take_of core before) (if has_room core.limit (length rs) 0 then option_map prioritized (first_of (candidates rs us)) else None)) q))
 
   pub replies-takes : (at : ℕ) (store : List O) (before : List (CoreEvent O)) (n : ℕ) (ws : List (Frozen Message)) (rs : List (Running O)) (ts : List (Taken O))
       → is_ready (exchanges_of 0 (answers_in before)) ≡ true → was_shut before ≡ false → cache_of core before ≡ store
@@ -163,8 +164,8 @@ module _ {O : Type 0} (core : CoreWorld O) where
   replies-takes at store before n ws rs [] ready unshut s r q k = (sym (next-is before rs ws ready unshut r q ∙ go (has_room core.limit (length rs) 0) k), tt)
     where
       go : (b : Bool) → IsNoneLeft b (candidates rs ws)
-          → option_map (take_of core before) (if b then option_map (λ (z : Frozen Message). z.entry.message) (first_of (candidates rs ws)) else None) ≡ None
-      go true e = ap (λ cs. option_map (take_of core before) (option_map (λ (z : Frozen Message). z.entry.message) (first_of cs))) e
+          → option_map (take_of core before) (if b then option_map prioritized (first_of (candidates rs ws)) else None) ≡ None
+      go true e = ap (λ cs. option_map (take_of core before) (option_map prioritized (first_of cs))) e
       go false e = refl
   replies-takes at store before n ws rs (t ∷ ts) ready unshut s r q (z, zs, room, cands, is, rest) = (
     here,
@@ -182,9 +183,9 @@ module _ {O : Type 0} (core : CoreWorld O) where
       here : Some t ≡ next_taken core before
       here = sym (
           next-is before rs ws ready unshut r q
-          ∙ (ap (λ b. option_map (take_of core before) (if b then option_map (λ (y : Frozen Message). y.entry.message) (first_of (candidates rs ws)) else None)) room
-          ∙ (ap (λ cs. option_map (take_of core before) (option_map (λ (y : Frozen Message). y.entry.message) (first_of cs))) cands
-          ∙ (ap (λ os. Some (record { message = z.entry.message; object = found core.key os z.entry.message.reference })) s
+          ∙ (ap (λ b. option_map (take_of core before) (if b then option_map prioritized (first_of (candidates rs ws)) else None)) room
+          ∙ (ap (λ cs. option_map (take_of core before) (option_map prioritized (first_of cs))) cands
+          ∙ (ap (λ os. Some (record { message = z.entry.message; priority = z.priority; object = found core.key os z.entry.message.reference })) s
           ∙ ap Some (sym is)))))
 
       waits : waiting same_message core.debounce (queue_of core (before ++ Took at (Some t) ∷ [])) ≡ without z.entry.message ws

@@ -6,9 +6,9 @@ use Rattle.std.proofs.Math.Bool.{or-false}
 use Rattle.std.proofs.lemmas.List.Folds.{list_any-append}
 use Rattle.kube_meta.specs.Reference.{Reference, same_reference}
 use Rattle.kube_meta.specs.ReferenceLaws.{same_reference_equiv}
-use Rattle.kube_model.specs.History.{Message, same_message, Taken}
+use Rattle.kube_model.specs.History.{Message, same_message, Taken, Prioritized}
 use Rattle.kube_model.specs.Queue.{Frozen}
-use Rattle.kube_model.specs.Takes.{Running, runs, started, candidates, has_room, within_room, taken_of, found_in}
+use Rattle.kube_model.specs.Takes.{Running, runs, started, candidates, has_room, within_room, taken_of, found_in, prioritized}
 use Rattle.kube_model.specs.WaitingOnce.{HasEachOnce, is_among}
 use Rattle.kube_model.proofs.Alls.{or-left, or-right}
 use Rattle.kube_history.specs.InTurn.{without, taken_by, AreTaken, IsNoneLeft, look_in}
@@ -122,12 +122,12 @@ room-shift l b n = ap (λ c. (l == 0) || c) (shift l b n)
 
 module _ {O : Type 0} (look : ℕ → Message → Option O) where
   -- what look-ups answer of these messages, from the k-th on
-  abbrev pub looked : ℕ → List Message → List (Taken O)
+  abbrev pub looked : ℕ → List Prioritized → List (Taken O)
   looked k [] = []
-  looked k (m ∷ ms) = record { message = m; object = look k m } ∷ looked (k + 1) ms
+  looked k (m ∷ ms) = record { message = m.message; priority = m.priority; object = look k m.message } ∷ looked (k + 1) ms
 
-abbrev pub messages : List (Frozen Message) → List Message
-messages zs = map (λ (z : Frozen Message). z.entry.message) zs
+abbrev pub messages : List (Frozen Message) → List Prioritized
+messages zs = map prioritized zs
 
 -- where there is no room none is taken
 pub full : {O : Type 0} (l r n : ℕ) (ts : List (Taken O)) → has_room l r n ≡ false → within_room l r n ts ≡ []
@@ -148,18 +148,18 @@ full {O = O} l r n (t ∷ ts) h = later t.object (full l r (n + 0) ts (let e : n
     later None p q = ap (λ b. cond b (t ∷ []) [] ++ within_room l r (n + 0) ts) h ∙ p
     later (Some o) p q = ap (λ b. cond b (t ∷ []) [] ++ within_room l r (n + 1) ts) h ∙ q
 
-pub more-len : {O : Type 0} (m : Message) (o : Option O) → length (cons_option (started (record { message = m; object = o })) []) ≡ (if is_some o then 1 else 0)
-more-len m None = refl
-more-len m (Some o) = refl
+pub more-len : {O : Type 0} (m : Message) (rank : ℕ) (o : Option O) → length (cons_option (started (record { message = m; priority = rank; object = o })) []) ≡ (if is_some o then 1 else 0)
+more-len m rank None = refl
+more-len m rank (Some o) = refl
 
 module _ {O : Type 0} (l : ℕ) (look : ℕ → Message → Option O) where
   -- what one take starts is its message's
-  pub more-is : (k : ℕ) (m : Message) (r : Reference) → runs (cons_option (started (taken_by l look k m)) []) r ≡ true → same_reference m.reference r ≡ true
-  more-is k m r h = go (look k m) h
+  pub more-is : (k : ℕ) (m : Prioritized) (r : Reference) → runs (cons_option (started (taken_by l look k m)) []) r ≡ true → same_reference m.message.reference r ≡ true
+  more-is k m r h = go (look k m.message) h
     where
-      go : (o : Option O) → runs (cons_option (started (record { message = m; object = o })) []) r ≡ true → same_reference m.reference r ≡ true
+      go : (o : Option O) → runs (cons_option (started (record { message = m.message; priority = m.priority; object = o })) []) r ≡ true → same_reference m.message.reference r ≡ true
       go None e = absurd (cc)
-      go (Some o) e = sym (or-false (same_reference m.reference r)) ∙ e
+      go (Some o) e = sym (or-false (same_reference m.message.reference r)) ∙ e
 
   -- takes one after another are those of a turn
   taken-from : (base : ℕ) (ts : List (Taken O)) (rs : List (Running O)) (ws : List (Frozen Message)) (n k : ℕ)
@@ -184,17 +184,17 @@ module _ {O : Type 0} (l : ℕ) (look : ℕ → Message → Option O) where
       more : List (Running O)
       more = cons_option (started t) []
 
-      more-of : more ≡ cons_option (started (taken_by l look k m)) []
+      more-of : more ≡ cons_option (started (taken_by l look k (prioritized z))) []
       more-of = ap (λ u. cons_option (started u) []) is
 
       len : length (rs ++ more) ≡ base + (n + (if is_some o then 1 else 0))
       len =
           let a : length (rs ++ more) ≡ length rs + length more = length-append rs more in
-          let b : length more ≡ (if is_some o then 1 else 0) = ap length more-of ∙ more-len m o in
+          let b : length more ≡ (if is_some o then 1 else 0) = ap length more-of ∙ more-len m z.priority o in
           omega (arith, a, b, e)
 
       left : candidates (rs ++ more) (without m ws) ≡ zs
-      left = rest-left rs more ws z zs once cands (λ r h. more-is k m r (ap (λ us. runs us r) (sym more-of) ∙ h))
+      left = rest-left rs more ws z zs once cands (λ r h. more-is k (prioritized z) r (ap (λ us. runs us r) (sym more-of) ∙ h))
 
       again : Type 0
       again = (d : ℕ) → length (rs ++ more) ≡ base + d → ts ≡ within_room l base d (looked look (k + 1) (messages (candidates (rs ++ more) (without m ws))))
@@ -210,8 +210,8 @@ module _ {O : Type 0} (l : ℕ) (look : ℕ → Message → Option O) where
       whole : again → t ∷ ts ≡ within_room l base n (looked look k (messages (candidates rs ws)))
       whole r =
           ap (λ u. u ∷ ts) is
-          ∙ (ap (λ us. taken_by l look k m ∷ us) (later r)
-          ∙ (ap (λ b. cond b (taken_by l look k m ∷ []) [] ++ within_room l base (n + (if is_some o then 1 else 0)) (looked look (k + 1) (messages zs))) (sym here)
+          ∙ (ap (λ us. taken_by l look k (prioritized z) ∷ us) (later r)
+          ∙ (ap (λ b. cond b (taken_by l look k (prioritized z) ∷ []) [] ++ within_room l base (n + (if is_some o then 1 else 0)) (looked look (k + 1) (messages zs))) (sym here)
           ∙ ap (λ cs. within_room l base n (looked look k (messages cs))) (sym cands)))
 
   pub taken-turn : (ts : List (Taken O)) (rs : List (Running O)) (ws : List (Frozen Message))
@@ -219,6 +219,6 @@ module _ {O : Type 0} (l : ℕ) (look : ℕ → Message → Option O) where
   taken-turn ts rs ws once h = taken-from (length rs) ts rs ws 0 0 (let e : length rs ≡ length rs + 0 = omega arith in e) once h
 
 -- look-ups in a store are what the store has
-pub looked-in : {O : Type 0} (key : O → Reference) (store : List O) (k : ℕ) (ms : List Message) → looked (look_in key store) k ms ≡ found_in key store ms
+pub looked-in : {O : Type 0} (key : O → Reference) (store : List O) (k : ℕ) (ms : List Prioritized) → looked (look_in key store) k ms ≡ found_in key store ms
 looked-in key store k [] = refl
-looked-in key store k (m ∷ ms) = ap (λ ts. record { message = m; object = look_in key store k m } ∷ ts) (looked-in key store (k + 1) ms)
+looked-in key store k (m ∷ ms) = ap (λ ts. record { message = m.message; priority = m.priority; object = look_in key store k m.message } ∷ ts) (looked-in key store (k + 1) ms)

@@ -4,7 +4,7 @@ use Rattle.std.proofs.lemmas.List.{map-append}
 use Rattle.kube_meta.specs.ReferenceLaws.{seen_equiv}
 use Rattle.kube_model.specs.World.{World, Feed, Watched, Streamed, Queued, feed_of}
 use Rattle.kube_model.specs.Reads.{Reads}
-use Rattle.kube_model.specs.History.{Message, same_message, Exchange, Turn, Finished, Taken, TurnRecord, Step}
+use Rattle.kube_model.specs.History.{Message, same_message, Exchange, Turn, Finished, Taken, TurnRecord, Step, Prioritized}
 use Rattle.kube_model.specs.Queue.{QueueEvent, Settled, Frozen}
 use Rattle.kube_model.specs.Stored.{stored_by, store_in, may_take, AreLookedUp}
 use Rattle.kube_model.specs.Requests.{Timed, asked_at, requested_and_settled, events_of, turn_events, waiting_in}
@@ -29,11 +29,11 @@ pub settle-join : (events : List (QueueEvent Message)) (at : ℕ) (qs : List Tim
 settle-join events at qs = append_assoc events (map (asked_at at) qs) (Settled at ∷ [])
 
 -- what is looked up within the room is taken
-objects-are : {O : Type 0} (l r n : ℕ) (ms : List Message) (os : List (Option O)) → AreLookedUp l r n ms os → map (λ (t : Taken O). t.object) (within_room l r n (found_so os ms)) ≡ os
+objects-are : {O : Type 0} (l r n : ℕ) (ms : List Prioritized) (os : List (Option O)) → AreLookedUp l r n ms os → map (λ (t : Taken O). t.object) (within_room l r n (found_so os ms)) ≡ os
 objects-are l r n [] os a = sym a
 objects-are l r n (m ∷ ms) [] a = refl
 objects-are l r n (m ∷ ms) (o ∷ os) a =
-    ap (λ b. map (λ (t : Taken _). t.object) ((if b then record { message = m; object = o } ∷ [] else []) ++ within_room l r (n + (if is_some o then 1 else 0)) (found_so os ms))) a.0
+    ap (λ b. map (λ (t : Taken _). t.object) ((if b then record { message = m.message; priority = m.priority; object = o } ∷ [] else []) ++ within_room l r (n + (if is_some o then 1 else 0)) (found_so os ms))) a.0
     ∙ ap (λ us. o ∷ us) (objects-are l r (n + (if is_some o then 1 else 0)) ms os a.1)
 
 module _ {O B : Type 0} (w : World O B) (h : List (Step O)) (t : Turn) (r : Reads O) (fs : List Finished) (xs : List (Exchange O)) where
@@ -44,7 +44,7 @@ module _ {O B : Type 0} (w : World O B) (h : List (Step O)) (t : Turn) (r : Read
   ws = waiting_in w h t r fs xs
 
   -- the candidates, where the turn takes
-  abbrev if-taking : Bool → List Message
+  abbrev if-taking : Bool → List Prioritized
   if-taking b = if b then messages (candidates (running_in w h t) (waiting_in w h t r fs xs)) else []
 
   abbrev takes-if : Feed → Bool → List (Taken O)

@@ -4,7 +4,7 @@ use Rattle.std.specs.List.{find}
 use Rattle.std.proofs.lemmas.Bool.{ltb-false}
 use Rattle.kube_meta.specs.Reference.{Reference}
 use Rattle.kube_model.specs.World.{World, Settings, Watched, feed_of}
-use Rattle.kube_model.specs.History.{Exchange, Turn, Step, exchanges, exchanges_with, exchanges_of}
+use Rattle.kube_model.specs.History.{Exchange, Turn, Step, exchanges, exchanges_with, exchanges_of, Named}
 use Rattle.kube_model.specs.Fits.{IsFitting}
 use Rattle.kube_model.specs.Pause.{gave_up, is_paused}
 use Rattle.kube_model.specs.Requests.{asked_at}
@@ -42,7 +42,7 @@ module _ {O : Type 0} (core : CoreWorld O) where
   replies-reload before at true = (tt, tt)
   replies-reload before at false = tt
 
-  pub replies-named : (before : List (CoreEvent O)) (at : ℕ) (ns : List Reference) → AreReplies core before (map (Requested at) ns)
+  pub replies-named : (before : List (CoreEvent O)) (at : ℕ) (ns : List Named) → AreReplies core before (map (Requested at) ns)
   replies-named before at [] = tt
   replies-named before at (n ∷ ns) = (tt, replies-named (before ++ Requested at n ∷ []) at ns)
 

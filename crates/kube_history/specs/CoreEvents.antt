@@ -5,18 +5,18 @@ use Rattle.std.specs.Option.{option_map}
 use Rattle.kube_meta.specs.Reference.{Reference, same_reference, reference_before}
 use Rattle.kube_model.specs.Reason.{Reason, Unknown, BulkReconcile, ReconcilerRequestedRetry, ErrorPolicyRequestedRetry}
 use Rattle.kube_model.specs.World.{Settings, Watched, default_settings}
-use Rattle.kube_model.specs.History.{Message, same_message, Exchange, Dated, Taken, exchanges_of}
+use Rattle.kube_model.specs.History.{Message, same_message, Exchange, Dated, Taken, exchanges_of, Prioritized, Named}
 use Rattle.kube_model.specs.Owed.{owed}
 use Rattle.kube_model.specs.Store.{is_ready, store_of, under_way, found}
 use Rattle.kube_model.specs.Queue.{QueueEvent, Settled as QueueSettled, Took as QueueTook, plus, sorted_by, waiting}
 use Rattle.kube_model.specs.Requests.{Timed, requested_at, requests_of_exchanges, asked_at}
-use Rattle.kube_model.specs.Takes.{Running, started, candidates, has_room}
+use Rattle.kube_model.specs.Takes.{Running, started, candidates, has_room, prioritized}
 use Rattle.kube_history.specs.CoreWorld.{CoreWorld}
 
 -- a finish is told whether the reconcile succeeded and the nanoseconds after which to come again, and replies whether the reference ran; a take replies what was taken
 pub data CoreEvent (O : Type 0) : Type 0 where
   Answered : (at : ℕ) (exchange : Exchange O) → CoreEvent O
-  Requested : (at : ℕ) (reference : Reference) → CoreEvent O
+  Requested : (at : ℕ) (named : Named) → CoreEvent O
   Reloaded : (at : ℕ) → CoreEvent O
   Finished : (at : ℕ) (reference : Reference) (ok : Bool) (action : Option ℕ) (ran : Bool) → CoreEvent O
   Settled : (at : ℕ) → CoreEvent O
@@ -25,7 +25,7 @@ pub data CoreEvent (O : Type 0) : Type 0 where
 
 abbrev pub moment_of : {O : Type 0} → CoreEvent O → ℕ
 moment_of (Answered at exchange) = at
-moment_of (Requested at reference) = at
+moment_of (Requested at named) = at
 moment_of (Reloaded at) = at
 moment_of (Finished at reference ok action ran) = at
 moment_of (Settled at) = at
@@ -79,7 +79,7 @@ retry_of false = ErrorPolicyRequestedRetry
 
 abbrev pub action_requests : ℕ → Reference → Bool → Option ℕ → List Timed
 action_requests at reference ok None = []
-action_requests at reference ok (Some nanos) = record { message = record { reference = reference; reason = retry_of ok }; run_at = plus at nanos } ∷ []
+action_requests at reference ok (Some nanos) = record { message = record { reference = reference; reason = retry_of ok }; run_at = plus at nanos; priority = 0 } ∷ []
 
 abbrev pub first_of : {A : Type 0} → List A → Option A
 first_of [] = None
@@ -93,8 +93,8 @@ module _ {O : Type 0} (core : CoreWorld O) where
   -- what an event requests, after those before it
   abbrev pub requests_by : List (CoreEvent O) → CoreEvent O → List Timed
   requests_by before (Answered at exchange) = requests_of_exchanges at (exchange ∷ [])
-  requests_by before (Requested at reference) = requested_at at (record { reference = reference; reason = Unknown }) ∷ []
-  requests_by before (Reloaded at) = map (λ r. requested_at at (record { reference = r; reason = BulkReconcile })) (sorted_by reference_before (map core.key (cache_of before)))
+  requests_by before (Requested at named) = requested_at at (record { message = record { reference = named.reference; reason = Unknown }; priority = named.priority }) ∷ []
+  requests_by before (Reloaded at) = map (λ r. requested_at at (record { message = record { reference = r; reason = BulkReconcile }; priority = 0 })) (sorted_by reference_before (map core.key (cache_of before)))
   requests_by before (Finished at reference ok action ran) = if ran then action_requests at reference ok action else []
   requests_by before _ = []
 
@@ -116,15 +116,15 @@ module _ {O : Type 0} (core : CoreWorld O) where
   abbrev pub queue_of : List (CoreEvent O) → List (QueueEvent Message)
   queue_of es = queue_after [] es
 
-  -- the first candidate, where there is room for one more
-  abbrev pub next_candidate : List (QueueEvent Message) → List (Running O) → Option Message
+  -- the first candidate with its priority, where there is room for one more
+  abbrev pub next_candidate : List (QueueEvent Message) → List (Running O) → Option Prioritized
   next_candidate qs rs =
-      if has_room core.limit (length rs) 0 then option_map (λ z. z.entry.message) (first_of (candidates rs (waiting same_message core.debounce qs)))
+      if has_room core.limit (length rs) 0 then option_map prioritized (first_of (candidates rs (waiting same_message core.debounce qs)))
       else None
 
   -- a message with the object that is found for it
-  abbrev pub take_of : List (CoreEvent O) → Message → Taken O
-  take_of es m = record { message = m; object = found core.key (cache_of es) m.reference }
+  abbrev pub take_of : List (CoreEvent O) → Prioritized → Taken O
+  take_of es q = record { message = q.message; priority = q.priority; object = found core.key (cache_of es) q.message.reference }
 
   -- what a take after these events replies: the first candidate, or nothing where the store isn't ready, shutdown was asked, there is no room, or no candidate
   abbrev pub next_taken : List (CoreEvent O) → Option (Taken O)

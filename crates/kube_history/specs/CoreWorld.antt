@@ -22,6 +22,7 @@ world_of core = record {
   is_named = core.is_named;
   version = core.version;
   feeds = Watched default_settings ∷ [];
+  priorities = [];
   limit = core.limit;
   debounce = core.debounce;
   backoff = tt;

@@ -4,7 +4,7 @@ use Rattle.kube_model.specs.declared.call.Call.{Call}
 use Rattle.kube_model.specs.declared.call.Call.TheVariants.{List as ListCall}
 use Rattle.kube_model.specs.declared.call.Answer.TheVariants.{Page, NotReady}
 use Rattle.kube_model.specs.Reason.{Reason, ObjectUpdated, ReconcilerRequestedRetry}
-use Rattle.kube_model.specs.History.{Message, Exchange, Taken}
+use Rattle.kube_model.specs.History.{Message, Exchange, Taken, asked_by}
 use Rattle.kube_model.specs.Plays.{Thing, thing, reference_to, plain_world}
 use Rattle.kube_model.specs.Rows.{a}
 use Rattle.kube_history.specs.CoreWorld.{CoreWorld, core_world}
@@ -19,7 +19,7 @@ abbrev pub about_a : Reason → Message
 about_a reason = record { reference = reference_to a; reason = reason }
 
 abbrev pub take_of_a : Reason → Taken Thing
-take_of_a reason = record { message = about_a reason; object = Some (thing a (codes "1")) }
+take_of_a reason = record { message = about_a reason; priority = 0; object = Some (thing a (codes "1")) }
 
 -- the one page of a list, with a in it
 abbrev pub page_of_a : Exchange Thing
@@ -28,7 +28,7 @@ page_of_a = record {
   call = ListCall None;
   answer = Page None (Some (codes "1"));
   items = thing a (codes "1") ∷ [];
-  requests = about_a ObjectUpdated ∷ [];
+  requests = asked_by None (about_a ObjectUpdated ∷ []);
   error = None;
 }
 

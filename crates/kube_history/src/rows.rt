@@ -14,7 +14,7 @@ ghost use Rattle.kube_history.specs.Rows.{plain_core, first_takes, finished_at_o
 pub fn listed_taken_and_taken_again()
     ensures legal { AreLegal plain_core [] taken_again }
     ensures first { next_taken plain_core (Answered 0 page_of_a ∷ Settled 0 ∷ []) ≡ Some (take_of_a ObjectUpdated) }
-    ensures runs { next_taken plain_core (first_takes ++ Requested 0 (reference_to a) ∷ Settled 0 ∷ []) ≡ None }
+    ensures runs { next_taken plain_core (first_takes ++ Requested 0 (record { reference = reference_to a; priority = 0 }) ∷ Settled 0 ∷ []) ≡ None }
     ensures early { next_taken plain_core finished_at_one ≡ None }
     ensures again { next_taken plain_core (finished_at_one ++ Settled 6 ∷ []) ≡ Some (take_of_a ReconcilerRequestedRetry) }
 {}
@@ -24,7 +24,7 @@ pub fn listed_taken_and_taken_again()
 pub fn other_replies_are_refused()
     ensures unsettled { AreLegal plain_core [] (Answered 0 page_of_a ∷ Took 0 (Some (take_of_a ObjectUpdated)) ∷ []) → ⊥ }
     ensures nothing { AreLegal plain_core [] (Answered 0 page_of_a ∷ Settled 0 ∷ Took 0 None ∷ []) → ⊥ }
-    ensures twice { IsLegal plain_core (first_takes ++ Requested 0 (reference_to a) ∷ Settled 0 ∷ []) (Took 0 (Some (take_of_a Unknown))) → ⊥ }
+    ensures twice { IsLegal plain_core (first_takes ++ Requested 0 (record { reference = reference_to a; priority = 0 }) ∷ Settled 0 ∷ []) (Took 0 (Some (take_of_a Unknown))) → ⊥ }
     ensures idle { AreLegal plain_core [] (Finished 0 (reference_to a) true None true ∷ []) → ⊥ }
     ensures back { IsLegal plain_core taken_again (Settled 5) → ⊥ }
     ensures shut { IsLegal plain_core (Answered 0 page_of_a ∷ Settled 0 ∷ Shut 0 ∷ []) (Took 0 (Some (take_of_a ObjectUpdated))) → ⊥ }

@@ -14,7 +14,7 @@ use Rattle.kube_model.specs.declared.error.ApiError.{ApiError}
 use Rattle.kube_model.specs.declared.error.Error.{Error}
 use Rattle.kube_model.specs.declared.error.Status.{Status}
 use Rattle.kube_model.specs.World.{Settings, start_by}
-use Rattle.kube_model.specs.History.{Exchange, Message}
+use Rattle.kube_model.specs.History.{Exchange, Prioritized}
 use Rattle.kube_model.specs.Raw.{RawAnswer, GivesAdded, GivesModified, GivesDeleted, GivesBookmark}
 use Rattle.kube_model.specs.Recorded.{ends_initial_events}
 use Rattle.kube_model.specs.Fits.{nonempty}
@@ -75,11 +75,11 @@ module _ {V : Type 0} (meta : V → ObjectMeta) (selects : Selection → V → B
   IsHonestWatched = IsHonestWatch meta selects history
 
   -- the exchange of a call that is answered so
-  abbrev pub exchange : ℕ → Call → Answer → List V → List Message → Option Error → Exchange V
+  abbrev pub exchange : ℕ → Call → Answer → List V → List Prioritized → Option Error → Exchange V
   exchange source call answer items requests error = record { source = source; call = call; answer = answer; items = items; requests = requests; error = error }
 
   module _ (list : Option (ListTold V)) (watch : Option (WatchTold V)) (s : Summary V) (h : Holds list watch s) (owes : s.owed ≡ Next)
-      (source : ℕ) (requests : List Message) (error : Option Error) where
+      (source : ℕ) (requests : List Prioritized) (error : Option Error) where
     abbrev event_exchange : Answer → List V → Exchange V
     event_exchange answer items = exchange source Next answer items requests error
 
@@ -135,7 +135,7 @@ module _ {V : Type 0} (meta : V → ObjectMeta) (selects : Selection → V → B
   with_initial s b = record s { initial = b }
 
   module _ (list : Option (ListTold V)) (watch : Option (WatchTold V)) (s : Summary V) (h : Holds list watch (with_initial s true)) (goes : InitialGoes watch s.arrived)
-      (source : ℕ) (requests : List Message) (error : Option Error) where
+      (source : ℕ) (requests : List Prioritized) (error : Option Error) where
     pub after-event : (event : RawAnswer V) → (honest : IsHonestWatched (Some (phases.with_one meta selects history settings by_key is_history small goes.told event)))
         → IsHonestInitial meta selects history selection (goes.told.events ++ event ∷ [])
     after-event event honest = phases.initial-honest meta selects history settings by_key is_history small (phases.with_one meta selects history settings by_key is_history small goes.told event) goes.initial goes.by honest
@@ -211,7 +211,7 @@ module _ {V : Type 0} (meta : V → ObjectMeta) (selects : Selection → V → B
   with_later s = record s { ready = true; initial = false }
 
   module _ (list : Option (ListTold V)) (watch : Option (WatchTold V)) (s : Summary V) (h : Holds list watch (with_later s)) (goes : LaterGoes watch s.store)
-      (source : ℕ) (requests : List Message) (error : Option Error) where
+      (source : ℕ) (requests : List Prioritized) (error : Option Error) where
     abbrev told_with : RawAnswer V → WatchTold V
     told_with event = phases.with_one meta selects history settings by_key is_history small goes.told event
 

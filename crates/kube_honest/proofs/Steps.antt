@@ -15,7 +15,7 @@ use Rattle.kube_model.specs.declared.call.Answer.{Answer}
 use Rattle.kube_model.specs.declared.call.Answer.TheVariants.{Page, Fault, NotReady}
 use Rattle.kube_model.specs.declared.error.Error.{Error}
 use Rattle.kube_model.specs.World.{Settings, list_params, watch_params, start_by}
-use Rattle.kube_model.specs.History.{Exchange, Message}
+use Rattle.kube_model.specs.History.{Exchange, Prioritized}
 use Rattle.kube_model.specs.Raw.{RawAnswer, ListAsked, WatchAsked, Waits, Fails, GivesPage, Opens, GivesAdded, GivesModified, GivesDeleted, GivesBookmark, GivesError, Ends}
 use Rattle.kube_model.specs.Recorded.{answer_of, items_of}
 use Rattle.kube_model.specs.Fits.{answers, nonempty}
@@ -82,7 +82,7 @@ module _ {V : Type 0} (meta : V → ObjectMeta) (selects : Selection → V → B
   IsHonestWatched = IsHonestWatch meta selects history
 
   -- the exchange of a call that is answered so
-  abbrev pub exchange : ℕ → Call → Answer → List V → List Message → Option Error → Exchange V
+  abbrev pub exchange : ℕ → Call → Answer → List V → List Prioritized → Option Error → Exchange V
   exchange source call answer items requests error = record { source = source; call = call; answer = answer; items = items; requests = requests; error = error }
 
   -- a store that a list makes, where that is the state at a revision
@@ -95,7 +95,7 @@ module _ {V : Type 0} (meta : V → ObjectMeta) (selects : Selection → V → B
   -- ---- lists
 
   module _ (list : Option (ListTold V)) (watch : Option (WatchTold V)) (s : Summary V) (h : Holds list watch s)
-      (source : ℕ) (requests : List Message) (error : Option Error) where
+      (source : ℕ) (requests : List Prioritized) (error : Option Error) where
     abbrev page_exchange : Option (List ℕ) → List V → Option (List ℕ) → Option (List ℕ) → Exchange V
     page_exchange asked items token version = exchange source (ListCall asked) (Page token version) items requests error
 

@@ -11,8 +11,9 @@ use Rattle.kube_model.proofs.Histories.{exchanges_of-own, exchanges_of-other}
 use Rattle.kube_watch.specs.Configs.{settings_of}
 use Rattle.kube_watch.specs.Stands.{api_of, settings_in}
 use Rattle.kube_watch.specs.Polls.{Api}
-use Rattle.kube_asks.specs.Asking.{IsPolledAt}
+use Rattle.kube_asks.specs.Asking.{IsPolledAt, IsPolledWith}
 use Rattle.kube_asks.specs.Roots.{RootWatching, IsRootPoll}
+use Rattle.kube_asks.specs.Sources.{with_priority}
 use Rattle.kube_step.specs.Calls.{ArePolled, dated_in}
 use Rattle.kube_honest.specs.Talks.{HasTold}
 
@@ -23,12 +24,16 @@ recorded-more version settings [] (y ∷ xs) raw x r s = absurd r
 recorded-more version settings (q ∷ raws) [] raw x r s = absurd r
 recorded-more version settings (q ∷ raws) (y ∷ xs) raw x r s = (r.0, recorded-more version settings raws xs raw x r.1 s)
 
-module _ {A V S : Type 0} (meta : V → ObjectMeta) (api : Api A V) (settings : Settings) (related_polls : S → ℕ → List (Dated V) → ℕ → Exchange V → S → Type 0) where
+-- a priority that was set doesn't change what an exchange is recorded from
+recorded-passed : {V : Type 0} (version : V → Option (List ℕ)) (settings : Settings) (set : Option ℕ) (raw : Raw V) (x made : Exchange V) → x ≡ with_priority set made → IsRecorded version settings raw made → IsRecorded version settings raw x
+recorded-passed version settings set raw x made is r = subst (IsRecorded version settings raw) (sym is) (record { call = r.call; answer = r.answer; items = r.items })
+
+module _ {A V S : Type 0} (meta : V → ObjectMeta) (api : Api A V) (settings : Settings) (set : Option ℕ) (related_polls : S → ℕ → List (Dated V) → ℕ → Exchange V → S → Type 0) where
   abbrev Root : Type 0
   Root = RootWatching A V
 
   abbrev polls : Root → List (Dated V) → ℕ → Exchange V → Root → Type 0
-  polls old own now x new = IsRootPoll meta api own now old x new
+  polls = IsPolledWith set (λ old own now x new. IsRootPoll meta api own now old x new)
 
   -- a root of these settings, and what its API told
   pub record Tells (before : List (Raw V)) (xs : List (Exchange V)) (root : Root) : Type 0 where
@@ -38,14 +43,18 @@ module _ {A V S : Type 0} (meta : V → ObjectMeta) (api : Api A V) (settings : 
   -- an exchange of the root
   tells-poll : (before : List (Raw V)) (xs : List (Exchange V)) (root : Root) (own : List (Dated V)) (now : ℕ) (x : Exchange V) (root' : Root) → Tells before xs root → polls root own now x root'
       → Tells before (xs ++ x ∷ []) root'
-  tells-poll before xs root own now x root' t p = record {
-    by = ap settings_of p.config ∙ t.by;
-    told = record {
-      talk = t.told.talk ++ p.call.raw ∷ [];
-      is = p.call.told ∙ (ap (λ o. grown o p.call.raw) t.told.is ∙ ap Some (append_assoc before t.told.talk (p.call.raw ∷ [])));
-      recorded = recorded-more api.version settings t.told.talk xs p.call.raw x t.told.recorded (subst (λ z. IsRecorded api.version z p.call.raw x) t.by p.call.recorded);
-    };
-  }
+  tells-poll before xs root own now x root' t p =
+      let q = p.2 in
+      record {
+        by = ap settings_of q.config ∙ t.by;
+        told = record {
+          talk = t.told.talk ++ q.call.raw ∷ [];
+          is = q.call.told ∙ (ap (λ o. grown o q.call.raw) t.told.is ∙ ap Some (append_assoc before t.told.talk (q.call.raw ∷ [])));
+          recorded =
+              recorded-more api.version settings t.told.talk xs q.call.raw x t.told.recorded
+              (recorded-passed api.version settings set q.call.raw x p.0 p.1 (subst (λ z. IsRecorded api.version z q.call.raw p.0) t.by q.call.recorded));
+        };
+      }
 
   -- exchanges one after another, of any source
   pub tells-polls : (before : List (Raw V)) (done ds : List (Dated V)) (root : Root) (related : S) (root' : Root) (related' : S) → Tells before (exchanges_of 0 done) root
@@ -72,7 +81,7 @@ module _ {A V S : Type 0} (meta : V → ObjectMeta) (api : Api A V) (settings : 
     reached-polls done (d ∷ ds) root related root' related' r p = reached-polls (done ++ d ∷ []) ds p.0 p.1 root' related' (go d.exchange.source p.2) p.3
       where
         go : (source : ℕ) → IsPolledAt polls related_polls done d.at d.exchange root related p.0 p.1 source → reached (api_of p.0.watcher)
-        go zero q = keeps (api_of root.watcher) d.at q.0.call.raw (api_of p.0.watcher) r q.0.call.moved
+        go zero q = keeps (api_of root.watcher) d.at q.0.2.call.raw (api_of p.0.watcher) r q.0.2.call.moved
         go (suc place) q = subst (λ z. reached (api_of z.watcher)) (sym q.1) r
 
 -- ---- the exchanges of a trace's records

@@ -11,7 +11,7 @@ use Rattle.kube_model.specs.declared.call.Answer.{Answer}
 use Rattle.kube_model.specs.declared.call.Answer.TheVariants.{Added, Modified, Deleted, Bookmark, Idle}
 use Rattle.kube_model.specs.declared.error.Error.{Error}
 use Rattle.kube_model.specs.World.{Settings, Watched, list_params, watch_params}
-use Rattle.kube_model.specs.History.{Exchange, Message}
+use Rattle.kube_model.specs.History.{Exchange, Prioritized}
 use Rattle.kube_model.specs.Owed.{owed}
 use Rattle.kube_model.specs.Raw.{Raw, RawCall, RawAnswer, ListAsked, WatchAsked, NextAsked, Waits, Fails, GivesPage, Opens, GivesAdded, GivesModified, GivesDeleted, GivesBookmark, GivesError, Ends}
 use Rattle.kube_model.specs.Recorded.{answer_of, items_of, ends_initial_events, raw_call, IsRecorded, IsAnsweredBy, AsItCame, PastItsWindow, AreRecorded}
@@ -52,7 +52,7 @@ module _ {V : Type 0} (meta : V → ObjectMeta) (selects : Selection → V → B
   abbrev IsHonestWatched : Option (WatchTold V) → Type 0
   IsHonestWatched = steps.IsHonestWatched meta selects history settings by_key is_history small key alike version versions
 
-  abbrev exchange : ℕ → Call → Answer → List V → List Message → Option Error → Exchange V
+  abbrev exchange : ℕ → Call → Answer → List V → List Prioritized → Option Error → Exchange V
   exchange source call answer items requests error = record { source = source; call = call; answer = answer; items = items; requests = requests; error = error }
 
   abbrev next_of : Summary V → Exchange V → Summary V
@@ -63,7 +63,7 @@ module _ {V : Type 0} (meta : V → ObjectMeta) (selects : Selection → V → B
 
   -- ---- one exchange
 
-  module _ (list : Option (ListTold V)) (watch : Option (WatchTold V)) (s : Summary V) (h : Holds list watch s) (source : ℕ) (requests : List Message) (error : Option Error) where
+  module _ (list : Option (ListTold V)) (watch : Option (WatchTold V)) (s : Summary V) (h : Holds list watch s) (source : ℕ) (requests : List Prioritized) (error : Option Error) where
     -- an event, of an initial watch or of a later one
     event-step : s.owed ≡ Next → (event : RawAnswer V) (x : Exchange V) → IsHonestWatched (with_event event watch)
         → ((goes : InitialGoes watch s.arrived) → Holds list watch (record s { initial = true }) → IsHonestWatched (Some (one_more goes.told event)) → Holds list (Some (one_more goes.told event)) (next_of (record s { initial = true }) x))

@@ -7,7 +7,7 @@ ghost use Rattle.std.specs.declared.sync.Arc.{Arc};
 ghost use Rattle.kube_meta.specs.declared.dynamic.ApiResource.{ApiResource};
 ghost use Rattle.kube_meta.specs.declared.dynamic.DynamicObject.{DynamicObject};
 ghost use Rattle.kube_model.specs.declared.call.Call.TheVariants.{Next};
-ghost use Rattle.kube_model.specs.World.{World, Settings, Watched};
+ghost use Rattle.kube_model.specs.World.{World, Settings, Watched, priority_of};
 ghost use Rattle.kube_model.specs.History.{Dated, Step, Turn, TurnRecord, exchanges, exchanges_of};
 ghost use Rattle.kube_model.specs.Owed.{owed};
 ghost use Rattle.kube_model.specs.Raw.{Raw, Waits};
@@ -20,6 +20,7 @@ ghost use Rattle.kube_server.specs.Connections.{Act, Connection, IsSameLog, acte
 ghost use Rattle.kube_server.specs.Servers.{meta_of};
 ghost use Rattle.kube_watch.specs.Calls.{version_of};
 ghost use Rattle.kube_watch.specs.Stands.{api_of, settings_in};
+ghost use Rattle.kube_asks.specs.Asking.{IsPlacePolledWith, IsPolledWith};
 ghost use Rattle.kube_asks.specs.Roots.{RootWatching};
 ghost use Rattle.kube_step.specs.Calls.{ArePolled, dated_in};
 ghost use Rattle.kube_control.specs.Controllers.{Controlling, StandsFor};
@@ -36,7 +37,7 @@ use kube_server::Conn;
 pub fn api_tells_the_exchanges_of_runs<A: ApiMode, S: RelatedSet<A::Value>, B>()
     ensures { (w : World A.Value B) (settings : Settings) (policies : ℕ → ℕ → A.Value → Option ℕ) (h : List (Step A.Value)) (ts : List Turn) (rs : List (TurnRecord A.Value)) (r r' : RootWatching A A.Value) (s s' : S)
         → settings_in r.watcher ≡ settings → IsTrace w policies h ts (map unread rs)
-        → ArePolled ⟦<WatchRoot<A> as RootSource>⟧.polls S.polls (exchanges h) r s (dated_in rs) r' s'
+        → ArePolled (IsPolledWith (priority_of w 0) ⟦<WatchRoot<A> as RootSource>⟧.polls) (IsPlacePolledWith w.priorities S.polls) (exchanges h) r s (dated_in rs) r' s'
         → (before : List (Raw A.Value)) → HasTold (version_of A.Value.meta_of) settings before (exchanges_of 0 (exchanges h)) (A.talk (api_of r.watcher))
         → (settings_in r'.watcher ≡ settings) × HasTold (version_of A.Value.meta_of) settings before (exchanges_of 0 (exchanges (h ++ steps ts (map unread rs)))) (A.talk (api_of r'.watcher)) }
 {}
@@ -59,12 +60,12 @@ pub fn honest_controllers_store_states<A: ApiMode, S: RelatedSet<A::Value>, B: B
 /// is honest to its log after the run too (kube_server's law `talks_are_honest`). The log, and up to which revision it counts as
 /// gone, are as before the run.
 pub fn connections_stay_honest_in_runs<S: RelatedSet<DynamicObject>>()
-    ensures honest { (before ds : List (Dated DynamicObject)) (r r' : RootWatching (Connection DynamicObject) DynamicObject) (s s' : S) (changes : List (Change DynamicObject)) (compacted : ℕ) (acts : List (Act DynamicObject))
+    ensures honest { (before ds : List (Dated DynamicObject)) (r r' : RootWatching (Connection DynamicObject) DynamicObject) (s s' : S) (changes : List (Change DynamicObject)) (compacted : ℕ) (acts : List (Act DynamicObject)) (set : Option ℕ) (priorities : List (Option ℕ))
         → api_of r.watcher ≡ fold (acted meta_of) (fresh changes compacted) acts
-        → ArePolled ⟦<WatchRoot<Conn> as RootSource>⟧.polls S.polls before r s ds r' s'
+        → ArePolled (IsPolledWith set ⟦<WatchRoot<Conn> as RootSource>⟧.polls) (IsPlacePolledWith priorities S.polls) before r s ds r' s'
         → (more : List (Act DynamicObject)) × (api_of r'.watcher ≡ fold (acted meta_of) (fresh changes compacted) more) }
-    ensures log { (before ds : List (Dated DynamicObject)) (r r' : RootWatching (Connection DynamicObject) DynamicObject) (s s' : S)
-        → ArePolled ⟦<WatchRoot<Conn> as RootSource>⟧.polls S.polls before r s ds r' s'
+    ensures log { (before ds : List (Dated DynamicObject)) (r r' : RootWatching (Connection DynamicObject) DynamicObject) (s s' : S) (set : Option ℕ) (priorities : List (Option ℕ))
+        → ArePolled (IsPolledWith set ⟦<WatchRoot<Conn> as RootSource>⟧.polls) (IsPlacePolledWith priorities S.polls) before r s ds r' s'
         → IsSameLog (api_of r.watcher) (api_of r'.watcher) }
 {}
 

@@ -21,6 +21,7 @@ fn schedule_all(
         let request = ScheduleRequest {
             message,
             run_at: Moment(latest.saturating_sub(earlier)),
+            priority: 0,
         };
         scheduler.schedule(alloc, request, Moment(0))?;
     }

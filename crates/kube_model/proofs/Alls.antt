@@ -28,6 +28,11 @@ pub all-of_map : {A B : Type 0} (P : B → Type 0) (f : A → B) (xs : List A) �
 all-of_map P f [] p = tt
 all-of_map P f (x ∷ xs) p = (p.0, all-of_map P f xs p.1)
 
+-- and back
+pub all-into_map : {A B : Type 0} (P : B → Type 0) (f : A → B) (xs : List A) → AllByRecursion (λ a. P (f a)) xs → AllByRecursion P (map f xs)
+all-into_map P f [] p = tt
+all-into_map P f (x ∷ xs) p = (p.0, all-into_map P f xs p.1)
+
 pub all-filter : {A : Type 0} (P : A → Type 0) (f : A → Bool) (xs : List A) → AllByRecursion P xs → AllByRecursion P (filter f xs)
 all-filter P f [] p = tt
 all-filter P f (x ∷ xs) p = go (f x) (all-filter P f xs p.1)

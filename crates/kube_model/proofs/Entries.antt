@@ -45,7 +45,7 @@ module _ (debounce : ℕ) where
       → is_some (on_from m p e (map (asked_at now) qs ++ Settled now ∷ [])) ≡ true
   kept-requests m p e now [] h = settled-some p now e h
   kept-requests m p e now (q ∷ qs) h =
-      let r : Request Message = record { message = q.message; run_at = q.run_at; now = now } in
+      let r : Request Message = record { message = q.message; run_at = q.run_at; priority = q.priority; now = now } in
       kept-requests m (p + 1) (if same_message q.message m then entry_requested debounce p r e else e) now qs
       (if-some (same_message q.message m) (entry_requested debounce p r e) e (requested-some p r e) h)
 
@@ -56,7 +56,7 @@ module _ (debounce : ℕ) where
   made-requests m p e now (q ∷ qs) h = go (same_message q.message m) refl h (made-requests m (p + 1) (if same_message q.message m then entry_requested debounce p asked e else e) now qs)
     where
       asked : Request Message
-      asked = record { message = q.message; run_at = q.run_at; now = now }
+      asked = record { message = q.message; run_at = q.run_at; priority = q.priority; now = now }
 
       go : (b : Bool) → same_message q.message m ≡ b → b || list_any (λ q. same_message q.message m) qs ≡ true
           → (list_any (λ q. same_message q.message m) qs ≡ true → is_some (on_from m p e (map (asked_at now) (q ∷ qs) ++ Settled now ∷ [])) ≡ true)

@@ -6,10 +6,10 @@ use Rattle.std.proofs.lemmas.Bool.{false≢true}
 use Rattle.kube_meta.specs.Reference.{same_reference, without_namespace}
 use Rattle.kube_meta.specs.ReferenceLaws.{same_reference_equiv}
 use Rattle.kube_model.specs.World.{World}
-use Rattle.kube_model.specs.History.{Message, same_message, Taken}
+use Rattle.kube_model.specs.History.{Message, Prioritized, same_message, Taken}
 use Rattle.kube_model.specs.Queue.{Frozen}
 use Rattle.kube_model.specs.Store.{found, stored_under}
-use Rattle.kube_model.specs.Takes.{Running, found_in, found_with, within_room, taken_of, candidates, has_room}
+use Rattle.kube_model.specs.Takes.{Running, found_in, found_with, within_room, taken_of, candidates, has_room, prioritized}
 use Rattle.kube_model.specs.Settled.{if_keyed, about}
 use Rattle.kube_model.proofs.Alls.{all-append, find-all, find-same}
 use Rattle.kube_model.proofs.Stores.{alike, IsFoundIn}
@@ -27,9 +27,9 @@ module _ {O B : Type 0} (w : World O B) (store : List O) where
   if-look true t h = (h, tt)
   if-look false t h = tt
 
-  found_in-looks : (ms : List Message) → AllByRecursion IsLookUp (found_in w.key store ms)
+  found_in-looks : (qs : List Prioritized) → AllByRecursion IsLookUp (found_in w.key store qs)
   found_in-looks [] = tt
-  found_in-looks (m ∷ ms) = (refl, found_in-looks ms)
+  found_in-looks (q ∷ qs) = (refl, found_in-looks qs)
 
   within-looks : (limit running n : ℕ) (ts : List (Taken O)) → AllByRecursion IsLookUp ts → AllByRecursion IsLookUp (within_room limit running n ts)
   within-looks limit running n [] h = tt
@@ -39,7 +39,7 @@ module _ {O B : Type 0} (w : World O B) (store : List O) where
 
   pub taken-looks : (limit : ℕ) (running : List (Running O)) (waiting : List (Frozen Message)) → AllByRecursion IsLookUp (taken_of limit (found_in w.key store) running waiting)
   taken-looks limit running waiting =
-      within-looks limit (length running) 0 (found_in w.key store (map (λ e. e.entry.message) (candidates running waiting))) (found_in-looks (map (λ e. e.entry.message) (candidates running waiting)))
+      within-looks limit (length running) 0 (found_in w.key store (map prioritized (candidates running waiting))) (found_in-looks (map prioritized (candidates running waiting)))
 
   module _ (found_all : AllByRecursion (IsFoundIn w.key store) store) (o : O) (found_o : IsFoundIn w.key store o) where
     abbrev pub keyed : Taken O → Option O

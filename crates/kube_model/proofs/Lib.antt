@@ -4,6 +4,8 @@ pub mod Marks
 pub mod Alls
 pub mod Stores
 pub mod Entries
+pub mod Priorities
+pub mod ByRank
 pub mod HandedOver
 pub mod Histories
 pub mod SettledSteps

@@ -1,11 +1,11 @@
 -- What turns make is determined by what they are told.
 use Rattle.std.proofs.Common.{◌≡◌, ℕ, zero, suc, ◌+◌, Bool, true, false, List, [], ◌∷◌, ◌++◌, map, Option, Some, None, if◌then◌else◌, unwrap_or, refl, sym, ap, ap₂, subst, ◌∙◌, inl, inr}
 use Rattle.std.proofs.lemmas.Bool.{false≢true}
-use Rattle.kube_model.specs.World.{World, Feed, Watched, Streamed, Queued, feed_of}
+use Rattle.kube_model.specs.World.{World, Feed, Watched, Streamed, Queued, is_queue, feed_of, priority_of}
 use Rattle.kube_model.specs.Reads.{Reads}
-use Rattle.kube_model.specs.History.{Exchange, Dated, Outcome, Succeeded, Failed, Finish, Finished, Turn, Step, exchanges_with, exchanges_of}
+use Rattle.kube_model.specs.History.{Exchange, Prioritized, asked_by, messages_of, Dated, Outcome, Succeeded, Failed, Finish, Finished, Turn, Step, exchanges_with, exchanges_of}
 use Rattle.kube_model.specs.Owed.{mark, owed}
-use Rattle.kube_model.specs.Fits.{ErrorFits, IsAnswered, IsFitting, IsOfRoot, IsOfSource, updated}
+use Rattle.kube_model.specs.Fits.{ErrorFits, PrioritiesFit, IsAnswered, IsFitting, IsOfRoot, IsOfSource, updated}
 use Rattle.kube_model.specs.Takes.{Running, running}
 use Rattle.kube_model.specs.Turns.{record_with}
 use Rattle.kube_model.specs.Traces.{AreFinishesOf, EachIsNext, IsActionOf, IsRecord, IsTrace, Made, handed_over, step}
@@ -37,15 +37,25 @@ module _ {O B : Type 0} (w : World O B) where
   -- Exchanges.
 
   module _ (own : List (Exchange O)) (x y : Exchange O) (call : x.call ≡ y.call) (answer : x.answer ≡ y.answer) (items : x.items ≡ y.items) where
-    root-requests : (feed : Feed) → IsOfRoot w feed own x → IsOfRoot w feed own y → requests_told 0 feed x.requests ≡ requests_told 0 feed y.requests → x.requests ≡ y.requests
-    root-requests (Watched settings) p q e = p.requests ∙ requests-same x y call answer items w own ∙ sym q.requests
-    root-requests Streamed p q e = p.requests ∙ ap (map (updated w)) items ∙ sym q.requests
-    root-requests Queued p q e = e
+    -- without a queue the messages say all
+    asked-is : (set : Option ℕ) (qs : List Prioritized) → PrioritiesFit false set qs → qs ≡ asked_by set (messages_of qs)
+    asked-is set [] p = refl
+    asked-is set (q ∷ qs) p = ap₂ (λ z zs. z ∷ zs) (λ i. record { message = q.message; priority = p.0 i }) (asked-is set qs p.1)
+
+    by-messages : (set : Option ℕ) → PrioritiesFit false set x.requests → PrioritiesFit false set y.requests → messages_of x.requests ≡ messages_of y.requests → x.requests ≡ y.requests
+    by-messages set p q e = asked-is set x.requests p ∙ ap (asked_by set) e ∙ sym (asked-is set y.requests q)
+
+    root-requests : (feed : Feed) (set : Option ℕ) → IsOfRoot w feed own x → IsOfRoot w feed own y → PrioritiesFit (is_queue feed) set x.requests → PrioritiesFit (is_queue feed) set y.requests
+        → requests_told 0 feed x.requests ≡ requests_told 0 feed y.requests → x.requests ≡ y.requests
+    root-requests (Watched settings) set p q f g e = by-messages set f g (p.requests ∙ requests-same x y call answer items w own ∙ sym q.requests)
+    root-requests Streamed set p q f g e = by-messages set f g (p.requests ∙ ap (map (updated w)) items ∙ sym q.requests)
+    root-requests Queued set p q f g e = e
 
     source-requests : (source : ℕ) → IsOfSource w source own x → IsOfSource w source own y
+        → PrioritiesFit (is_queue (feed_of w source)) (priority_of w source) x.requests → PrioritiesFit (is_queue (feed_of w source)) (priority_of w source) y.requests
         → requests_told source (feed_of w source) x.requests ≡ requests_told source (feed_of w source) y.requests → x.requests ≡ y.requests
-    source-requests zero p q e = root-requests (feed_of w 0) p q e
-    source-requests (suc place) p q e = e
+    source-requests zero p q f g e = root-requests (feed_of w 0) (priority_of w 0) p q f g e
+    source-requests (suc place) p q f g e = e
 
     fit-errors : is_item x.answer ≡ false → ErrorFits (mark own x) → ErrorFits (mark own y) → x.error ≡ y.error
     fit-errors n (inl i) q = absurd (false≢true (sym n ∙ ap is_item i))
@@ -66,12 +76,13 @@ module _ {O B : Type 0} (w : World O B) where
       let owes : y.call ≡ owed (feed_of w x.source) own = subst (λ s. y.call ≡ owed (feed_of w s) (exchanges_of s before)) (sym source) g.owes in
       let answered : IsAnswered own y = subst (λ s. IsAnswered (exchanges_of s before) y) (sym source) g.answer in
       let content : IsOfSource w x.source own y = subst (λ s. IsOfSource w s (exchanges_of s before) y) (sym source) g.content in
+      let priorities : PrioritiesFit (is_queue (feed_of w x.source)) (priority_of w x.source) y.requests = subst (λ s. PrioritiesFit (is_queue (feed_of w s)) (priority_of w s) y.requests) (sym source) g.priorities in
       let call : x.call ≡ y.call = f.owes ∙ sym owes in
       let answer : x.answer ≡ y.answer = ap (λ (t : Told O). t.answer) told in
       let items : x.items ≡ y.items = ap (λ (t : Told O). t.items) told in
       let mapped : requests_told x.source (feed_of w x.source) x.requests ≡ requests_told x.source (feed_of w x.source) y.requests =
       ap (λ (t : Told O). t.mapped) told ∙ ap (λ s. requests_told s (feed_of w s) y.requests) (sym source) in
-      let requests : x.requests ≡ y.requests = source-requests own x y call answer items x.source f.content content mapped in
+      let requests : x.requests ≡ y.requests = source-requests own x y call answer items x.source f.content content f.priorities priorities mapped in
       let error : x.error ≡ y.error = same-error own x y call answer items f.answer.error answered.error (ap (λ (t : Told O). t.error) told) in
       λ i. record { source = source i; call = call i; answer = answer i; items = items i; requests = requests i; error = error i }
 

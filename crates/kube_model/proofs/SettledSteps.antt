@@ -10,7 +10,7 @@ use Rattle.std.proofs.lemmas.Bool.{eqb-true}
 use Rattle.std.specs.Cmp.{on_equiv}
 use Rattle.kube_meta.specs.ReferenceLaws.{same_reference_equiv}
 use Rattle.kube_model.specs.World.{World, Settings, Watched, feed_of}
-use Rattle.kube_model.specs.History.{Message, same_message, Exchange, Turn, TurnRecord, Step, Taken, dated, exchanges, exchanges_with, exchanges_of}
+use Rattle.kube_model.specs.History.{Message, Prioritized, messages_of, same_message, Exchange, Turn, TurnRecord, Step, Taken, dated, exchanges, exchanges_with, exchanges_of}
 use Rattle.kube_model.specs.Owed.{mark}
 use Rattle.kube_model.specs.Store.{completes, listed, store_of, changes_of}
 use Rattle.kube_model.specs.Fits.{IsOfRoot, IsOfSource, requests_of_watch, updated, put_of}
@@ -23,7 +23,7 @@ use Rattle.kube_model.specs.Pause.{gave_up}
 use Rattle.kube_model.specs.Turns.{running_in, record_with}
 use Rattle.kube_model.specs.Traces.{Made, step, steps, EachIsNext, IsRecord, IsTrace}
 use Rattle.kube_model.specs.Settled.{about, if_keyed, last_handed, IsSettledAt, IsSettled}
-use Rattle.kube_model.proofs.Alls.{all-both, all-map, all-left, all-right, all-of_map}
+use Rattle.kube_model.proofs.Alls.{all-both, all-map, all-left, all-right, all-of_map, all-into_map}
 use Rattle.kube_model.proofs.Stores.{IsFoundIn, each-found, distinct-store, requested, all-store}
 use Rattle.kube_model.proofs.Entries.{entry-append, entry_by, on_from, kept-requests, made-requests, kept-takes}
 use Rattle.kube_model.proofs.Waits.{entry-alike}
@@ -34,12 +34,12 @@ or-three : (a b c : Bool) → a ≡ false → b ≡ false → c ≡ false → a 
 or-three a b c h k l = ap (λ x. x || b || c) h ∙ ap (λ x. x || c) k ∙ l
 
 -- each message that exchanges request is among their requests
-each-asked : (at : ℕ) (ms : List Message) → AllByRecursion (λ m. list_any (λ q. same_message q.message m) (map (requested_at at) ms) ≡ true) ms
+each-asked : (at : ℕ) (ps : List Prioritized) → AllByRecursion (λ p. list_any (λ q. same_message q.message p.message) (map (requested_at at) ps) ≡ true) ps
 each-asked at [] = tt
-each-asked at (m ∷ ms) = (
-  ap (λ b. b || list_any (λ q. same_message q.message m) (map (requested_at at) ms)) (same_reference_equiv.refl m.reference),
-  all-map (λ n. list_any (λ q. same_message q.message n) (map (requested_at at) ms) ≡ true) (λ n. list_any (λ q. same_message q.message n) (map (requested_at at) (m ∷ ms)) ≡ true)
-      (λ n h. ap (λ b. same_message m n || b) h ∙ or-true (same_message m n)) ms (each-asked at ms),
+each-asked at (p ∷ ps) = (
+  ap (λ b. b || list_any (λ q. same_message q.message p.message) (map (requested_at at) ps)) (same_reference_equiv.refl p.message.reference),
+  all-map (λ n. list_any (λ q. same_message q.message n.message) (map (requested_at at) ps) ≡ true) (λ n. list_any (λ q. same_message q.message n.message) (map (requested_at at) (p ∷ ps)) ≡ true)
+      (λ n h. ap (λ b. same_message p.message n.message || b) h ∙ or-true (same_message p.message n.message)) ps (each-asked at ps),
 )
 
 any-last : {A : Type 0} (p : A → Bool) (xs ys : List A) → list_any p ys ≡ true → list_any p (xs ++ ys) ≡ true
@@ -98,10 +98,10 @@ module _ {O B : Type 0} (w : World O B) (h : List (Step O)) (t : Turn) (made : M
   abbrev pub Waits : Message → Type 0
   Waits m = is_some (entry_by w.debounce queue m) ≡ true
 
-  pub each-waits : AllByRecursion Waits (flat_map (λ x. x.requests) r.exchanges)
+  pub each-waits : AllByRecursion (λ p. Waits p.message) (flat_map (λ x. x.requests) r.exchanges)
   each-waits =
-      all-map (λ m. list_any (λ q. same_message q.message m) (requests_of_exchanges t.at r.exchanges) ≡ true) Waits
-      (λ m e. asked-now m (any-last (λ q. same_message q.message m)
+      all-map (λ p. list_any (λ q. same_message q.message p.message) (requests_of_exchanges t.at r.exchanges) ≡ true) (λ p. Waits p.message)
+      (λ p e. asked-now p.message (any-last (λ q. same_message q.message p.message)
       (flat_map (requests_of_finish t.at) r.finished ++ reload_requests w (stored_in w h t made.1 r.exchanges).reloaded t ++ named_requests t)
       (requests_of_exchanges t.at r.exchanges) e))
       (flat_map (λ x. x.requests) r.exchanges) (each-asked t.at (flat_map (λ x. x.requests) r.exchanges))
@@ -143,16 +143,16 @@ module _ {O B : Type 0} (w : World O B) (settings : Settings) (watched : feed_of
   module _ (h : List (Step O)) (t : Turn) where
     -- P of what is stored, and Q of what is requested, goes through a turn's exchanges
     walk : (P : O → Type 0) (Q : Message → Type 0) → ((o : O) → Q (updated w o) → P o) → (before xs : List (Exchange O)) → EachIsNext w h t before xs
-        → AllByRecursion P (store_of w.key (exchanges_of 0 (exchanges_with h t before))) → AllByRecursion Q (flat_map (λ x. x.requests) xs)
+        → AllByRecursion P (store_of w.key (exchanges_of 0 (exchanges_with h t before))) → AllByRecursion (λ p. Q p.message) (flat_map (λ x. x.requests) xs)
         → AllByRecursion P (store_of w.key (exchanges_of 0 (exchanges_with h t (before ++ xs))))
     walk P Q f before [] n p q = subst (λ ys. AllByRecursion P (store_of w.key (exchanges_of 0 (exchanges_with h t ys)))) (sym (append-nil before)) p
     walk P Q f before (x ∷ xs) n p q =
         subst (λ ys. AllByRecursion P (store_of w.key (exchanges_of 0 (exchanges_with h t ys)))) (append_assoc before (x ∷ []) xs)
         (walk P Q f (before ++ x ∷ []) xs n.1
         (subst (λ ds. AllByRecursion P (store_of w.key (exchanges_of 0 ds))) (sym (exchanges_with-push h t before x)) (go (x.source == 0) refl))
-        (all-right Q x.requests (flat_map (λ x. x.requests) xs) q))
+        (all-right (λ p. Q p.message) x.requests (flat_map (λ x. x.requests) xs) q))
       where
-        fits : (x.source == 0) ≡ true → x.requests ≡ requests_of_watch w (exchanges_of 0 (exchanges_with h t before)) x
+        fits : (x.source == 0) ≡ true → messages_of x.requests ≡ requests_of_watch w (exchanges_of 0 (exchanges_with h t before)) x
         fits e =
             let own : IsOfRoot w (feed_of w 0) (exchanges_of 0 (exchanges_with h t before)) x =
             subst (λ source. IsOfSource w source (exchanges_of source (exchanges_with h t before)) x) (eqb-true x.source 0 e) n.0.fits.content in
@@ -165,7 +165,7 @@ module _ {O B : Type 0} (w : World O B) (settings : Settings) (watched : feed_of
             (all-map (λ o. Q (updated w o)) P f (requested w.key (exchanges_of 0 (exchanges_with h t before)) x)
             (all-of_map Q (updated w) (requested w.key (exchanges_of 0 (exchanges_with h t before)) x)
             (subst (AllByRecursion Q) (fits e ∙ requests-brought w (exchanges_of 0 (exchanges_with h t before)) x)
-            (all-left Q x.requests (flat_map (λ x. x.requests) xs) q)))))
+            (all-into_map Q (λ (p : Prioritized). p.message) x.requests (all-left (λ p. Q p.message) x.requests (flat_map (λ x. x.requests) xs) q))))))
         go false e = subst (λ ys. AllByRecursion P (store_of w.key ys)) (sym (exchanges_of-other 0 (exchanges_with h t before) (record { at = t.at; exchange = x }) e)) p
 
   module _ (h : List (Step O)) (t : Turn) (made : Made O) (unshut : is_shut (h ++ step t made ∷ []) ≡ false) (going : gave_up w (exchanges (h ++ step t made ∷ [])) ≡ false) where

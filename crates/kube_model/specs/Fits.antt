@@ -1,5 +1,5 @@
 -- When a recorded exchange is one that may be: it makes the owed call, and its answer, texts, objects, error and requests fit. (Tables of Kubernetes API concepts "list", "watch", "bookmarks"; crate: `watcher`.)
-use Rattle.std.specs.Prelude.{◌≡◌, ◌⊎◌, ℕ, zero, suc, ◌+◌, nat_le, Bool, true, false, not, ◌&&◌, ◌||◌, ◌==◌, List, [], ◌∷◌, ◌++◌, map, length, Option, Some, None, if◌then◌else◌, is_some, IsTrue}
+use Rattle.std.specs.Prelude.{◌≡◌, ◌⊎◌, ℕ, zero, suc, ◌+◌, nat_le, Bool, true, false, not, ◌&&◌, ◌||◌, ◌==◌, List, [], ◌∷◌, ◌++◌, map, length, Option, Some, None, if◌then◌else◌, is_some, unwrap_or, IsTrue}
 use Rattle.std.specs.List.{find, flat_map}
 use Rattle.std.specs.List.{AllByRecursion}
 use Rattle.std.specs.Option.{option_map}
@@ -11,8 +11,8 @@ use Rattle.kube_model.specs.declared.error.ApiError.{ApiError}
 use Rattle.kube_model.specs.declared.error.Error.{Error}
 use Rattle.kube_model.specs.declared.error.Error.TheVariants.{InitialListFailed, WatchStartFailed, WatchError, WatchFailed, NoResourceVersion}
 use Rattle.kube_model.specs.Reason.{Reason, ObjectUpdated, RelatedObjectUpdated}
-use Rattle.kube_model.specs.World.{World, Feed, Watched, Streamed, Queued, feed_of, window_of}
-use Rattle.kube_model.specs.History.{Message, Exchange, Dated, dated_of, exchanges_of}
+use Rattle.kube_model.specs.World.{World, Feed, Watched, Streamed, Queued, is_queue, feed_of, priority_of, window_of}
+use Rattle.kube_model.specs.History.{Message, Prioritized, messages_of, Exchange, Dated, dated_of, exchanges_of}
 use Rattle.kube_model.specs.Cuts.{after_last}
 use Rattle.kube_model.specs.Owed.{Marked, mark, owed, is_next, is_not_ready}
 use Rattle.kube_model.specs.Store.{completes, listed, changes_of, Change, Put, Gone}
@@ -128,9 +128,9 @@ is_related (RelatedObjectUpdated object) = true
 is_related _ = false
 
 -- what a related exchange may request: nothing where its items become no references
-abbrev pub RelatedRequestsFit : Bool → List Message → Type 0
+abbrev pub RelatedRequestsFit : Bool → List Prioritized → Type 0
 RelatedRequestsFit false requests = requests ≡ []
-RelatedRequestsFit true requests = AllByRecursion (λ m. IsTrue (is_related m.reason)) requests
+RelatedRequestsFit true requests = AllByRecursion (λ q. IsTrue (is_related q.message.reason)) requests
 
 -- what every exchange has beside its call: an answer to it, without empty texts, and the answer's error
 pub record IsAnswered {O : Type 0} (own : List (Exchange O)) (x : Exchange O) : Type 0 where
@@ -144,7 +144,7 @@ pub record IsOfRelated {O : Type 0} (own : List (Exchange O)) (x : Exchange O) :
   pub requests : RelatedRequestsFit (has_references (mark own x)) x.requests
 
 -- the request that came on a queue
-abbrev pub QueuedRequestsFit : Bool → Answer → List Message → Type 0
+abbrev pub QueuedRequestsFit : Bool → Answer → List Prioritized → Type 0
 QueuedRequestsFit failed Item requests = length requests ≡ (if failed then 0 else 1)
 QueuedRequestsFit failed _ requests = requests ≡ []
 
@@ -157,6 +157,10 @@ pub record IsOfQueue {O : Type 0} (x : Exchange O) : Type 0 where
 abbrev pub StreamItemsFit : {O : Type 0} → Bool → Answer → List O → Type 0
 StreamItemsFit failed Item items = length items ≡ (if failed then 0 else 1)
 StreamItemsFit failed _ items = items ≡ []
+
+-- each request has the priority that was set for its source; where none was, 0, or its own where it came on a queue
+abbrev pub PrioritiesFit : Bool → Option ℕ → List Prioritized → Type 0
+PrioritiesFit queue set requests = AllByRecursion (λ q. q.priority ≡ unwrap_or set (if queue then q.priority else 0)) requests
 
 module _ {O B : Type 0} (w : World O B) where
   -- one object of this version came
@@ -184,12 +188,12 @@ module _ {O B : Type 0} (w : World O B) where
 
   pub record IsOfWatch (own : List (Exchange O)) (x : Exchange O) : Type 0 where
     pub items : WatchItemsFit x.answer x.items
-    pub requests : x.requests ≡ requests_of_watch own x
+    pub requests : messages_of x.requests ≡ requests_of_watch own x
 
   -- a stream's object is requested as it comes
   pub record IsOfStream (x : Exchange O) : Type 0 where
     pub items : StreamItemsFit (is_some x.error) x.answer x.items
-    pub requests : x.requests ≡ map updated x.items
+    pub requests : messages_of x.requests ≡ map updated x.items
 
   abbrev pub IsOfRoot : Feed → List (Exchange O) → Exchange O → Type 0
   IsOfRoot (Watched settings) own x = IsOfWatch own x
@@ -201,9 +205,10 @@ module _ {O B : Type 0} (w : World O B) where
   IsOfSource zero own x = IsOfRoot (feed_of w 0) own x
   IsOfSource (suc place) own x = IsOfRelated own x
 
-  -- the exchange is one that its source may have after these, at this moment: its call is owed, it is idle exactly where its window is over, and the rest is of its answer
+  -- the exchange is one that its source may have after these, at this moment: its call is owed, it is idle exactly where its window is over, the rest is of its answer, and its requests have the source's priority
   pub record IsFitting (before : List (Dated O)) (at : ℕ) (x : Exchange O) : Type 0 where
     pub owes : x.call ≡ owed (feed_of w x.source) (exchanges_of x.source before)
     pub idle : IsTrue (is_next x.call) → IsTrue (idle_fits (is_window_over (window_of (feed_of w x.source)) (silent_since (dated_of x.source before)) at) x.answer)
     pub answer : IsAnswered (exchanges_of x.source before) x
     pub content : IsOfSource x.source (exchanges_of x.source before) x
+    pub priorities : PrioritiesFit (is_queue (feed_of w x.source)) (priority_of w x.source) x.requests

@@ -1,5 +1,5 @@
 -- The turns of a controller and their records, as plain data. O is the type of objects.
-use Rattle.std.specs.Prelude.{ℕ, Bool, List, ◌++◌, map, ◌==◌, Option}
+use Rattle.std.specs.Prelude.{ℕ, Bool, List, ◌++◌, map, ◌==◌, Option, unwrap_or}
 use Rattle.std.specs.List.{filter, flat_map}
 use Rattle.kube_meta.specs.Reference.{Reference, same_reference}
 use Rattle.kube_model.specs.declared.call.Call.{Call}
@@ -20,13 +20,29 @@ pub record Message : Type 0 where
 abbrev pub same_message : Message → Message → Bool
 same_message a b = same_reference a.reference b.reference
 
+-- a message with the priority of a request for it, or the greatest of several
+pub record Prioritized : Type 0 where
+  pub message : Message
+  pub priority : ℕ
+
+abbrev pub messages_of : List Prioritized → List Message
+messages_of requests = map (λ q. q.message) requests
+
+-- what a source requests for objects that came: with the priority that was set for it, and 0 where none was
+abbrev pub asked_by : Option ℕ → List Message → List Prioritized
+asked_by set messages = map (λ m. record { message = m; priority = unwrap_or set 0 }) messages
+
+-- what a source requests for requests that came: with the priority that was set for it, and their own where none was
+abbrev pub passed_by : Option ℕ → List Prioritized → List Prioritized
+passed_by set requests = map (λ (q : Prioritized). record q { priority = unwrap_or set q.priority }) requests
+
 -- a call of a source with its answer, the root's objects that came, and what it requests
 pub record Exchange (O : Type 0) : Type 0 where
   pub source : ℕ
   pub call : Call
   pub answer : Answer
   pub items : List O
-  pub requests : List Message
+  pub requests : List Prioritized
   pub error : Option Error  -- the watcher's, or the one that a stream gave
 
 -- an exchange with its moment
@@ -43,12 +59,17 @@ pub record Finish : Type 0 where
   pub reference : Reference
   pub outcome : Outcome
 
+-- a reference that a turn names, with the priority of the request for it
+pub record Named : Type 0 where
+  pub reference : Reference
+  pub priority : ℕ
+
 pub record Turn : Type 0 where
   pub at : ℕ
   pub budget : List ℕ
   pub finishes : List Finish
   pub reload : Bool
-  pub on : List Reference
+  pub on : List Named
   pub shutdown : Shutdown
   pub show : Bool
 
@@ -57,9 +78,10 @@ pub record Finished : Type 0 where
   pub finish : Finish
   pub action : Option ℕ
 
--- a message that was taken, with the object that was handed over, if one was found
+-- a message that was taken, with the greatest priority of its requests, and the object that was handed over, if one was found
 pub record Taken (O : Type 0) : Type 0 where
   pub message : Message
+  pub priority : ℕ
   pub object : Option O
 
 pub record TurnRecord (O : Type 0) : Type 0 where

@@ -14,6 +14,7 @@ pub mod Recorded
 pub mod Mapping
 pub mod Shapes
 pub mod Queue
+pub mod ByPriority
 pub mod Pause
 pub mod Shutdowns
 pub mod Takes

@@ -5,9 +5,9 @@ use Rattle.kube_meta.specs.Reference.{ObjectType, Reference}
 use Rattle.kube_model.specs.declared.call.Answer.{Answer}
 use Rattle.kube_model.specs.declared.error.Error.{Error}
 use Rattle.kube_model.specs.declared.turn.Shutdown.TheVariants.{No}
-use Rattle.kube_model.specs.World.{World, Feed, Watched, Streamed, Queued, default_settings, feed_of}
+use Rattle.kube_model.specs.World.{World, Feed, Watched, Streamed, Queued, default_settings, feed_of, priority_of}
 use Rattle.kube_model.specs.Reads.{Reads, nothing_read}
-use Rattle.kube_model.specs.History.{Message, Exchange, Finish, Finished, Succeeded, Failed, Turn, Step, exchanges_with, exchanges_of}
+use Rattle.kube_model.specs.History.{Prioritized, asked_by, passed_by, Exchange, Finish, Finished, Succeeded, Failed, Turn, Step, exchanges_with, exchanges_of}
 use Rattle.kube_model.specs.Owed.{mark, owed}
 use Rattle.kube_model.specs.Fits.{error_of, requests_of_watch, updated}
 use Rattle.kube_model.specs.Turns.{next_source, record_with}
@@ -37,6 +37,7 @@ world_with feeds limit debounce = record {
   is_named = λ o. true;
   version = λ o. o.version;
   feeds = feeds;
+  priorities = [];
   limit = limit;
   debounce = debounce;
   backoff = [];
@@ -56,7 +57,7 @@ turn_at at budget = record { at = at; budget = budget; finishes = []; reload = f
 pub record Came : Type 0 where
   pub answer : Answer
   pub items : List Thing
-  pub mapped : List Message
+  pub mapped : List Prioritized
   pub error : Option Error
 
 abbrev pub came : Answer → List Thing → Came
@@ -81,11 +82,11 @@ own_action f = record { finish = f; action = elim (f.outcome) [ Succeeded action
 
 module _ (w : World Thing (List (Option ℕ))) where
   -- what an exchange of this source requests
-  abbrev pub requests_by : ℕ → Feed → List (Exchange Thing) → Exchange Thing → Came → List Message
-  requests_by zero (Watched settings) own x c = requests_of_watch w own x
-  requests_by zero Streamed own x c = map (updated w) x.items
-  requests_by zero Queued own x c = c.mapped
-  requests_by (suc place) feed own x c = c.mapped
+  abbrev pub requests_by : ℕ → Feed → List (Exchange Thing) → Exchange Thing → Came → List Prioritized
+  requests_by zero (Watched settings) own x c = asked_by (priority_of w 0) (requests_of_watch w own x)
+  requests_by zero Streamed own x c = asked_by (priority_of w 0) (map (updated w) x.items)
+  requests_by zero Queued own x c = passed_by (priority_of w 0) c.mapped
+  requests_by (suc place) feed own x c = passed_by (priority_of w (suc place)) c.mapped
 
   abbrev pub error_by : Feed → List (Exchange Thing) → Exchange Thing → Came → Option Error
   error_by (Watched settings) own x c = error_of (mark own x)
@@ -118,3 +119,7 @@ module _ (w : World Thing (List (Option ℕ))) where
 -- what a record took: the reference's name and the version that was handed over
 abbrev pub took_in : Made Thing → List (List ℕ × Option (List ℕ))
 took_in m = map (λ t. (t.message.reference.name, unwrap_or (option_map (λ o. o.version) t.object) None)) m.0.taken
+
+-- the same: the reference's name and the priority
+abbrev pub ranked_in : Made Thing → List (List ℕ × ℕ)
+ranked_in m = map (λ t. (t.message.reference.name, t.priority)) m.0.taken

@@ -8,7 +8,7 @@ use Rattle.kube_model.specs.declared.call.Answer.{Answer}
 use Rattle.kube_model.specs.declared.call.Answer.TheVariants.{Page, Opened, Added, Modified, Deleted, Bookmark, ErrorItem, Fault, End, NotReady, Idle}
 use Rattle.kube_model.specs.Raw.{Raw, RawCall, RawAnswer, ListAsked, WatchAsked, NextAsked, Waits, Fails, GivesPage, Opens, GivesAdded, GivesModified, GivesDeleted, GivesBookmark, GivesError, Ends}
 use Rattle.kube_model.specs.World.{Settings, list_params, watch_params}
-use Rattle.kube_model.specs.History.{Exchange, Message}
+use Rattle.kube_model.specs.History.{Exchange, Message, asked_by}
 use Rattle.kube_model.specs.Owed.{mark}
 use Rattle.kube_model.specs.Fits.{nonempty, has_references}
 
@@ -55,14 +55,14 @@ pub record IsRecorded {V : Type 0} (version : V → Option (List ℕ)) (settings
   pub answer : IsAnsweredBy version raw x.answer
   pub items : x.items ≡ items_of raw.answer
 
--- the exchange of a watched related source after those before it is recorded from this raw form: its items are mapped to requests, one list for each, in order; is_mapped says what the mapper answered of an object
-pub record IsRecordedMapped {O V : Type 0} (version : V → Option (List ℕ)) (is_mapped : V → List Message → Type 0) (settings : Settings) (before : List (Exchange O)) (raw : Raw V) (x : Exchange O) : Type 0 where
+-- the exchange of a watched related source after those before it is recorded from this raw form: its items are mapped to messages, one list for each, in order, and requested with the priority that was set for the source, if one was; is_mapped says what the mapper answered of an object
+pub record IsRecordedMapped {O V : Type 0} (version : V → Option (List ℕ)) (is_mapped : V → List Message → Type 0) (settings : Settings) (set : Option ℕ) (before : List (Exchange O)) (raw : Raw V) (x : Exchange O) : Type 0 where
   pub call : raw_call settings x.call ≡ Some raw.call
   pub answer : IsAnsweredBy version raw x.answer
   pub items : x.items ≡ []
   pub parts : List (List Message)
   pub mapped : AllZip is_mapped (if has_references (mark before x) then items_of raw.answer else []) parts
-  pub requests : x.requests ≡ flat_map (λ part. part) parts
+  pub requests : x.requests ≡ asked_by set (flat_map (λ part. part) parts)
 
 -- the objects of a related source that must become references have names
 abbrev pub AreNamedRaw : {O V : Type 0} → (V → Bool) → List (Exchange O) → Raw V → Exchange O → Type 0
@@ -73,8 +73,8 @@ abbrev pub AreRecorded : {V : Type 0} → (V → Option (List ℕ)) → Settings
 AreRecorded version settings raws xs = AllZip (IsRecorded version settings) raws xs
 
 -- those of a watched related source's exchanges after those before
-abbrev pub AreRecordedMapped : {O V : Type 0} → (V → Option (List ℕ)) → (V → List Message → Type 0) → Settings → List (Exchange O) → List (Raw V) → List (Exchange O) → Type 0
-AreRecordedMapped version is_mapped settings before [] xs = xs ≡ []
-AreRecordedMapped version is_mapped settings before (raw ∷ raws) [] = ⊥
-AreRecordedMapped version is_mapped settings before (raw ∷ raws) (x ∷ xs) =
-    IsRecordedMapped version is_mapped settings before raw x × AreRecordedMapped version is_mapped settings (before ++ x ∷ []) raws xs
+abbrev pub AreRecordedMapped : {O V : Type 0} → (V → Option (List ℕ)) → (V → List Message → Type 0) → Settings → Option ℕ → List (Exchange O) → List (Raw V) → List (Exchange O) → Type 0
+AreRecordedMapped version is_mapped settings set before [] xs = xs ≡ []
+AreRecordedMapped version is_mapped settings set before (raw ∷ raws) [] = ⊥
+AreRecordedMapped version is_mapped settings set before (raw ∷ raws) (x ∷ xs) =
+    IsRecordedMapped version is_mapped settings set before raw x × AreRecordedMapped version is_mapped settings set (before ++ x ∷ []) raws xs

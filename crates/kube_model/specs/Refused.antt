@@ -9,7 +9,7 @@ use Rattle.kube_model.specs.World.{World, default_settings, list_params}
 use Rattle.kube_model.specs.Raw.{ListAsked, GivesPage}
 use Rattle.kube_model.specs.Takes.{Running}
 use Rattle.kube_model.specs.Named.{Form, OfCall}
-use Rattle.kube_model.specs.History.{Message, Exchange, Dated, dated}
+use Rattle.kube_model.specs.History.{Message, Prioritized, asked_by, Exchange, Dated, dated}
 use Rattle.kube_model.specs.Fits.{IsFitting}
 use Rattle.kube_model.specs.Plays.{Thing, thing, reference_to, plain_world}
 use Rattle.kube_model.specs.Rows.{a}
@@ -25,7 +25,7 @@ next answer items = exchange 0 Next answer items
 -- the page and the opened watch, at 0
 abbrev pub before : List (Dated Thing)
 before =
-    dated 0 (record (exchange 0 (ListCall None) (Page None (Some (codes "1"))) (thing a (codes "1") ∷ [])) { requests = record { reference = reference_to a; reason = ObjectUpdated } ∷ [] }
+    dated 0 (record (exchange 0 (ListCall None) (Page None (Some (codes "1"))) (thing a (codes "1") ∷ [])) { requests = asked_by None (record { reference = reference_to a; reason = ObjectUpdated } ∷ []) }
     ∷ exchange 0 (Watch (codes "1") false) Opened [] ∷ [])
 
 -- these, and a look at the watch that was not ready
@@ -38,7 +38,15 @@ for_a = record { reference = reference_to a; reason = ObjectUpdated }
 
 -- an exchange with these requests
 abbrev pub requesting : List Message → Exchange Thing → Exchange Thing
-requesting messages x = record x { requests = messages }
+requesting messages x = record x { requests = asked_by None messages }
+
+-- an exchange whose requests have this priority
+abbrev pub prioritizing : ℕ → Exchange Thing → Exchange Thing
+prioritizing priority x = record x { requests = map (λ (q : Prioritized). record q { priority = priority }) x.requests }
+
+-- a root for which a priority was set
+abbrev pub world_of_priority : ℕ → World Thing (List (Option ℕ))
+world_of_priority priority = record plain_world { priorities = Some priority ∷ [] }
 
 -- a change of a to version 2, with these objects and this version
 abbrev pub change : Option (List ℕ) → List Thing → Exchange Thing

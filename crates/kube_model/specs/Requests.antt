@@ -5,42 +5,43 @@ use Rattle.kube_meta.specs.Reference.{reference_before}
 use Rattle.kube_model.specs.Reason.{Reason, Unknown, ReconcilerRequestedRetry, ErrorPolicyRequestedRetry, BulkReconcile}
 use Rattle.kube_model.specs.World.{World}
 use Rattle.kube_model.specs.Reads.{Reads}
-use Rattle.kube_model.specs.History.{Message, same_message, Exchange, Outcome, Succeeded, Failed, Turn, Finished, Step, Taken}
+use Rattle.kube_model.specs.History.{Message, Prioritized, same_message, Exchange, Outcome, Succeeded, Failed, Turn, Finished, Step, Taken}
 use Rattle.kube_model.specs.Queue.{QueueEvent, Requested, Settled, Took, plus, sorted_by, Entry, Frozen, entry, waiting}
 use Rattle.kube_model.specs.Shutdowns.{is_closed}
 use Rattle.kube_model.specs.Stored.{stored_in}
 
--- a message with the moment from which it counts
+-- a message with the moment from which it counts, and the priority of the request
 pub record Timed : Type 0 where
   pub message : Message
   pub run_at : ℕ
+  pub priority : ℕ
 
-abbrev pub requested_at : ℕ → Message → Timed
-requested_at at m = record { message = m; run_at = at }
+abbrev pub requested_at : ℕ → Prioritized → Timed
+requested_at at q = record { message = q.message; run_at = at; priority = q.priority }
 
 abbrev pub retry_reason : Outcome → Reason
 retry_reason (Succeeded action) = ReconcilerRequestedRetry
 retry_reason Failed = ErrorPolicyRequestedRetry
 
--- a finish whose action has a requeue requests its reference so much later
+-- a finish whose action has a requeue requests its reference so much later, with priority 0
 abbrev pub requests_of_action : ℕ → Finished → Option ℕ → List Timed
 requests_of_action at f None = []
 requests_of_action at f (Some nanos) =
-    record { message = record { reference = f.finish.reference; reason = retry_reason f.finish.outcome }; run_at = plus at nanos } ∷ []
+    record { message = record { reference = f.finish.reference; reason = retry_reason f.finish.outcome }; run_at = plus at nanos; priority = 0 } ∷ []
 
 abbrev pub requests_of_finish : ℕ → Finished → List Timed
 requests_of_finish at f = requests_of_action at f f.action
 
--- named requests, as given
+-- named requests, as given, with their priorities
 abbrev pub named_requests : Turn → List Timed
-named_requests t = map (λ r. requested_at t.at (record { reference = r; reason = Unknown })) t.on
+named_requests t = map (λ n. requested_at t.at (record { message = record { reference = n.reference; reason = Unknown }; priority = n.priority })) t.on
 
 -- those of exchanges, in order
 abbrev pub requests_of_exchanges : {O : Type 0} → ℕ → List (Exchange O) → List Timed
 requests_of_exchanges at xs = map (requested_at at) (flat_map (λ x. x.requests) xs)
 
 abbrev pub asked_at : ℕ → Timed → QueueEvent Message
-asked_at now q = Requested (record { message = q.message; run_at = q.run_at; now = now })
+asked_at now q = Requested (record { message = q.message; run_at = q.run_at; priority = q.priority; now = now })
 
 -- requests at a moment, and a settle
 abbrev pub requested_and_settled : ℕ → List Timed → List (QueueEvent Message)
@@ -50,11 +51,11 @@ abbrev pub took : {O : Type 0} → List (Taken O) → List (QueueEvent Message)
 took taken = map (λ t. Took t.message) taken
 
 module _ {O B : Type 0} (w : World O B) where
-  -- a reload requests the stored keys, by namespace with none first, then by name
+  -- a reload requests the stored keys, by namespace with none first, then by name, with priority 0
   abbrev pub reload_requests : List O → Turn → List Timed
   reload_requests store t =
       if t.reload
-      then map (λ r. requested_at t.at (record { reference = r; reason = BulkReconcile })) (sorted_by reference_before (map w.key store))
+      then map (λ r. requested_at t.at (record { message = record { reference = r; reason = BulkReconcile }; priority = 0 })) (sorted_by reference_before (map w.key store))
       else []
 
   -- all requests of a turn: of finishes, then of the reload, then the named ones, then those of the exchanges

@@ -13,7 +13,7 @@ use Rattle.kube_model.specs.Reason.{Reason, RelatedObjectUpdated, Unknown}
 use Rattle.kube_model.specs.World.{World, Watched, Streamed, Queued, default_settings}
 use Rattle.kube_model.specs.Reads.{IsNotYet, IsReady, HasFailed, nothing_read}
 use Rattle.kube_model.specs.Mapping.{mapped_requests, labelled_by}
-use Rattle.kube_model.specs.History.{Message, Finish, Step, Succeeded, Turn}
+use Rattle.kube_model.specs.History.{Message, asked_by, Finish, Step, Succeeded, Turn}
 use Rattle.kube_model.specs.Traces.{Made, step}
 use Rattle.kube_model.specs.Plays.{Thing, Came, Play, came, config_map, key_of_thing, made_by, plain_world, thing, reference_to, turn_at, watched, world_with}
 
@@ -47,7 +47,7 @@ abbrev pub calls_of : Made Thing → List Call
 calls_of m = map (λ x. x.call) m.0.exchanges
 
 abbrev pub requests_of : Made Thing → List (List (List ℕ))
-requests_of m = map (λ x. map (λ q. q.reference.name) x.requests) m.0.exchanges
+requests_of m = map (λ x. map (λ q. q.message.reference.name) x.requests) m.0.exchanges
 
 abbrev pub stops_of : Made Thing → List Stop
 stops_of m = m.0.stops
@@ -55,9 +55,12 @@ stops_of m = m.0.stops
 abbrev pub names_stored : Made Thing → Option (List (List ℕ))
 names_stored m = elim (m.0.store) [ None ↦ None | Some store ↦ Some (map (λ o. o.name) store) ]
 
--- a turn that names references
+-- a turn that names references with these priorities, or without one
+abbrev pub naming_with : ℕ → List ℕ → List (List ℕ × ℕ) → Turn
+naming_with at budget names = record (turn_at at budget) { on = map (λ n. record { reference = reference_to n.0; priority = n.1 }) names }
+
 abbrev pub naming : ℕ → List ℕ → List (List ℕ) → Turn
-naming at budget names = record (turn_at at budget) { on = map reference_to names }
+naming at budget names = naming_with at budget (map (λ name. (name, 0)) names)
 
 -- a turn in which these have ended, and ask to come again so much later or wait for a change
 abbrev pub ending : ℕ → List ℕ → List (List ℕ × Option ℕ) → Turn
@@ -179,7 +182,7 @@ by_pod r = record { reference = r; reason = RelatedObjectUpdated (record { kind 
 
 abbrev pub owned_pod : List (Turn × List Came)
 owned_pod =
-    (turn_at 0 (1 ∷ 1 ∷ []), page_of_a ∷ record (came (Page None (Some (codes "1"))) []) { mapped = by_pod a_in_ns ∷ [] } ∷ []) ∷ []
+    (turn_at 0 (1 ∷ 1 ∷ []), page_of_a ∷ record (came (Page None (Some (codes "1"))) []) { mapped = asked_by None (by_pod a_in_ns ∷ []) } ∷ []) ∷ []
 
 abbrev pub ends_of : Reference → Finish
 ends_of r = record { reference = r; outcome = Succeeded None }
@@ -260,7 +263,7 @@ abbrev pub fed_by_a_queue : List Play
 fed_by_a_queue =
     record {
       turn = record (turn_at 0 (2 ∷ [])) { show = false };
-      came = record (came Item []) { mapped = record { reference = reference_to a; reason = Unknown } ∷ [] } ∷ came NotReady [] ∷ [];
+      came = record (came Item []) { mapped = record { message = record { reference = reference_to a; reason = Unknown }; priority = 0 } ∷ [] } ∷ came NotReady [] ∷ [];
       reads = record { readiness = Some IsReady; reloaded = None; looked_up = Some (thing a (codes "1")) ∷ []; shown = None };
     }
     ∷ record { turn = record (turn_at 1 (2 ∷ [])) { show = false; finishes = record { reference = reference_to a; outcome = Succeeded None } ∷ [] }; came = came End [] ∷ []; reads = nothing_read } ∷ []
@@ -281,4 +284,46 @@ abbrev pub by_pod_p : Reason
 by_pod_p = RelatedObjectUpdated (record { kind = pods; name = codes "p"; namespace = None })
 
 abbrev pub labelled_pod : List (Turn × List Came)
-labelled_pod = (turn_at 0 (1 ∷ 1 ∷ []), page_of_a ∷ record (came (Page None (Some (codes "1"))) []) { mapped = by_label } ∷ []) ∷ []
+labelled_pod = (turn_at 0 (1 ∷ 1 ∷ []), page_of_a ∷ record (came (Page None (Some (codes "1"))) []) { mapped = asked_by None by_label } ∷ []) ∷ []
+
+-- Priorities.
+
+-- a, b and c are listed; c, which waits, is named with a priority, and goes before b, which waited before it
+abbrev pub named_with_priority : List (Turn × List Came)
+named_with_priority =
+    (turn_at 0 (3 ∷ []), page (codes "1") (thing a (codes "1") ∷ thing (codes "b") (codes "1") ∷ thing (codes "c") (codes "1") ∷ []) ∷ opened ∷ silent ∷ [])
+    ∷ (record (naming_with 1 (0 ∷ []) ((codes "c", 5) ∷ [])) { finishes = finish_of a ∷ [] }, [])
+    ∷ (ending 2 (0 ∷ []) ((codes "c", None) ∷ []), []) ∷ []
+
+-- a asks to come again at once and is named with a priority, and then asks to come again at once
+abbrev pub requeued_and_named : List (Turn × List Came)
+requeued_and_named =
+    (turn_at 0 (1 ∷ []), page_of_a ∷ [])
+    ∷ (record (ending 1 [] ((a, Some 0) ∷ [])) { on = record { reference = reference_to a; priority = 3 } ∷ [] }, [])
+    ∷ (ending 2 [] ((a, Some 0) ∷ []), []) ∷ []
+
+-- b and c wait while a runs; c is named with 5 and then with 1, and b with 3
+abbrev pub named_thrice : List (Turn × List Came)
+named_thrice =
+    (turn_at 0 (1 ∷ []), page (codes "1") (thing a (codes "1") ∷ thing (codes "b") (codes "1") ∷ thing (codes "c") (codes "1") ∷ []) ∷ [])
+    ∷ (naming_with 1 [] ((codes "c", 5) ∷ []), [])
+    ∷ (naming_with 2 [] ((codes "c", 1) ∷ (codes "b", 3) ∷ []), [])
+    ∷ (ending 3 [] ((a, None) ∷ []), [])
+    ∷ (ending 4 [] ((codes "c", None) ∷ []), []) ∷ []
+
+-- two sources, of which the related one has a priority: its page maps to b
+abbrev pub prioritized_world : World Thing (List (Option ℕ))
+prioritized_world = record related_world { priorities = None ∷ Some 7 ∷ [] }
+
+abbrev pub owned_by_b : List (Turn × List Came)
+owned_by_b =
+    (turn_at 0 (1 ∷ 1 ∷ []), page (codes "1") (thing a (codes "1") ∷ thing (codes "b") (codes "1") ∷ []) ∷ record (came (Page None (Some (codes "1"))) []) { mapped = asked_by None (by_pod (reference_to (codes "b")) ∷ []) } ∷ []) ∷ []
+
+-- an applier, whose queue gives a request with a priority of its own
+abbrev pub queued_with_priority : List Play
+queued_with_priority =
+    record {
+      turn = record (turn_at 0 (2 ∷ [])) { show = false };
+      came = record (came Item []) { mapped = record { message = record { reference = reference_to a; reason = Unknown }; priority = 4 } ∷ [] } ∷ came NotReady [] ∷ [];
+      reads = record { readiness = Some IsReady; reloaded = None; looked_up = Some (thing a (codes "1")) ∷ []; shown = None };
+    } ∷ []

@@ -4,7 +4,7 @@ use Rattle.std.specs.List.{list_any}
 use Rattle.kube_model.specs.declared.error.RunnerError.{RunnerError}
 use Rattle.kube_model.specs.World.{World, Feed, Watched, Streamed, Queued, feed_of}
 use Rattle.kube_model.specs.Reads.{Reads, told_ready, failure_in}
-use Rattle.kube_model.specs.History.{Message, Exchange, Turn, Taken, Step, exchanges, exchanges_with, exchanges_of}
+use Rattle.kube_model.specs.History.{Prioritized, Exchange, Turn, Taken, Step, exchanges, exchanges_with, exchanges_of}
 use Rattle.kube_model.specs.Store.{is_ready, store_of}
 use Rattle.kube_model.specs.Shutdowns.{is_over}
 use Rattle.kube_model.specs.Takes.{found_in, found_so, found_with, has_room}
@@ -13,7 +13,7 @@ use Rattle.kube_model.specs.Takes.{found_in, found_so, found_with, has_room}
 pub record Stored (O : Type 0) : Type 0 where
   pub is_ready : Bool
   pub reloaded : List O
-  pub found_of : List Message → List (Taken O)  -- candidates with what is found of them
+  pub found_of : List Prioritized → List (Taken O)  -- candidates with what is found of them
   pub shown : Option (List O)
   pub failure : Option RunnerError
 
@@ -32,7 +32,7 @@ read_by was_ready r = record {
 }
 
 -- one answer for each candidate that is looked up: each before which fewer than the room were found
-abbrev pub AreLookedUp : {O : Type 0} → ℕ → ℕ → ℕ → List Message → List (Option O) → Type 0
+abbrev pub AreLookedUp : {O : Type 0} → ℕ → ℕ → ℕ → List Prioritized → List (Option O) → Type 0
 AreLookedUp limit running n [] answers = answers ≡ []
 AreLookedUp limit running n (m ∷ ms) [] = has_room limit running n ≡ false
 AreLookedUp limit running n (m ∷ ms) (o ∷ os) = (has_room limit running n ≡ true) × AreLookedUp limit running (found_with n o) ms os

@@ -3,7 +3,7 @@ use Rattle.std.specs.Prelude.{ℕ, ◌+◌, ◌-◌, Bool, not, ◌||◌, ◌==�
 use Rattle.std.specs.List.{filter, filter_map, flat_map, list_any, zip}
 use Rattle.std.specs.Option.{option_map}
 use Rattle.kube_meta.specs.Reference.{Reference, same_reference}
-use Rattle.kube_model.specs.History.{Message, Taken, Finish, Step}
+use Rattle.kube_model.specs.History.{Message, Prioritized, Taken, Finish, Step}
 use Rattle.kube_model.specs.Queue.{Frozen}
 use Rattle.kube_model.specs.Store.{found}
 
@@ -35,13 +35,17 @@ runs running r = list_any (λ p. same_reference p.reference r) running
 abbrev pub candidates : {O : Type 0} → List (Running O) → List (Frozen Message) → List (Frozen Message)
 candidates running waiting = filter (λ e. not (runs running e.entry.message.reference)) waiting
 
+-- a waiting message, with its priority
+abbrev pub prioritized : Frozen Message → Prioritized
+prioritized e = record { message = e.entry.message; priority = e.priority }
+
 -- messages, each with what this store has of it
-abbrev pub found_in : {O : Type 0} → (O → Reference) → List O → List Message → List (Taken O)
-found_in key store messages = map (λ m. record { message = m; object = found key store m.reference }) messages
+abbrev pub found_in : {O : Type 0} → (O → Reference) → List O → List Prioritized → List (Taken O)
+found_in key store qs = map (λ q. record { message = q.message; priority = q.priority; object = found key store q.message.reference }) qs
 
 -- messages, each with what a look-up of it answered
-abbrev pub found_so : {O : Type 0} → List (Option O) → List Message → List (Taken O)
-found_so answers messages = map (λ p. record { message = p.0; object = p.1 }) (zip messages answers)
+abbrev pub found_so : {O : Type 0} → List (Option O) → List Prioritized → List (Taken O)
+found_so answers qs = map (λ p. record { message = p.0.message; priority = p.0.priority; object = p.1 }) (zip qs answers)
 
 -- whether one more may be taken: the room is the limit less what runs, or unbounded where the limit is 0, and of the candidates before n were found
 abbrev pub has_room : ℕ → ℕ → ℕ → Bool
@@ -57,5 +61,5 @@ within_room limit running n [] = []
 within_room limit running n (t ∷ ts) = (if has_room limit running n then t ∷ [] else []) ++ within_room limit running (found_with n t.object) ts
 
 -- of the candidates, each with what is found of it, those before which fewer than the room are found
-abbrev pub taken_of : {O : Type 0} → ℕ → (List Message → List (Taken O)) → List (Running O) → List (Frozen Message) → List (Taken O)
-taken_of limit found_of running waiting = within_room limit (length running) 0 (found_of (map (λ e. e.entry.message) (candidates running waiting)))
+abbrev pub taken_of : {O : Type 0} → ℕ → (List Prioritized → List (Taken O)) → List (Running O) → List (Frozen Message) → List (Taken O)
+taken_of limit found_of running waiting = within_room limit (length running) 0 (found_of (map prioritized (candidates running waiting)))

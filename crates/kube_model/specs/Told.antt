@@ -5,13 +5,13 @@ use Rattle.kube_model.specs.declared.call.Answer.TheVariants.{Item}
 use Rattle.kube_model.specs.declared.error.Error.{Error}
 use Rattle.kube_model.specs.World.{World, Feed, Watched, Streamed, Queued, feed_of}
 use Rattle.kube_model.specs.Reads.{Reads}
-use Rattle.kube_model.specs.History.{Message, Exchange}
+use Rattle.kube_model.specs.History.{Prioritized, Exchange}
 use Rattle.kube_model.specs.Traces.{Made}
 
 pub record Told (O : Type 0) : Type 0 where
   pub answer : Answer
   pub items : List O
-  pub mapped : List Message  -- what related objects were mapped to, or the request of a queue
+  pub mapped : List Prioritized  -- what related objects were mapped to, or the request of a queue
   pub error : Option Error  -- of an item of a stream
 
 abbrev pub is_item : Answer → Bool
@@ -19,7 +19,7 @@ is_item Item = true
 is_item _ = false
 
 -- a root that is watched, or a stream, requests its objects; what others request is told
-abbrev pub requests_told : ℕ → Feed → List Message → List Message
+abbrev pub requests_told : ℕ → Feed → List Prioritized → List Prioritized
 requests_told zero (Watched settings) messages = []
 requests_told zero Streamed messages = []
 requests_told zero Queued messages = messages

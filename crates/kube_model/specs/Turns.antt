@@ -3,12 +3,12 @@ use Rattle.std.specs.Prelude.{◌≡◌, ℕ, Bool, not, ◌&&◌, ◌||◌, ◌
 use Rattle.std.specs.List.{filter_map}
 use Rattle.kube_model.specs.World.{World, Feed, Watched, Streamed, Queued}
 use Rattle.kube_model.specs.Reads.{Reads, nothing_read}
-use Rattle.kube_model.specs.History.{Message, Exchange, Turn, Finished, Taken, TurnRecord, Step, dated, exchanges}
+use Rattle.kube_model.specs.History.{Prioritized, Exchange, Turn, Finished, Taken, TurnRecord, Step, dated, exchanges}
 use Rattle.kube_model.specs.Asks.{next_asked, stops_of}
 use Rattle.kube_model.specs.Shutdowns.{is_shut, is_forced, asks_shutdown, is_closed, is_over}
 use Rattle.kube_model.specs.Stored.{stored_in, may_take, was_ready, AreLookedUp}
 use Rattle.kube_model.specs.Requests.{waiting_in}
-use Rattle.kube_model.specs.Takes.{Running, running, unfinished, started, candidates, taken_of}
+use Rattle.kube_model.specs.Takes.{Running, running, unfinished, started, candidates, prioritized, taken_of}
 
 module _ {O B : Type 0} (w : World O B) where
   -- whether shutdown was asked before a turn or in it
@@ -53,9 +53,9 @@ module _ {O B : Type 0} (w : World O B) where
   -- Reads.
 
   -- what is looked up in a turn: its candidates, where it takes
-  abbrev pub looked_up_in : List (Step O) → Turn → Reads O → List Finished → List (Exchange O) → List Message
+  abbrev pub looked_up_in : List (Step O) → Turn → Reads O → List Finished → List (Exchange O) → List Prioritized
   looked_up_in h t r finished xs =
-      if may_take w h t r xs then map (λ e. e.entry.message) (candidates (running_in h t) (waiting_in w h t r finished xs)) else []
+      if may_take w h t r xs then map prioritized (candidates (running_in h t) (waiting_in w h t r finished xs)) else []
 
   -- the reads that a turn makes: `poll_ready` is polled after the asks until it told that the store is ready, and not after shutdown was asked or given up; a reload reads, each look-up does, and a turn that shows
   pub record AreReads (h : List (Step O)) (t : Turn) (r : Reads O) (finished : List Finished) (xs : List (Exchange O)) : Type 0 where

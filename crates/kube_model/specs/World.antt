@@ -83,6 +83,7 @@ pub record World (O B : Type 0) : Type 0 where
   pub is_named : O → Bool
   pub version : O → Option (List ℕ)  -- its version in the API server's store
   pub feeds : List Feed  -- of each source, the root first
+  pub priorities : List (Option ℕ)  -- that were set for the sources, the root first
   pub limit : ℕ  -- how many may run; 0 is unbounded
   pub debounce : ℕ  -- in nanoseconds
   pub backoff : B  -- its state at first
@@ -92,3 +93,10 @@ pub record World (O B : Type 0) : Type 0 where
 -- a source that isn't there, which is never asked, counts as a stream
 abbrev pub feed_of : {O B : Type 0} → World O B → ℕ → Feed
 feed_of w source = unwrap_or (slice_get w.feeds source) Streamed
+
+-- the priority that was set for a source, if one was, where these were set
+abbrev pub priority_at : List (Option ℕ) → ℕ → Option ℕ
+priority_at priorities source = unwrap_or (slice_get priorities source) None
+
+abbrev pub priority_of : {O B : Type 0} → World O B → ℕ → Option ℕ
+priority_of w source = priority_at w.priorities source

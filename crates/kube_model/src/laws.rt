@@ -2,7 +2,7 @@
 //!
 //! `O` is any type of objects, `B` any type of a backoff's states and `M` any type of messages.
 
-ghost use Rattle.std.specs.Prelude.{◌≡◌, ℕ, ◌+◌, ◌≤◌, Bool, List, Option, Some, ◌++◌, ◌∷◌, [], if◌then◌else◌, is_some, length, map, take, true, false};
+ghost use Rattle.std.specs.Prelude.{◌≡◌, ℕ, ◌+◌, ◌≤◌, Bool, List, Option, Some, None, max, ◌++◌, ◌∷◌, [], if◌then◌else◌, is_some, length, map, take, true, false};
 ghost use Rattle.std.specs.List.{count_by, fold, list_any, AllByRecursion};
 ghost use Rattle.std.specs.Cmp.{IsEquivalence};
 ghost use Rattle.kube_model.specs.World.{World, Settings, Watched, feed_of};
@@ -11,10 +11,11 @@ ghost use Rattle.kube_model.specs.Owed.{is_initial, owed, seen};
 ghost use Rattle.kube_model.specs.Fits.{silent_since};
 ghost use Rattle.kube_model.specs.Shapes.{shapes, dated_shapes};
 ghost use Rattle.kube_model.specs.SecondForms.{initial_after, running_after};
-ghost use Rattle.kube_model.specs.Takes.{running, candidates, found_with, has_room, within_room};
+ghost use Rattle.kube_model.specs.Takes.{running, candidates, found_with, has_room, prioritized, within_room};
 ghost use Rattle.kube_model.specs.Stored.{may_take, stored_in};
 ghost use Rattle.kube_model.specs.Turns.{running_in};
-ghost use Rattle.kube_model.specs.Queue.{QueueEvent, Frozen, entry, waiting};
+ghost use Rattle.kube_model.specs.Queue.{QueueEvent, Request, Requested, Settled, Took, Frozen, entry, has_greater_priority, priority, sorted_by, waiting};
+ghost use Rattle.kube_model.specs.ByPriority.{as_frozen, AreUnprioritized};
 ghost use Rattle.kube_model.specs.WaitingOnce.{HasEachOnce, is_among, is_frozen, AreInOrder, IsEntry};
 ghost use Rattle.kube_model.specs.Reads.{Reads};
 ghost use Rattle.kube_model.specs.Requests.{waiting_in};
@@ -48,6 +49,26 @@ pub fn frozen_entries_wait_in_their_order<M>()
         → ((m : M) → is_frozen (entry same debounce events m) ≡ true → is_among same fs m ≡ true) → waiting same debounce events ≡ fs }
 {}
 
+/// A request for a message raises its priority to the request's, where that is greater. A settle changes no priority, and a
+/// take ends that of its message. A message without an entry has none.
+pub fn priorities_rise_until_the_take<M>()
+    ensures requested { (same : M → M → Bool) (events : List (QueueEvent M)) (m : M) (q : Request M)
+        → priority same (events ++ Requested q ∷ []) m ≡ (if same q.message m then max (priority same events m) q.priority else priority same events m) }
+    ensures settled { (same : M → M → Bool) (events : List (QueueEvent M)) (m : M) (now : ℕ) → priority same (events ++ Settled now ∷ []) m ≡ priority same events m }
+    ensures took { (same : M → M → Bool) (events : List (QueueEvent M)) (m taken : M) → priority same (events ++ Took taken ∷ []) m ≡ (if same taken m then 0 else priority same events m) }
+    ensures none { (same : M → M → Bool) (debounce : ℕ) (events : List (QueueEvent M)) (m : M) → entry same debounce events m ≡ None → priority same events m ≡ 0 }
+{}
+
+/// What waits is what was frozen, sorted by priority, and equals as they were frozen.
+pub fn waiting_messages_are_sorted_by_priority<M>()
+    ensures { (same : M → M → Bool) (debounce : ℕ) (events : List (QueueEvent M)) → waiting same debounce events ≡ sorted_by has_greater_priority (as_frozen same debounce events) }
+{}
+
+/// Where no request has a priority, messages wait as they were frozen.
+pub fn without_priorities_messages_wait_as_they_were_frozen<M>()
+    ensures { (same : M → M → Bool) (debounce : ℕ) (events : List (QueueEvent M)) → AreUnprioritized events → waiting same debounce events ≡ as_frozen same debounce events }
+{}
+
 /// In each turn after any history each message waits once.
 pub fn each_message_waits_once<O, B>()
     ensures { (w : World O B) (h : List (Step O)) (t : Turn) (r : Reads O) (finished : List Finished) (xs : List (Exchange O))
@@ -78,7 +99,7 @@ pub fn what_is_told_determines_the_trace<O, B>()
 pub fn exactly_the_due_ones_are_taken<O, B>()
     ensures due { (w : World O B) (policies : ℕ → O → Option ℕ) (h : List (Step O)) (t : Turn) (m : Made O) → IsRecord w policies h t m → may_take w h t m.1 m.0.exchanges ≡ true
         → (before after : List (Taken O)) (u : Taken O)
-        → (stored_in w h t m.1 m.0.exchanges).found_of (map (λ z. z.entry.message) (candidates (running_in w h t) (waiting_in w h t m.1 m.0.finished m.0.exchanges))) ≡ before ++ u ∷ after
+        → (stored_in w h t m.1 m.0.exchanges).found_of (map prioritized (candidates (running_in w h t) (waiting_in w h t m.1 m.0.finished m.0.exchanges))) ≡ before ++ u ∷ after
         → (n running : ℕ) → n ≡ count_by (λ v. is_some v.object) before → running ≡ length (running_in w h t)
         → m.0.taken ≡ within_room w.limit running 0 before ++ ((if has_room w.limit running n then u ∷ [] else []) ++ within_room w.limit running (found_with n u.object) after) }
     ensures nothing { (w : World O B) (policies : ℕ → O → Option ℕ) (h : List (Step O)) (t : Turn) (m : Made O) → IsRecord w policies h t m → may_take w h t m.1 m.0.exchanges ≡ false

@@ -13,8 +13,8 @@ ghost use Rattle.kube_model.specs.Streams.{Unnamed};
 ghost use Rattle.kube_model.specs.World.{Streamed};
 ghost use Rattle.kube_model.specs.Traces.{IsFinishOf};
 ghost use Rattle.kube_model.specs.Plays.{Thing, plain_world, reference_to, thing, turn_at, world_with};
-ghost use Rattle.kube_model.specs.Rows.{a, a_in_ns, by_pod, related_world};
-ghost use Rattle.kube_model.specs.Refused.{a_runs, each_came_named, empty_page, related_page, before, before_silence, exchange, next, change, for_a, requesting, IsRefusedAt, IsRefusedFirst};
+ghost use Rattle.kube_model.specs.Rows.{a, a_in_ns, by_pod, prioritized_world, related_world};
+ghost use Rattle.kube_model.specs.Refused.{a_runs, each_came_named, empty_page, related_page, before, before_silence, exchange, next, change, for_a, requesting, prioritizing, world_of_priority, IsRefusedAt, IsRefusedFirst};
 
 /// A watch is idle exactly when its window is over.
 pub fn idle_exactly_when_the_window_is_over()
@@ -56,6 +56,15 @@ pub fn root_requests_what_came()
     ensures nothing { IsRefusedAt 0 (next (Modified (Some (codes "2"))) (thing a (codes "2") ∷ [])) }
     ensures twice { IsRefusedAt 0 (requesting (for_a ∷ for_a ∷ []) (next (Modified (Some (codes "2"))) (thing a (codes "2") ∷ []))) }
     ensures for_another_reason { IsRefusedAt 0 (requesting (record { reference = reference_to a; reason = Unknown } ∷ []) (next (Modified (Some (codes "2"))) (thing a (codes "2") ∷ []))) }
+{}
+
+/// Each request has the priority that was set for its source, and 0 where none was.
+pub fn requests_have_the_priority_of_their_source()
+    ensures fits { IsFitting (world_of_priority 5) before 0 (prioritizing 5 (change (Some (codes "2")) (thing a (codes "2") ∷ []))) }
+    ensures none_was_set { IsRefusedAt 0 (prioritizing 5 (change (Some (codes "2")) (thing a (codes "2") ∷ []))) }
+    ensures another_was_set { IsFitting (world_of_priority 5) before 0 (change (Some (codes "2")) (thing a (codes "2") ∷ [])) → ⊥ }
+    ensures related_fits { IsFitting prioritized_world [] 0 (prioritizing 7 (requesting (by_pod a_in_ns ∷ []) (exchange 1 (ListCall None) (Page None (Some (codes "1"))) []))) }
+    ensures of_a_related_source { IsRefusedFirst prioritized_world (requesting (by_pod a_in_ns ∷ []) (exchange 1 (ListCall None) (Page None (Some (codes "1"))) [])) }
 {}
 
 /// A reconcile that succeeded is given its own action, and one that failed what the error policy answers for the object

@@ -7,9 +7,9 @@ ghost use Rattle.std.specs.Prelude.{◌≡◌, ◌^◌, ◌∷◌, ◌++◌, [],
 ghost use Rattle.kube_model.specs.declared.call.Call.TheVariants.{List as ListCall, Watch, Next};
 ghost use Rattle.kube_model.specs.declared.turn.Stop.TheVariants as stops;
 ghost use Rattle.kube_model.specs.Reason.{ReconcilerRequestedRetry, Unknown, ObjectUpdated, BulkReconcile};
-ghost use Rattle.kube_model.specs.Plays.{plain_world, play, played, took_in, turn_at, waits_for_change};
+ghost use Rattle.kube_model.specs.Plays.{plain_world, play, played, ranked_in, took_in, turn_at, waits_for_change};
 ghost use Rattle.kube_model.specs.Traces.{IsTrace, refusal, Moment, NotRunning, Twice};
-ghost use Rattle.kube_model.specs.Rows.{a, finish_of, by_pod_p, after_a, forced, one_delay, given_up, begun_anew, streaming_root, fed_by_a_stream, applier_world, fed_by_a_queue, failed_reader, labelled_pod, turns_of, calls_of, requests_of, stops_of, names_stored, first_trace, twice, two_pages, unversioned_page, relist, changed_while_running, one_after_another, limited, debounced, named_early, named_when_due, requeued_at_the_end, resumed, streamed, streaming_world, silent_watch, patient_world, patient_watch, related_world, owned_pod, reloaded, shut_down};
+ghost use Rattle.kube_model.specs.Rows.{a, finish_of, by_pod_p, after_a, forced, one_delay, given_up, begun_anew, streaming_root, fed_by_a_stream, applier_world, fed_by_a_queue, failed_reader, labelled_pod, named_thrice, named_with_priority, owned_by_b, prioritized_world, queued_with_priority, requeued_and_named, turns_of, calls_of, requests_of, stops_of, names_stored, first_trace, twice, two_pages, unversioned_page, relist, changed_while_running, one_after_another, limited, debounced, named_early, named_when_due, requeued_at_the_end, resumed, streamed, streaming_world, silent_watch, patient_world, patient_watch, related_world, owned_pod, reloaded, shut_down};
 
 /// One page, a watch that opens, and nothing yet: the object is requested, stored and taken.
 pub fn first_trace_takes_a()
@@ -61,6 +61,7 @@ pub fn one_at_a_time_in_order()
     ensures trace { IsTrace (limited 1) waits_for_change [] (turns_of one_after_another) (play (limited 1) [] one_after_another) }
     ensures taken { map took_in (play (limited 1) [] one_after_another)
         ≡ ((a, Some (codes "1")) ∷ []) ∷ ((codes "b", Some (codes "1")) ∷ []) ∷ ((codes "c", Some (codes "1")) ∷ []) ∷ ((codes "d", Some (codes "2")) ∷ []) ∷ [] }
+    ensures without_priorities { map ranked_in (play (limited 1) [] one_after_another) ≡ ((a, 0) ∷ []) ∷ ((codes "b", 0) ∷ []) ∷ ((codes "c", 0) ∷ []) ∷ ((codes "d", 0) ∷ []) ∷ [] }
 {}
 
 /// A request in the debounce of three seconds puts the take off: it comes three seconds after the last request.
@@ -187,4 +188,38 @@ pub fn label_names_what_is_requested()
     ensures trace { IsTrace related_world waits_for_change [] (turns_of labelled_pod) (play related_world [] labelled_pod) }
     ensures taken { map took_in (play related_world [] labelled_pod) ≡ ((a, Some (codes "1")) ∷ []) ∷ [] }
     ensures reason { map (λ m. map (λ t. t.message.reason) m.0.taken) (play related_world [] labelled_pod) ≡ (by_pod_p ∷ []) ∷ [] }
+{}
+
+/// Of the messages that wait the one with the greatest priority is taken first, also one that waited before it was named
+/// with that priority. Its reason stays.
+pub fn greatest_priority_is_taken_first()
+    ensures trace { IsTrace (limited 1) waits_for_change [] (turns_of named_with_priority) (play (limited 1) [] named_with_priority) }
+    ensures taken { map ranked_in (play (limited 1) [] named_with_priority) ≡ ((a, 0) ∷ []) ∷ ((codes "c", 5) ∷ []) ∷ ((codes "b", 0) ∷ []) ∷ [] }
+    ensures reason { map (λ m. map (λ t. t.message.reason) m.0.taken) (play (limited 1) [] named_with_priority) ≡ (ObjectUpdated ∷ []) ∷ (ObjectUpdated ∷ []) ∷ (ObjectUpdated ∷ []) ∷ [] }
+{}
+
+/// The priority of a message is over when it is taken.
+pub fn priority_ends_with_the_take()
+    ensures trace { IsTrace plain_world waits_for_change [] (turns_of requeued_and_named) (play plain_world [] requeued_and_named) }
+    ensures taken { map ranked_in (play plain_world [] requeued_and_named) ≡ ((a, 0) ∷ []) ∷ ((a, 3) ∷ []) ∷ ((a, 0) ∷ []) ∷ [] }
+    ensures reason { map (λ m. map (λ t. t.message.reason) m.0.taken) (play plain_world [] requeued_and_named) ≡ (ObjectUpdated ∷ []) ∷ (Unknown ∷ []) ∷ (ReconcilerRequestedRetry ∷ []) ∷ [] }
+{}
+
+/// The priority of a message is the greatest of its requests, not that of the last.
+pub fn lesser_priority_changes_nothing()
+    ensures trace { IsTrace (limited 1) waits_for_change [] (turns_of named_thrice) (play (limited 1) [] named_thrice) }
+    ensures taken { map ranked_in (play (limited 1) [] named_thrice) ≡ ((a, 0) ∷ []) ∷ [] ∷ [] ∷ ((codes "c", 5) ∷ []) ∷ ((codes "b", 3) ∷ []) ∷ [] }
+{}
+
+/// What a source requests has the priority that was set for it.
+pub fn source_with_priority_comes_first()
+    ensures trace { IsTrace prioritized_world waits_for_change [] (turns_of owned_by_b) (play prioritized_world [] owned_by_b) }
+    ensures taken { map ranked_in (play prioritized_world [] owned_by_b) ≡ ((codes "b", 7) ∷ (a, 0) ∷ []) ∷ [] }
+{}
+
+/// A request of a queue has its own priority, or that which was set for the queue.
+pub fn queue_keeps_priorities_unless_one_was_set()
+    ensures trace { IsTrace applier_world waits_for_change [] (map (λ p. p.turn) queued_with_priority) (played applier_world [] queued_with_priority) }
+    ensures own { map ranked_in (played applier_world [] queued_with_priority) ≡ ((a, 4) ∷ []) ∷ [] }
+    ensures set { map ranked_in (played (record applier_world { priorities = Some 2 ∷ [] }) [] queued_with_priority) ≡ ((a, 2) ∷ []) ∷ [] }
 {}

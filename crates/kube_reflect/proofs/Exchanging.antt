@@ -9,7 +9,7 @@ use Rattle.kube_model.specs.declared.call.Call.TheVariants.{List as ListCall, Wa
 use Rattle.kube_model.specs.declared.call.Answer.{Answer}
 use Rattle.kube_model.specs.declared.error.Error.{Error}
 use Rattle.kube_model.specs.World.{Settings, Watched}
-use Rattle.kube_model.specs.History.{Exchange, Message}
+use Rattle.kube_model.specs.History.{Exchange, Prioritized}
 use Rattle.kube_model.specs.Owed.{owed, is_initial, seen}
 use Rattle.kube_model.specs.Fits.{answers}
 use Rattle.kube_watch.specs.Agrees.{asks_api}
@@ -24,7 +24,7 @@ use Rattle.kube_reflect.proofs.InitialExchanges.{start-leaves, initial-leaves}
 use Rattle.kube_reflect.proofs.LaterExchanges.{watch-leaves, later-leaves}
 
 module _ {O : Type 0} (key : O → Reference) (s : Settings) where
-  module _ (s0 : Settings) (xs : List (Exchange O)) (k : Kept O) (left : IsLeftBy key xs k) (source : ℕ) (items : List O) (requests : List Message) (error : Option Error) where
+  module _ (s0 : Settings) (xs : List (Exchange O)) (k : Kept O) (left : IsLeftBy key xs k) (source : ℕ) (items : List O) (requests : List Prioritized) (error : Option Error) where
     abbrev made : Call → Answer → Exchange O
     made call answer = record { source = source; call = call; answer = answer; items = items; requests = requests; error = error }
 

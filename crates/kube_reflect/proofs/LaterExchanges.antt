@@ -8,7 +8,7 @@ use Rattle.kube_model.specs.declared.call.Answer.{Answer}
 use Rattle.kube_model.specs.declared.call.Answer.TheVariants.{Page, Opened, Added, Modified, Deleted, Bookmark, ErrorItem, Fault, End, NotReady, Idle, Item, Spent}
 use Rattle.kube_model.specs.declared.error.Error.{Error}
 use Rattle.kube_model.specs.World.{Settings, Watched, start_by}
-use Rattle.kube_model.specs.History.{Exchange, Message}
+use Rattle.kube_model.specs.History.{Exchange, Prioritized}
 use Rattle.kube_model.specs.Owed.{owed, is_initial, seen, mark}
 use Rattle.kube_model.specs.SecondForms.{initial_after}
 use Rattle.kube_model.specs.Fits.{answers}
@@ -24,7 +24,7 @@ use Rattle.kube_reflect.proofs.Leaving.{changing, anew, watching}
 use Rattle.kube_reflect.proofs.ListExchanges.{silent}
 
 module _ {O : Type 0} (key : O → Reference) (s0 : Settings) (xs : List (Exchange O)) (k : Kept O) (left : IsLeftBy key xs k)
-    (source : ℕ) (items : List O) (requests : List Message) (error : Option Error) where
+    (source : ℕ) (items : List O) (requests : List Prioritized) (error : Option Error) where
   abbrev made : Call → Answer → Exchange O
   made call answer = record { source = source; call = call; answer = answer; items = items; requests = requests; error = error }
 

@@ -9,7 +9,7 @@ use Rattle.kube_model.specs.declared.call.Answer.{Answer}
 use Rattle.kube_model.specs.declared.call.Answer.TheVariants.{Page, Opened, Added, Modified, Deleted, Bookmark, ErrorItem, Fault, End, NotReady, Idle, Item, Spent}
 use Rattle.kube_model.specs.declared.error.Error.{Error}
 use Rattle.kube_model.specs.World.{Settings, Watched}
-use Rattle.kube_model.specs.History.{Exchange, Message}
+use Rattle.kube_model.specs.History.{Exchange, Prioritized}
 use Rattle.kube_model.specs.Owed.{owed, is_initial, seen}
 use Rattle.kube_model.specs.Fits.{answers}
 use Rattle.kube_model.specs.Store.{is_list_start, under_way, paged_since_start, arrived_since_opened}
@@ -24,7 +24,7 @@ use Rattle.kube_reflect.proofs.Owing.{owed-alike}
 use Rattle.kube_reflect.proofs.Leaving.{put_all, completed, quiet, anew, paging, paged-first, paged-next, arrived-next}
 
 module _ {O : Type 0} (key : O → Reference) (s0 : Settings) (xs : List (Exchange O)) (k : Kept O) (left : IsLeftBy key xs k)
-    (source : ℕ) (items : List O) (requests : List Message) (error : Option Error) where
+    (source : ℕ) (items : List O) (requests : List Prioritized) (error : Option Error) where
   abbrev pub x_of : Call → Answer → Exchange O
   x_of call answer = record { source = source; call = call; answer = answer; items = items; requests = requests; error = error }
 

@@ -6,7 +6,7 @@ use Rattle.kube_model.specs.declared.call.Answer.{Answer}
 use Rattle.kube_model.specs.declared.call.Answer.TheVariants.{Page, Opened, Added, Modified, Deleted, Bookmark, ErrorItem, Fault, End, NotReady, Idle, Item, Spent}
 use Rattle.kube_model.specs.declared.error.Error.{Error}
 use Rattle.kube_model.specs.World.{Settings, Watched, start_by}
-use Rattle.kube_model.specs.History.{Exchange, Message}
+use Rattle.kube_model.specs.History.{Exchange, Prioritized}
 use Rattle.kube_model.specs.Cuts.{last}
 use Rattle.kube_model.specs.Owed.{owed, owed_by, owed_after, answered, is_initial, seen}
 use Rattle.kube_watch.specs.Agrees.{asks_api}
@@ -43,7 +43,7 @@ module _ (s : Settings) where
   or-next-asks true = refl
   or-next-asks false = start-asks
 
-  module _ {O : Type 0} (i : Bool) (v : List ℕ) (source : ℕ) (items : List O) (requests : List Message) (error : Option Error) where
+  module _ {O : Type 0} (i : Bool) (v : List ℕ) (source : ℕ) (items : List O) (requests : List Prioritized) (error : Option Error) where
     after-asks : (call : Call) (answer : Answer) → asks_api (owed_after s i v (record { source = source; call = call; answer = answer; items = items; requests = requests; error = error })) ≡ true
     after-asks call (Page (Some token) version) = refl
     after-asks call (Page None (Some version)) = refl
@@ -82,7 +82,7 @@ module _ (s other : Settings) (b : Bool) where
   start-alike true d u = absurd (not-start-under s b u)
   start-alike false d u = refl
 
-  module _ {O : Type 0} (i : Bool) (v : List ℕ) (source : ℕ) (items : List O) (requests : List Message) (error : Option Error) where
+  module _ {O : Type 0} (i : Bool) (v : List ℕ) (source : ℕ) (items : List O) (requests : List Prioritized) (error : Option Error) where
     after-alike : (call : Call) (answer : Answer) → IsUnderWay (owed_after s i v (record { source = source; call = call; answer = answer; items = items; requests = requests; error = error })) b
         → owed_after other i v (record { source = source; call = call; answer = answer; items = items; requests = requests; error = error })
         ≡ owed_after s i v (record { source = source; call = call; answer = answer; items = items; requests = requests; error = error })

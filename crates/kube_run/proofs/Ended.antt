@@ -28,7 +28,7 @@ use Rattle.kube_run.specs.Runs.{HasLines}
 use Rattle.kube_run.proofs.Policies.{Held, Turns, faults_of, few-records, refused-by, same-lines, trace-by}
 use Rattle.kube_run.specs.Sources.{AreOfScript, Root, Source, Sources, apis_in, list_of}
 use Rattle.kube_run.proofs.Once.{fed-at}
-use Rattle.kube_run.proofs.Polled.{asked, at-place, changed-there, meta_of, polled-answered, related_polls, root_polls, source_breaks, unnamed-at}
+use Rattle.kube_run.proofs.Polled.{asked, at-place, changed-there, meta_of, polled-answered, related_asked, root_asked, source_breaks, unnamed-at}
 
 -- what breaks a script's root
 abbrev pub root_breaks : Root → ℕ → Root → Type 0
@@ -130,7 +130,7 @@ module _ (policy : ObjectData → List ℕ → Action → Type 0) where
       front-lines = same-lines policy 0 [] ts rs few finished ∙ ap (λ fs. lines_of 0 fs rows) lines
 
       module _ (named : AreNamedTurns (script_world s) (RootIsNamed (script_world s)) [] (steps (take (length rows) (turns_of named_type ts)) (map unread rows))) (root reached : Root) (set set' : Sources)
-          (apis : apis_in root set ≡ apis_at_first s) (of_script : AreOfScript s root set) (polled : ArePolled root_polls related_polls [] root set (dated_in rows) reached set') where
+          (apis : apis_in root set ≡ apis_at_first s) (of_script : AreOfScript s root set) (polled : ArePolled (root_asked s) (related_asked s) [] root set (dated_in rows) reached set') where
         answered : AreAnswered s [] (apis_in root set) (dated_in rows) (apis_in reached set') × AreOfScript s reached set'
         answered = polled-answered s [] root set (dated_in rows) reached set' of_script polled
 
@@ -158,7 +158,7 @@ module _ (policy : ObjectData → List ℕ → Action → Type 0) where
           hist = steps (take (length rows) (turns_of named_type ts)) (map unread rows)
 
           pub unnamed-next : (source : ℕ) (made : List (Exchange ObjectData)) (r2 r3 : Root) (n2 n3 : Sources) → IsValid hist t → EachIsNext (script_world s) hist t [] made → EachIsNamed (script_world s) (RootIsNamed (script_world s)) hist t [] made
-              → ArePolled root_polls related_polls (exchanges_with hist t []) reached set' (dated t.at made) r2 n2 → SourcesStand (root_stands r2) (related_stands n2) (count_of n2) (exchanges_with hist t made)
+              → ArePolled (root_asked s) (related_asked s) (exchanges_with hist t []) reached set' (dated t.at made) r2 n2 → SourcesStand (root_stands r2) (related_stands n2) (count_of n2) (exchanges_with hist t made)
               → next_source (script_world s) hist t made ≡ Some source → IsBrokenAt root_breaks related_breaks t.at r2 n2 r3 n3 source → IsUnnamedNext s rows source
           unnamed-next source made r2 r3 n2 n3 valid asks each polled' stand next_is broken =
               let more = polled-answered s (exchanges_with hist t []) reached set' (dated t.at made) r2 n2 answered.1 polled' in

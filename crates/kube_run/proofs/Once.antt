@@ -80,8 +80,8 @@ module _ (s : Script) where
       let settings = row.source.watcher in
       let call : p.raw.call ≡ q.raw.call = some-same p.raw.call q.raw.call (sym p.recorded.call ∙ (ap (raw_call settings) (f.owes ∙ sym g.owes) ∙ q.recorded.call)) in
       let moved = one-way a at p.raw q.raw b c p.moved q.moved call in (
-        mapped-same (resource_type row.kind) (λ o. o.metadata) (λ o rs. rs ≡ mapped_by (type_in s) row.mapped o) (λ o rs us e h. e ∙ sym h) version_of settings own at x y q.raw f g source
-            (subst (λ raw. IsRecordedMapped version_of (IsMappedTo (resource_type row.kind) (λ o. o.metadata) (λ o rs. rs ≡ mapped_by (type_in s) row.mapped o)) settings (exchanges_in own) raw x) moved.0 p.recorded) q.recorded,
+        mapped-same (resource_type row.kind) (λ o. o.metadata) (λ o rs. rs ≡ mapped_by (type_in s) row.mapped o) (λ o rs us e h. e ∙ sym h) version_of settings (Some row.source.priority) own at x y q.raw f g source
+            (subst (λ raw. IsRecordedMapped version_of (IsMappedTo (resource_type row.kind) (λ o. o.metadata) (λ o rs. rs ≡ mapped_by (type_in s) row.mapped o)) settings (Some row.source.priority) (exchanges_in own) raw x) moved.0 p.recorded) q.recorded,
         moved.1,
       )
 

@@ -1,32 +1,33 @@
 -- The exchanges of a script's controller are answered by the script, where its sources were asked so.
-use Rattle.std.proofs.Common.{◌≡◌, ◌<◌, ◌-◌, nat_lt, ℕ, zero, suc, false, List, [], ◌∷◌, ◌++◌, map, length, slice_get, Option, Some, refl, sym, ap, subst, ◌∙◌, arith}
-use Rattle.std.specs.List.{AllZip}
+use Rattle.std.proofs.Common.{◌≡◌, ◌<◌, ◌-◌, nat_lt, ℕ, zero, suc, false, List, [], ◌∷◌, ◌++◌, map, length, slice_get, unwrap_or, Option, Some, None, refl, sym, ap, subst, ◌∙◌, arith}
+use Rattle.std.specs.List.{AllZip, flat_map}
 use Rattle.std.proofs.lemmas.List.{length-map}
 use Rattle.kube_meta.specs.Reading.{ObjectData}
 use Rattle.kube_meta.specs.Reference.{ObjectType}
 use Rattle.kube_meta.specs.Resources.{resource_type}
 use Rattle.kube_meta.specs.declared.metadata.ObjectMeta.{ObjectMeta}
-use Rattle.kube_model.specs.History.{Dated, Exchange, Message, dated_of}
+use Rattle.kube_model.specs.History.{Dated, Exchange, Message, Prioritized, asked_by, dated_of, passed_by}
 use Rattle.kube_model.specs.Mapping.{IsMappedTo}
 use Rattle.kube_model.specs.Named.{IsOwedForm, OfCall, has_names}
 use Rattle.kube_model.specs.Raw.{Raw}
 use Rattle.kube_model.specs.Recorded.{IsRecorded, IsRecordedMapped}
-use Rattle.kube_model.specs.World.{Settings, Watched}
+use Rattle.kube_model.specs.World.{Settings, Watched, priority_at}
 use Rattle.kube_api.specs.TestScript as api
 use Rattle.kube_watch.specs.Configs.{settings_of}
 use Rattle.kube_watch.specs.Polls.{Api as Asked}
 use Rattle.kube_watch.specs.Stands.{api_of, exchanges_in, settings_in}
-use Rattle.kube_asks.specs.Asking.{IsPolledAt}
+use Rattle.kube_asks.specs.Asking.{IsPlacePolledWith, IsPolledAt, IsPolledWith}
 use Rattle.kube_asks.specs.Mapped.{IsMappedPoll, IsRelatedBroken, RelatedStands}
 use Rattle.kube_asks.specs.Places.{ChangesAt, Either, HoldsAt}
 use Rattle.kube_asks.specs.Roots.{IsRootPoll, RootWatching}
+use Rattle.kube_asks.specs.Sources.{with_priority}
 use Rattle.kube_asks.specs.declared.related_list.RelatedList.{RelatedList}
 use Rattle.kube_asks.specs.declared.sets.Beside.{Beside}
 use Rattle.kube_asks.specs.declared.sets.NoRelated.{NoRelated}
 use Rattle.kube_step.specs.Calls.{ArePolled}
 use Rattle.kube_script.specs.Script.{Related, Script}
-use Rattle.kube_run.specs.Mapped.{mapped_as}
-use Rattle.kube_run.specs.Played.{Api, Apis, AreAnswered, IsAnsweredMapped, RelatedAnswers, has_name, root_answers, type_in, version_of}
+use Rattle.kube_run.specs.Mapped.{mapped_as, mapped_by}
+use Rattle.kube_run.specs.Played.{Api, Apis, AreAnswered, IsAnsweredMapped, RelatedAnswers, has_name, priorities_with, root_answers, type_in, version_of}
 use Rattle.kube_run.specs.Sources.{AreOfScript, IsOfRow, Root, Source, Sources, apis_in, apis_of, list_of}
 
 abbrev pub meta_of : ObjectData → ObjectMeta
@@ -55,14 +56,42 @@ at-place P Q p h =
     let same : p - 0 ≡ p = omega arith in
     subst P same (subst (λ b. Either b Q (P (p - 0))) none h)
 
+-- ---- exchanges with a priority
+
+asked-passed : (set : Option ℕ) (ms : List Message) → passed_by set (asked_by None ms) ≡ asked_by set ms
+asked-passed set [] = refl
+asked-passed set (m ∷ ms) = ap (λ (qs : List Prioritized). record { message = m; priority = unwrap_or set 0 } ∷ qs) (asked-passed set ms)
+
+-- what is recorded of a source stays so where its requests get a priority
+recorded-with : (settings : Settings) (set : Option ℕ) (raw : Raw ObjectData) (made : Exchange ObjectData) → IsRecorded version_of settings raw made → IsRecorded version_of settings raw (with_priority set made)
+recorded-with settings set raw made k = record { call = k.call; answer = k.answer; items = k.items }
+
+mapped-with : (maps : ObjectData → List Message → Type 0) (settings : Settings) (set : Option ℕ) (before : List (Exchange ObjectData)) (raw : Raw ObjectData) (made : Exchange ObjectData)
+    → IsRecordedMapped version_of maps settings None before raw made → IsRecordedMapped version_of maps settings set before raw (with_priority set made)
+mapped-with maps settings set before raw made k = record {
+  call = k.call;
+  answer = k.answer;
+  items = k.items;
+  parts = k.parts;
+  mapped = k.mapped;
+  requests = ap (passed_by set) k.requests ∙ asked-passed set (flat_map (λ part. part) k.parts);
+}
+
+-- the priorities of related sources
+abbrev pub sets_of : List Related → List (Option ℕ)
+sets_of rows = map (λ p. Some p) (map (λ r. r.source.priority) rows)
+
 module _ (root : ObjectType) where
-  answered : (row : Related) (t u : Source) (own : List (Dated ObjectData)) (at : ℕ) (x : Exchange ObjectData) → IsOfRow root row t → source_polls t own at x u → IsAnsweredMapped root row (exchanges_in own) (api_of t.watcher) at x (api_of u.watcher)
-  answered row t u own at x k p = record {
+  answered : (row : Related) (t u : Source) (own : List (Dated ObjectData)) (at : ℕ) (x made : Exchange ObjectData) → x ≡ with_priority (Some row.source.priority) made → IsOfRow root row t → source_polls t own at made u
+      → IsAnsweredMapped root row (exchanges_in own) (api_of t.watcher) at x (api_of u.watcher)
+  answered row t u own at x made e k p = record {
     raw = p.call.raw;
     recorded =
-        subst (λ m. IsRecordedMapped version_of (IsMappedTo (resource_type row.kind) meta_of (λ o rs. rs ≡ m o)) row.source.watcher (exchanges_in own) p.call.raw x) k.maps
-        (subst (λ kind. IsRecordedMapped version_of (IsMappedTo kind meta_of (λ o rs. rs ≡ mapped_as t.mapper o)) row.source.watcher (exchanges_in own) p.call.raw x) k.kind
-        (subst (λ z. IsRecordedMapped version_of (IsMappedTo t.kind meta_of (λ o rs. rs ≡ mapped_as t.mapper o)) z (exchanges_in own) p.call.raw x) k.settings p.call.recorded));
+        subst (λ y. IsRecordedMapped version_of (IsMappedTo (resource_type row.kind) meta_of (λ o rs. rs ≡ mapped_by root row.mapped o)) row.source.watcher (Some row.source.priority) (exchanges_in own) p.call.raw y) (sym e)
+        (mapped-with (IsMappedTo (resource_type row.kind) meta_of (λ o rs. rs ≡ mapped_by root row.mapped o)) row.source.watcher (Some row.source.priority) (exchanges_in own) p.call.raw made
+        (subst (λ m. IsRecordedMapped version_of (IsMappedTo (resource_type row.kind) meta_of (λ o rs. rs ≡ m o)) row.source.watcher None (exchanges_in own) p.call.raw made) k.maps
+        (subst (λ kind. IsRecordedMapped version_of (IsMappedTo kind meta_of (λ o rs. rs ≡ mapped_as t.mapper o)) row.source.watcher None (exchanges_in own) p.call.raw made) k.kind
+        (subst (λ z. IsRecordedMapped version_of (IsMappedTo t.kind meta_of (λ o rs. rs ≡ mapped_as t.mapper o)) z None (exchanges_in own) p.call.raw made) k.settings p.call.recorded))));
     moved = p.call.moved;
     named = p.call.named;
   }
@@ -77,20 +106,20 @@ module _ (root : ObjectType) where
     pub answers : ChangesAt (λ a b. IsAnsweredMapped root row (exchanges_in own) a at x b) place (apis_of ts) (apis_of us)
     pub rows_are : AllZip (IsOfRow root) rows us
 
-  answered-at : (rows : List Related) (ts us : List Source) (place : ℕ) (own : List (Dated ObjectData)) (at : ℕ) (x : Exchange ObjectData) → AllZip (IsOfRow root) rows ts → ChangesAt (λ t u. source_polls t own at x u) place ts us
-      → IsAnsweredAt rows place own at x ts us
-  answered-at [] [] us place own at x k f = absurd f
-  answered-at [] (t ∷ ts) us place own at x k f = absurd k
-  answered-at (row ∷ rows) [] us place own at x k f = absurd k
-  answered-at (row ∷ rows) (t ∷ ts) [] place own at x k f = absurd f
-  answered-at (row ∷ rows) (t ∷ ts) (u ∷ us) zero own at x k f = record {
+  answered-at : (rows : List Related) (ts us : List Source) (place : ℕ) (own : List (Dated ObjectData)) (at : ℕ) (x made : Exchange ObjectData) → x ≡ with_priority (priority_at (sets_of rows) place) made → AllZip (IsOfRow root) rows ts
+      → ChangesAt (λ t u. source_polls t own at made u) place ts us → IsAnsweredAt rows place own at x ts us
+  answered-at [] [] us place own at x made e k f = absurd f
+  answered-at [] (t ∷ ts) us place own at x made e k f = absurd k
+  answered-at (row ∷ rows) [] us place own at x made e k f = absurd k
+  answered-at (row ∷ rows) (t ∷ ts) [] place own at x made e k f = absurd f
+  answered-at (row ∷ rows) (t ∷ ts) (u ∷ us) zero own at x made e k f = record {
     row = row;
     there = refl;
-    answers = (answered row t u own at x k.0 f.0, ap apis_of f.1);
-    rows_are = (still row t u own at x k.0 f.0, subst (AllZip (IsOfRow root) rows) (sym f.1) k.1);
+    answers = (answered row t u own at x made e k.0 f.0, ap apis_of f.1);
+    rows_are = (still row t u own at made k.0 f.0, subst (AllZip (IsOfRow root) rows) (sym f.1) k.1);
   }
-  answered-at (row ∷ rows) (t ∷ ts) (u ∷ us) (suc place) own at x k f =
-      let rest = answered-at rows ts us place own at x k.1 f.1 in
+  answered-at (row ∷ rows) (t ∷ ts) (u ∷ us) (suc place) own at x made e k f =
+      let rest = answered-at rows ts us place own at x made e k.1 f.1 in
       record {
         row = rest.row;
         there = rest.there;
@@ -151,24 +180,37 @@ changed-there P zero (a ∷ olds) (b ∷ news) f = omega arith
 changed-there P (suc place) (a ∷ olds) (b ∷ news) f = let rest = changed-there P place olds news f.1 in omega (arith, rest)
 
 module _ (s : Script) where
-  one-answered : (before : List (Dated ObjectData)) (at : ℕ) (x : Exchange ObjectData) (old new : Root) (t t' : Sources) (source : ℕ) → AreOfScript s old t → IsPolledAt root_polls related_polls before at x old t new t' source
+  -- a script's sources are asked, with their priorities
+  abbrev pub root_asked : Root → List (Dated ObjectData) → ℕ → Exchange ObjectData → Root → Type 0
+  root_asked = IsPolledWith (Some s.root.priority) root_polls
+
+  abbrev pub related_asked : Sources → ℕ → List (Dated ObjectData) → ℕ → Exchange ObjectData → Sources → Type 0
+  related_asked = IsPlacePolledWith (map (λ p. Some p) (priorities_with s.root s.related)) related_polls
+
+  one-answered : (before : List (Dated ObjectData)) (at : ℕ) (x : Exchange ObjectData) (old new : Root) (t t' : Sources) (source : ℕ) → AreOfScript s old t → IsPolledAt root_asked related_asked before at x old t new t' source
       → IsPolledAt (root_answers s) (RelatedAnswers s) before at x (api_of old.watcher) (apis_of (list_of t)) (api_of new.watcher) (apis_of (list_of t')) source × AreOfScript s new t'
   one-answered before at x old new t t' zero k q = (
     (
-      record { raw = q.0.call.raw; recorded = subst (λ z. IsRecorded version_of z q.0.call.raw x) k.settings q.0.call.recorded; moved = q.0.call.moved },
+      record {
+        raw = q.0.2.call.raw;
+        recorded =
+            subst (λ y. IsRecorded version_of s.root.watcher q.0.2.call.raw y) (sym q.0.1)
+            (recorded-with s.root.watcher (Some s.root.priority) q.0.2.call.raw q.0.0 (subst (λ z. IsRecorded version_of z q.0.2.call.raw q.0.0) k.settings q.0.2.call.recorded));
+        moved = q.0.2.call.moved;
+      },
       ap (λ (v : Sources). apis_of (list_of v)) q.1,
     ),
-    record { settings = ap settings_of q.0.config ∙ k.settings; rows = subst (λ (v : Sources). AllZip (IsOfRow (type_in s)) s.related (list_of v)) (sym q.1) k.rows },
+    record { settings = ap settings_of q.0.2.config ∙ k.settings; rows = subst (λ (v : Sources). AllZip (IsOfRow (type_in s)) s.related (list_of v)) (sym q.1) k.rows },
   )
   one-answered before at x old new t t' (suc place) k q =
       let own = dated_of (suc place) before in
-      let here = at-place (λ p. ChangesAt (λ v u. source_polls v own at x u) p (list_of t) (list_of t') × (t'.first ≡ t.first)) (⊥ × (t'.rest ≡ t.rest)) place q.0 in
-      let made = answered-at (type_in s) s.related (list_of t) (list_of t') place own at x k.rows here.0 in (
+      let here = at-place (λ p. ChangesAt (λ v u. source_polls v own at q.0.0 u) p (list_of t) (list_of t') × (t'.first ≡ t.first)) (⊥ × (t'.rest ≡ t.rest)) place q.0.2 in
+      let made = answered-at (type_in s) s.related (list_of t) (list_of t') place own at x q.0.0 q.0.1 k.rows here.0 in (
         (record { row = made.row; there = made.there; answered = made.answers }, ap (λ (r : Root). api_of r.watcher) q.1),
         record { settings = ap (λ (r : Root). settings_in r.watcher) q.1 ∙ k.settings; rows = made.rows_are },
       )
 
-  pub polled-answered : (before : List (Dated ObjectData)) (old : Root) (t : Sources) (ds : List (Dated ObjectData)) (new : Root) (t' : Sources) → AreOfScript s old t → ArePolled root_polls related_polls before old t ds new t'
+  pub polled-answered : (before : List (Dated ObjectData)) (old : Root) (t : Sources) (ds : List (Dated ObjectData)) (new : Root) (t' : Sources) → AreOfScript s old t → ArePolled root_asked related_asked before old t ds new t'
       → AreAnswered s before (apis_in old t) ds (apis_in new t') × AreOfScript s new t'
   polled-answered before old t [] new t' k p = (
     (ap (λ (r : Root). api_of r.watcher) p.0, ap (λ (v : Sources). apis_of (list_of v)) p.1),

@@ -35,6 +35,10 @@ version_of o = o.metadata.resource_version
 abbrev pub type_in : Script → ObjectType
 type_in s = resource_type s.kind
 
+-- the priorities of what its sources request, the root's first
+abbrev pub priorities_with : Source → List Related → List ℕ
+priorities_with root related = root.priority ∷ map (λ r. r.source.priority) related
+
 -- the world of a controller of objects of this type, so configured, with this backoff, whose root this source feeds, and whose related sources these
 abbrev pub world_with : ObjectType → Config → Backoff → Source → List Related → World ObjectData ScriptBackoff
 world_with kind config backoff root related = record {
@@ -42,6 +46,7 @@ world_with kind config backoff root related = record {
   is_named = has_name;
   version = version_of;
   feeds = Watched root.watcher ∷ map (λ r. Watched r.source.watcher) related;
+  priorities = map (λ p. Some p) (priorities_with root related);
   limit = config.concurrency;
   debounce = config.debounce;
   backoff = backoff_of backoff;
@@ -88,10 +93,10 @@ pub record IsAnswered (settings : Settings) (old : Api) (at : ℕ) (x : Exchange
   pub recorded : IsRecorded version_of settings raw x
   pub moved : api.IsMove old at raw new
 
--- so was one of a related source, after those before it: its objects are mapped as the script tells, to objects of the root's type, and each that must become a reference has a name
+-- so was one of a related source, after those before it: its objects are mapped as the script tells, to objects of the root's type, and requested with its priority, and each that must become a reference has a name
 pub record IsAnsweredMapped (root : ObjectType) (r : Related) (before : List (Exchange ObjectData)) (old : Api) (at : ℕ) (x : Exchange ObjectData) (new : Api) : Type 0 where
   pub raw : Raw ObjectData
-  pub recorded : IsRecordedMapped version_of (IsMappedTo (resource_type r.kind) (λ o. o.metadata) (λ o references. references ≡ mapped_by root r.mapped o)) r.source.watcher before raw x
+  pub recorded : IsRecordedMapped version_of (IsMappedTo (resource_type r.kind) (λ o. o.metadata) (λ o references. references ≡ mapped_by root r.mapped o)) r.source.watcher (Some r.source.priority) before raw x
   pub moved : api.IsMove old at raw new
   pub named : has_names has_name version_of before (OfCall raw) ≡ true
 

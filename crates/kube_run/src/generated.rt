@@ -313,6 +313,7 @@ fn handed_over(taken: Taken<ScriptObject>) -> Option<ObjectRef<ScriptObject>>
             reference,
             reason: _reason,
             object: _object,
+            priority: _priority,
         } => Some(reference),
         _ => None,
     }

@@ -1,17 +1,19 @@
 //! A controller that takes the turns of a script.
 
-ghost use Rattle.std.specs.Prelude.{◌≡◌, ◌<◌, ◌+◌, ◌^◌, ◌++◌, [], IfOk, IfErr, length, map};
+ghost use Rattle.std.specs.Prelude.{◌≡◌, ◌<◌, ◌+◌, ◌-◌, ◌^◌, ◌++◌, [], IfOk, IfErr, IsOk, Some, length, map};
 ghost use Rattle.std.specs.List.{AllZip};
 ghost use Rattle.kube_control.specs.Controllers.{StandsFor};
 ghost use Rattle.kube_control.specs.Errors.{records_before, IfRefused, IfSpent, IfUnnamed};
 ghost use Rattle.kube_meta.specs.Reading.{ObjectData};
 ghost use Rattle.kube_model.specs.History.{Step};
+ghost use Rattle.kube_model.specs.World.{World};
 ghost use Rattle.kube_model.specs.Traces.{steps, unread};
 ghost use Rattle.kube_object.specs.Named.{named_type};
 ghost use Rattle.kube_script.specs.Script.{Script as script_data};
 ghost use Rattle.kube_script.specs.Seen.{seen_backoff, seen_config};
 ghost use Rattle.kube_script.specs.SeenScript.{seen_related, seen_script, seen_source};
 ghost use Rattle.kube_script.specs.Told.{fault_text};
+ghost use Rattle.kube_script.specs.declared.backoff.ScriptBackoff.{ScriptBackoff};
 ghost use Rattle.kube_text.specs.TraceText.{lines_of};
 ghost use Rattle.kube_text.specs.TraceView.{seen_records};
 ghost use Rattle.kube_turn.specs.Records.{records_of, turns_of};
@@ -61,15 +63,39 @@ fn controller(
     root: Source,
     related: Vec<Related>,
 ) -> Result<ScriptController, NoMemory>
+    requires { length related.items < 2 ^ 32 - 1 }
     ensures stands { IfOk result (λ c. StandsFor ⟦<WatchRoot<TestMode<ScriptObject>> as RootSource>⟧ ⟦<ScriptSources as RelatedSet<ScriptObject>>⟧ ⟦<ScriptBackoff as Backoff>⟧ ⟦<ScriptObject as Resource>⟧ (world_with (named_type kind) (seen_config config) (seen_backoff backoff) (seen_source root) (map seen_related related.items)) [] c) }
     ensures first { IfOk result (λ c. AreAtFirst (named_type kind) (seen_source root) (map seen_related related.items) c.asks.root c.asks.related) }
 {
-    let sources = sources(alloc, &kind, related)?;
+    let mut priorities = List::new(alloc);
+    priorities.push(root.priority)?;
+    let sources = sources(alloc, &kind, related, &mut priorities)?;
     let (api, watcher) = root.into_api(alloc);
     let controller = Controller::new_with(alloc, api, watcher, kind)?;
     let controller = controller.with_config(alloc, config);
     let controller = controller.trigger_backoff(alloc, backoff.into_backoff());
-    Ok(controller.with_related(alloc, sources))
+    prioritized(controller.with_related(alloc, sources), priorities)
+}
+
+/// The same, where the sources request with these priorities, the root first.
+fn prioritized(
+    controller: ScriptController,
+    priorities: List<u32>,
+) -> Result<ScriptController, NoMemory>
+    requires places { length priorities < 2 ^ 32 }
+    requires sources { length priorities ≡ length (⟦<ScriptSources as RelatedSet<ScriptObject>>⟧.feeds controller.asks.related) + 1 }
+    requires unset { controller.asks.priorities ≡ [] }
+    ensures stands { (w : World ObjectData ScriptBackoff) → StandsFor ⟦<WatchRoot<TestMode<ScriptObject>> as RootSource>⟧ ⟦<ScriptSources as RelatedSet<ScriptObject>>⟧ ⟦<ScriptBackoff as Backoff>⟧ ⟦<ScriptObject as Resource>⟧ w [] controller
+        → IfOk result (λ c. StandsFor ⟦<WatchRoot<TestMode<ScriptObject>> as RootSource>⟧ ⟦<ScriptSources as RelatedSet<ScriptObject>>⟧ ⟦<ScriptBackoff as Backoff>⟧ ⟦<ScriptObject as Resource>⟧ (record w { priorities = map (λ p. Some p) priorities }) [] c) }
+    ensures asks { IfOk result (λ c. (c.asks.root ≡ controller.asks.root) × (c.asks.related ≡ controller.asks.related)) }
+{
+    let mut controller = controller;
+    let mut source = 0;
+    for priority in Vec::from(priorities) {
+        controller = controller.priority(source, priority)?;
+        source += 1;
+    }
+    Ok(controller)
 }
 
 /// The related source that a script tells, whose objects are mapped to those of this type.
@@ -91,16 +117,19 @@ fn source(
     Ok(RelatedWatch::new(alloc, api, watcher, own, mapper))
 }
 
-/// The related sources that a script tells, in order.
+/// The related sources that a script tells, in order, whose priorities are added to these.
 fn sources(
     alloc: Global,
     kind: &Arc<ApiResource>,
     related: Vec<Related>,
+    priorities: &mut List<u32>,
 ) -> Result<RelatedList<ScriptRelated>, NoMemory>
-    ensures { IfOk result (λ l. AllZip (IsFirst (named_type kind.now)) (map seen_related related.items) l.items.items) }
+    ensures first { IfOk result (λ l. AllZip (IsFirst (named_type kind.now)) (map seen_related related.items) l.items.items) }
+    ensures priorities { IsOk result → priorities.new ≡ priorities.old ++ map (λ r. r.source.priority) (map seen_related related.items) }
 {
     let mut list = RelatedList::new(alloc);
     for one in related {
+        priorities.push(one.source.priority)?;
         list.push(source(alloc, kind, one)?)?;
     }
     Ok(list)

@@ -1,22 +1,22 @@
 -- What is counted of a scheduler, by the events that it stands for.
-use Rattle.std.proofs.Common.{◌≡◌, ℕ, ◌+◌, ◌-◌, ◌<◌, ◌≤◌, Bool, false, not, ◌&&◌, nat_le, List, length, Option, Some, None, is_some, if◌then◌else◌, refl, sym, ap, subst, ◌∙◌}
-use Rattle.std.specs.List.{list_any, remove}
+use Rattle.std.proofs.Common.{◌≡◌, ℕ, ◌+◌, ◌-◌, ◌≤◌, Bool, false, not, ◌&&◌, nat_le, List, length, Option, Some, None, is_some, if◌then◌else◌, refl, sym, ap, subst, ◌∙◌}
+use Rattle.std.specs.List.{list_any}
 use Rattle.std.specs.Cmp.{IsEquivalence}
 use Rattle.kube_meta.specs.declared.moment.Moment.{Moment}
-use Rattle.kube_model.specs.Queue.{QueueEvent, Entry, entry, waiting}
-use Rattle.kube_sched.specs.Held.{is_later, MessageAt}
+use Rattle.kube_model.specs.Queue.{QueueEvent, Entry, entry, priority, waiting}
+use Rattle.kube_sched.specs.Held.{is_later}
 use Rattle.kube_sched.specs.Entries.{unfrozen, scheduled}
-use Rattle.kube_sched.specs.Schedule.{Schedule, Stands, held_of, with_settle, with_take, sets_anew, frozen_by}
+use Rattle.kube_sched.specs.Schedule.{Schedule, Stands, held_of_entry, with_settle, sets_anew, frozen_by}
 use Rattle.kube_sched.proofs.Listings.{any-map, none-passes, one-passes}
 use Rattle.kube_sched.proofs.Queues.{message_of, unfrozen_in, unfrozen-entry, unfrozen-items, Scheduled, scheduled-lists}
-use Rattle.kube_sched.proofs.Steps.{stands-waiting_len, stands-took}
+use Rattle.kube_sched.proofs.Steps.{stands-waiting_len}
 
 module _ {M : Type 0} (same : M → M → Bool) (equiv : IsEquivalence same) where
   -- an entry is set anew exactly where it is scheduled, and not before that moment
   pub later-stands : (s : Schedule M) (es : List (QueueEvent M)) → Stands same s es → (m : M) (run_at : Moment) → is_later same m run_at s.scheduled ≡ sets_anew (entry same s.debounce es m) run_at
   later-stands s es h m run_at =
       ap (is_later same m run_at) h.comes
-      ∙ any-map held_of (λ x. same x.message m && nat_le run_at.0 x.time.0) (scheduled same s.debounce es)
+      ∙ any-map (held_of_entry (priority same es)) (λ x. same x.message m && nat_le run_at.0 x.time.0) (scheduled same s.debounce es)
       ∙ go (entry same s.debounce es m) refl
     where
       is : Scheduled same equiv s.debounce es (scheduled same s.debounce es)
@@ -48,8 +48,3 @@ module _ {M : Type 0} (same : M → M → Bool) (equiv : IsEquivalence same) whe
   pub stale-by : (s : Schedule M) (es : List (QueueEvent M)) → Stands same s es → (m : M) (run_at : Moment) (n : ℕ) → n ≤ s.stale + (if is_later same m run_at s.scheduled then 1 else 0)
       → n ≤ s.stale + (if sets_anew (entry same s.debounce es m) run_at then 1 else 0)
   stale-by s es h m run_at n l = subst (λ b. n ≤ s.stale + (if b then 1 else 0)) (later-stands s es h m run_at) l
-
-  -- a message that is taken by its place
-  pub took-at : (s s' : Schedule M) (es : List (QueueEvent M)) (i : ℕ) (m : M) → MessageAt s.waiting i m → Stands same s es → i < length s.waiting
-      → s'.debounce ≡ s.debounce → s'.waiting ≡ remove s.waiting i → s'.scheduled ≡ s.scheduled → Stands same s' (with_take es m)
-  took-at s s' es i m at h l d w c = subst (λ n. Stands same s' (with_take es n)) (sym at.of) (stands-took same equiv s s' es i at.held h l at.is d w c)

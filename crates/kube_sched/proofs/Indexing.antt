@@ -1,15 +1,17 @@
 -- The numbers beside a table's entries, after each change of the table.
-use Rattle.std.proofs.Common.{◌≡◌, ℕ, zero, suc, ◌-◌, ◌<◌, Bool, true, false, cond, List, [], ◌∷◌, ◌++◌, map, length, get_or, take, Option, Some, None, Result, Ok, Err, OnOk, IfOk, IfSome, is_err, if◌then◌else◌, ◌||◌, refl, sym, ap, subst, ◌∙◌, arith}
-use Rattle.std.specs.Prelude.{nat_eq, slice_get, slice_set, slice_index_or, IsPermutation}
+use Rattle.std.proofs.Common.{◌≡◌, ℕ, zero, suc, ◌-◌, ◌<◌, Bool, true, false, cond, List, [], ◌∷◌, ◌++◌, map, length, get_or, take, Option, Some, None, Result, Ok, Err, OnOk, IfOk, IfSome, is_err, if◌then◌else◌, refl, sym, ap, subst, ◌∙◌, arith}
+use Rattle.std.specs.Prelude.{nat_eq, slice_get, slice_set, slice_index_or, position, IsPermutation}
 use Rattle.std.specs.List.{IsDistinct, list_any, swap_remove}
 use Rattle.std.specs.Map.{keys_of}
+use Rattle.std.proofs.lemmas.Bool.{eqb-true}
+use Rattle.std.proofs.lemmas.List.Quantifiers.{position-Some}
 use Rattle.std.proofs.lemmas.List.{map-append, map-set, get_or-map, length-map}
 use Rattle.std.proofs.lemmas.List.Sorted.{IsPermutation-swap_remove}
 use Rattle.std.proofs.lemmas.Option.{slice_get_within, get_or_from_slice_get}
 use Rattle.indexmap.specs.IndexMap.{set_value_at}
 use Rattle.indexmap.specs.IndexSet.{insert_key}
 use Rattle.kube_sched.specs.declared.table.Entry.{Entry}
-use Rattle.kube_sched.specs.Tables.{Row, number_of, at, IsIndexed, TakenAt}
+use Rattle.kube_sched.specs.Tables.{Row, number_of, IsIndexed, RowAt, TakenAt}
 use Rattle.kube_sched.proofs.Rows.{some-is, none-is-some}
 
 pub on-ok : {X E : Type 0} (r : Result X E) (P : Type 0) → is_err r ≡ false → OnOk r P → P
@@ -19,14 +21,6 @@ on-ok (Err x) P e h = absurd (cc)
 pub if-ok : {X E : Type 0} (r : Result X E) (P : Type 0) → is_err r ≡ false → IfOk r (λ x. P) → P
 if-ok (Ok x) P e h = h
 if-ok (Err x) P e h = absurd (cc)
-
-none-at : {M : Type 0} (rows : List (Row M)) (n : ℕ) → at rows n ≡ None → list_any (nat_eq n) (map number_of rows) ≡ false
-none-at [] n h = refl
-none-at (r ∷ rows) n h = go (nat_eq n r.1.number) h (none-at rows n)
-  where
-    go : (b : Bool) → cond b (Some r) (at rows n) ≡ None → (at rows n ≡ None → list_any (nat_eq n) (map number_of rows) ≡ false) → b || list_any (nat_eq n) (map number_of rows) ≡ false
-    go true h f = absurd (none-is-some (sym h))
-    go false h f = f h
 
 map-take : {A B : Type 0} (f : A → B) (n : ℕ) (xs : List A) → map f (take n xs) ≡ take n (map f xs)
 map-take f zero xs = refl
@@ -43,11 +37,11 @@ map-swap_remove f xs i d e l =
     ∙ ap (λ k. take (k - 1) (slice_set (map f xs) i (get_or (map f xs) (k - 1) e))) (sym n)
 
 module _ {M : Type 0} (same : M → M → Bool) (rows rows' : List (Row M)) (numbers numbers' : List ℕ) (k : IsIndexed same rows numbers) (apart : IsDistinct nat_eq numbers') (unique : IsDistinct same (keys_of rows')) where
-  pub indexed-more : (r : Row M) → at rows r.1.number ≡ None → rows' ≡ rows ++ r ∷ [] → numbers' ≡ insert_key nat_eq numbers r.1.number → IsIndexed same rows' numbers'
+  pub indexed-more : (r : Row M) → list_any (nat_eq r.1.number) (map number_of rows) ≡ false → rows' ≡ rows ++ r ∷ [] → numbers' ≡ insert_key nat_eq numbers r.1.number → IsIndexed same rows' numbers'
   indexed-more r none is keys = record {
     numbered =
         keys
-        ∙ ap (λ b. if b then numbers else numbers ++ r.1.number ∷ []) (ap (list_any (nat_eq r.1.number)) k.numbered ∙ none-at rows r.1.number none)
+        ∙ ap (λ b. if b then numbers else numbers ++ r.1.number ∷ []) (ap (list_any (nat_eq r.1.number)) k.numbered ∙ none)
         ∙ ap (λ ns. ns ++ r.1.number ∷ []) k.numbered
         ∙ sym (map-append number_of rows (r ∷ []))
         ∙ ap (map number_of) (sym is);
@@ -108,3 +102,19 @@ indexed-marked same rows numbers i r w k h e = record {
 pub taken-by : {M : Type 0} (o : Option (Row M)) (rows rest : List (Row M)) (i : ℕ) (m : M) (e : Entry) → o ≡ slice_get rows i → IfSome o (λ r. rest ≡ swap_remove rows i r) → o ≡ Some (m, e) → TakenAt rows rest i m
 taken-by None rows rest i m e h k s = absurd (none-is-some s)
 taken-by (Some r) rows rest i m e h k s = subst (TakenAt rows rest i) (ap (λ (y : Row _). y.0) (some-is s)) (taken-at rows rest i r h k)
+
+-- the row at the place of a number
+pub row-found : {M : Type 0} (rows : List (Row M)) (n i : ℕ) → position (nat_eq n) (map number_of rows) ≡ Some i → RowAt rows i n
+row-found {M} rows n i h =
+    let p = position-Some (nat_eq n) (map number_of rows) i n h in
+    let l : i < length rows = (let a = p.0 in let b = length-map rows number_of in omega arith) in
+    find-row rows i l (eqb-true n (get_or (map number_of rows) i n) p.1)
+  where
+    find-row : (rs : List (Row M)) (j : ℕ) → j < length rs → n ≡ get_or (map number_of rs) j n → RowAt rs j n
+    find-row [] j l e = absurd (omega arith)
+    find-row (r ∷ rs) zero l e = record { row = r; there = refl; numbered = e }
+    find-row (r ∷ rs) (suc j) l e = let f = find-row rs j (omega arith) e in record { row = f.row; there = f.there; numbered = f.numbered }
+
+pub rows-found : {M : Type 0} (rows : List (Row M)) (numbers : List ℕ) (n : ℕ) → numbers ≡ map number_of rows → (o : Option ℕ) → o ≡ position (nat_eq n) numbers → IfSome o (λ i. RowAt rows i n)
+rows-found rows numbers n e None h = tt
+rows-found rows numbers n e (Some i) h = row-found rows n i (ap (position (nat_eq n)) (sym e) ∙ sym h)

@@ -5,7 +5,8 @@ use Rattle.std.proofs.lemmas.Bool.{leb-true, leb-false}
 use Rattle.std.proofs.lemmas.List.{map-append}
 use Rattle.std.proofs.lemmas.List.Sums.{fold-append}
 use Rattle.kube_model.specs.Queue.{Request, QueueEvent, Requested, Settled, Took, Entry, entry, entry_after, entry_from, entry_of, entry_requested, entry_settled, plus, longest_wait}
-use Rattle.kube_sched.specs.Least.{NeverFall, clamped_time, asked_after, asked_since, least}
+use Rattle.kube_sched.specs.Least.{NeverFall, clamped_time, least}
+use Rattle.kube_model.specs.Queue.{asked_after, asked_since}
 
 abbrev times : {M : Type 0} → List (Request M) → List ℕ
 times qs = map clamped_time qs

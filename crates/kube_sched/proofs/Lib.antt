@@ -1,5 +1,4 @@
 -- lemmas on the definitions
-pub mod Lists
 pub mod Listings
 pub mod Places
 pub mod Queues
@@ -15,5 +14,19 @@ pub mod Runs
 pub mod Rows
 pub mod Numbers
 pub mod Indexing
-pub mod Timetables
+mod Urgent
+pub mod RankLists
+pub mod Changes
+pub mod Heads
+pub mod Touches
+pub mod Freezes
 pub mod Kept
+pub mod Raises
+pub mod Looks
+pub mod Takings
+pub mod Finds
+pub mod Backs
+pub mod Nothing
+pub mod Rooms
+pub mod Views
+pub mod Anew

@@ -1,12 +1,12 @@
 -- Lists of items of messages, where the items change.
-use Rattle.std.proofs.Common.{◌≡◌, Bool, true, false, not, ◌&&◌, ◌||◌, cond, List, [], ◌∷◌, ◌++◌, map, Option, Some, None, if◌then◌else◌, is_some, refl, sym, ap, ◌∙◌}
+use Rattle.std.proofs.Common.{◌≡◌, Bool, true, false, not, ◌&&◌, ◌||◌, cond, List, [], ◌∷◌, ◌++◌, map, Option, Some, None, if◌then◌else◌, is_some, option_map, refl, sym, ap, ◌∙◌}
 use Rattle.std.specs.List.{filter, list_any, AllByRecursion}
 use Rattle.std.specs.Cmp.{IsEquivalence}
 use Rattle.std.proofs.lemmas.Bool.{false≢true}
 use Rattle.std.proofs.lemmas.List.Folds.{list_any-append}
 use Rattle.std.proofs.Math.Bool.{or-true}
 use Rattle.kube_model.proofs.Alls.{all-map, all-append}
-use Rattle.kube_model.proofs.Sorted.{order-filter, order-append}
+use Rattle.kube_model.proofs.Sorted.{IsInOrder, order-filter, order-append}
 use Rattle.kube_model.proofs.Listed.{Items, Lists, is_listed, one-item}
 
 -- an item, if it passes
@@ -93,6 +93,35 @@ module _ {M X : Type 0} (same : M → M → Bool) (equiv : IsEquivalence same) (
       own = all-map (λ x. item (message x) ≡ Some x) (λ x. other (message x) ≡ Some x) (λ x k. h (message x) ∙ k) xs l.own;
       whole = λ m k. l.whole m (sym (ap is_some (h m)) ∙ k);
     }
+
+    -- they change, and their messages and their order stay
+    pub lists-map : (f : X → X) → ((x : X) → message (f x) ≡ message x) → ((x y : X) → before (f x) (f y) ≡ before x y) → ((m : M) → other m ≡ option_map f (item m)) → (xs : List X)
+        → Lists same equiv message before item xs → Lists same equiv message before other (map f xs)
+    lists-map f stays alike h xs l = record {
+      order = in-order xs l.order;
+      own = each xs l.own;
+      whole = λ m k. listed xs m ∙ l.whole m (some (item m) ∙ (sym (ap is_some (h m)) ∙ k));
+    }
+      where
+        some : (o : Option X) → is_some o ≡ is_some (option_map f o)
+        some None = refl
+        some (Some x) = refl
+
+        all-behind : (x : X) (ys : List X) → AllByRecursion (λ y. before x y ≡ true) ys → AllByRecursion (λ y. before (f x) y ≡ true) (map f ys)
+        all-behind x [] k = tt
+        all-behind x (y ∷ ys) k = (alike x y ∙ k.0, all-behind x ys k.1)
+
+        in-order : (ys : List X) → IsInOrder before ys → IsInOrder before (map f ys)
+        in-order [] k = tt
+        in-order (y ∷ ys) k = (all-behind y ys k.0, in-order ys k.1)
+
+        each : (ys : List X) → AllByRecursion (λ x. item (message x) ≡ Some x) ys → AllByRecursion (λ x. other (message x) ≡ Some x) (map f ys)
+        each [] k = tt
+        each (y ∷ ys) k = (ap other (stays y) ∙ (h (message y) ∙ ap (option_map f) k.0), each ys k.1)
+
+        listed : (ys : List X) (m : M) → is_listed same equiv message (map f ys) m ≡ is_listed same equiv message ys m
+        listed [] m = refl
+        listed (y ∷ ys) m = ap (λ n. same n m || is_listed same equiv message (map f ys) m) (stays y) ∙ ap (λ b. same (message y) m || b) (listed ys m)
 
     -- some are left out
     pub lists-filter : Items same equiv message item → (p : X → Bool) → ((m : M) → other m ≡ if_passes p (item m)) → (xs : List X)

@@ -1,5 +1,5 @@
 -- Lists of what functions of numbers give.
-use Rattle.std.proofs.Common.{◌≡◌, ◌≢◌, ℕ, zero, suc, ◌<◌, ◌≤◌, Bool, true, false, not, cond, List, [], ◌∷◌, ◌++◌, length, get_or, Option, Some, None, if◌then◌else◌, ◌||◌, refl, sym, ap, subst, ◌∙◌, arith, append_assoc, append-nil, inl, inr, ◌⊎◌}
+use Rattle.std.proofs.Common.{◌≡◌, ◌≢◌, ℕ, zero, suc, ◌<◌, ◌≤◌, ◌+◌, length-append, Bool, true, false, not, cond, List, [], ◌∷◌, ◌++◌, length, get_or, Option, Some, None, if◌then◌else◌, ◌||◌, refl, sym, ap, subst, ◌∙◌, arith, append_assoc, append-nil, inl, inr, ◌⊎◌}
 use Rattle.std.specs.Prelude.{nat_eq, filter_map, filter, remove, slice_get}
 use Rattle.std.specs.List.{AllByRecursion, IsDistinct, cons_option, list_any}
 use Rattle.std.proofs.lemmas.Bool.{false≢true, eqb-true, eqb-false, ne_eqb, lt-ltb, le-ltb}
@@ -10,7 +10,7 @@ use Rattle.kube_model.specs.Queue.{insert_by, sorted_by}
 use Rattle.kube_model.proofs.Alls.{all-map, all-append, all-filter}
 use Rattle.kube_sched.specs.declared.held.Held.{Held}
 use Rattle.kube_sched.specs.Held.{is_due, comes_before}
-use Rattle.kube_sched.specs.Tables.{upto}
+use Rattle.kube_sched.specs.Tables.{upto, Row, at, listed, of_state}
 
 -- The numbers below one.
 
@@ -203,3 +203,21 @@ module _ {M : Type 0} where
       → hs' ≡ filter (λ h. not (is_due now h)) hs
   settled-scheduled now hs hs' none h =
       sym (filter-every (λ h. not (is_due now h)) hs' (all-map (λ h. is_due now h ≡ false) (λ h. not (is_due now h) ≡ true) (λ h e. ap not e) hs' none)) ∙ h
+
+-- ---- how many there are
+
+upto-length : (n : ℕ) → length (upto n) ≡ n
+upto-length zero = refl
+upto-length (suc n) = let a = length-append (upto n) (n ∷ []) in let b = upto-length n in omega (arith, a, b)
+
+given-few : {A B : Type 0} (f : A → Option B) (xs : List A) → length (filter_map f xs) ≤ length xs
+given-few f [] = omega arith
+given-few {A} {B} f (x ∷ xs) = go (f x) (given-few f xs)
+  where
+    go : (o : Option B) → length (filter_map f xs) ≤ length xs → length (cons_option o (filter_map f xs)) ≤ length (x ∷ xs)
+    go None h = omega (arith, h)
+    go (Some y) h = omega (arith, h)
+
+-- those of numbers below a bound are no more than it
+pub listed-few : {M : Type 0} (b : Bool) (rows : List (Row M)) (n : ℕ) → length (listed b rows n) ≤ n
+listed-few b rows n = let a = given-few (λ k. of_state b (at rows k)) (upto n) in let l = upto-length n in omega (arith, a, l)

@@ -1,5 +1,5 @@
 -- What a poll of a scheduler over a stream of requests does.
-use Rattle.std.proofs.Common.{◌≡◌, ℕ, zero, suc, ◌+◌, ◌<◌, Bool, true, false, List, [], ◌∷◌, ◌++◌, map, length, get_or, Option, Some, None, refl, sym, ap, subst, ◌∙◌, append-nil, append_assoc, arith, inl, inr, IfSome, IfNone, IfOk, Result, Ok, Err}
+use Rattle.std.proofs.Common.{◌≡◌, ℕ, zero, suc, ◌+◌, ◌<◌, Bool, true, false, List, [], ◌∷◌, ◌++◌, map, length, get_or, Option, Some, None, option_map, refl, sym, ap, subst, ◌∙◌, append-nil, append_assoc, arith, inl, inr, IfSome, IfNone, IfOk, Result, Ok, Err}
 use Rattle.std.proofs.lemmas.List.{length_push}
 use Rattle.kube_meta.specs.declared.moment.Moment.{Moment}
 use Rattle.kube_meta.specs.declared.poll.Next.{Next}
@@ -8,8 +8,8 @@ use Rattle.kube_model.specs.Queue.{QueueEvent}
 use Rattle.kube_model.specs.Raw.{grown, grown_by}
 use Rattle.kube_sched.specs.declared.request.ScheduleRequest.{ScheduleRequest}
 use Rattle.kube_sched.specs.declared.held.Held.{Held}
-use Rattle.kube_sched.specs.Held.{messages, IsFirstAt}
 use Rattle.kube_sched.specs.declared.asks.Ending.{Ending}
+use Rattle.kube_sched.specs.declared.held.Due.{Due}
 use Rattle.kube_sched.specs.declared.asks.Ending.TheVariants.{Filled, Waits, Ends}
 use Rattle.kube_sched.specs.Schedule.{Schedule, Stands, with_request, with_take, IsFirst, waiting_messages}
 use Rattle.kube_sched.specs.Polls.{Stream, Answer, requests_in, ends_by, ending_of, with_requests, Asked, AskedInVain, ending_at, is_end, prepared, Prepared, Polled, CountedPoll, given}
@@ -196,8 +196,9 @@ module _ {M R : Type 0} (same : M → M → Bool) (told : R → Option (List (An
 
   pub polled-none : {left : ℕ} (passes : M → Bool → Type 0) (fuel : ℕ) (s s1 s' : Stream M R) → Prepared same told now fuel s s1 Waits left
       → ((events : List (QueueEvent M)) → Stands same s1.schedule events → IsFirst passes (waiting_messages same s1.schedule.debounce events) None)
-      → s'.schedule ≡ s1.schedule → s'.requests ≡ s1.requests → s'.is_over ≡ s1.is_over → s'.is_spent ≡ s1.is_spent → Polled same passes told now fuel s s' NotReady
-  polled-none passes fuel s s1 s' p first is asks over fresh = record {
+      → ((events : List (QueueEvent M)) → Stands same s1.schedule events → Stands same s'.schedule events)
+      → s'.requests ≡ s1.requests → s'.is_over ≡ s1.is_over → s'.is_spent ≡ s1.is_spent → s'.schedule.debounce ≡ s1.schedule.debounce → Polled same passes told now fuel s s' NotReady
+  polled-none passes fuel s s1 s' p first stays asks over fresh kept = record {
     answers = p.answers;
     ending = Waits;
     tells = ap told asks ∙ p.tells;
@@ -208,8 +209,8 @@ module _ {M R : Type 0} (same : M → M → Bool) (told : R → Option (List (An
     item = λ m h. absurd (cc);
     over = over ∙ p.over;
     fresh = fresh ∙ p.fresh;
-    kept = ap (λ (x : Schedule M). x.debounce) is ∙ p.kept;
-    stands = λ events h. subst (λ x. Stands same x (prepared Waits events (requests_in p.answers) now)) (sym is) (p.stands events h);
+    kept = kept ∙ p.kept;
+    stands = λ events h. stays (prepared Waits events (requests_in p.answers) now) (p.stands events h);
   }
 
   pub polled-some : {left : ℕ} (passes : M → Bool → Type 0) (fuel : ℕ) (s s1 s' : Stream M R) (m : M) → Prepared same told now fuel s s1 Waits left
@@ -245,7 +246,7 @@ module _ {M R : Type 0} (same : M → M → Bool) (told : R → Option (List (An
   pub counted-took : (passes : M → Bool → Type 0) (fuel left : ℕ) (s s1 s' : Stream M R) (o : Option M) → Prepared same told now fuel s s1 Waits left
       → ((events : List (QueueEvent M)) → Stands same s1.schedule events → IsFirst passes (waiting_messages same s1.schedule.debounce events) o)
       → IfSome o (λ m. (events : List (QueueEvent M)) → Stands same s1.schedule events → Stands same s'.schedule (with_take events m))
-      → IfNone o (s'.schedule ≡ s1.schedule)
+      → IfNone o ((events : List (QueueEvent M)) → Stands same s1.schedule events → Stands same s'.schedule events)
       → s'.requests ≡ s1.requests → s'.is_over ≡ s1.is_over → s'.is_spent ≡ s1.is_spent → s'.schedule.debounce ≡ s1.schedule.debounce
       → CountedPoll same passes told now fuel s s' (given o) left
   unfolding polled-none polled-some
@@ -254,18 +255,21 @@ module _ {M R : Type 0} (same : M → M → Bool) (told : R → Option (List (An
     counted = p.counted;
   }
   counted-took passes fuel left s s1 s' None p first took none asks over fresh kept = record {
-    polled = polled-none passes fuel s s1 s' p first none asks over fresh;
+    polled = polled-none passes fuel s s1 s' p first none asks over fresh kept;
     counted = p.counted;
   }
 
+  -- the message of what was taken, if anything was
+  pub taken-message : (P : M → Type 0) (o : Option (Due M)) → IfSome o (λ due. P due.message) → IfSome (option_map (λ (due : Due M). due.message) o) P
+  taken-message P None h = tt
+  taken-message P (Some due) h = h
+
+  pub nothing-message : (P : Type 0) (o : Option (Due M)) → IfNone o P → IfNone (option_map (λ (due : Due M). due.message) o) P
+  nothing-message P None h = h
+  nothing-message P (Some due) h = tt
+
   pub counted-as : {passes : M → Bool → Type 0} {fuel left : ℕ} {s s' : Stream M R} {a b : Next M} → a ≡ b → CountedPoll same passes told now fuel s s' b left → CountedPoll same passes told now fuel s s' a left
   counted-as {passes} {fuel} {left} {s} {s'} e p = subst (λ x. CountedPoll same passes told now fuel s s' x left) (sym e) p
-
--- the message at the place of the first that passes does
-pub passes-at : {M : Type 0} (passes : M → Bool → Type 0) (hs : List (Held M)) (i : ℕ) (x : Held M) → i < length hs → x ≡ get_or hs i x → IsFirstAt passes (messages hs) (Some i) → passes x.message true
-passes-at passes [] i x l e h = absurd (omega arith)
-passes-at passes (d ∷ hs) zero x l e h = subst (λ (y : Held _). passes y.message true) (sym e) h
-passes-at passes (d ∷ hs) (suc i) x l e h = passes-at passes hs i x (omega arith) e h.1
 
 pub item-of : {M : Type 0} (P : M → Type 0) (o : Option M) (a : Next M) (m : M) → a ≡ given o → a ≡ Item m → IfSome o P → P m
 item-of P (Some n) a m e f h = let same : n ≡ m = cc in subst P same h

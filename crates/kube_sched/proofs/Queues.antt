@@ -1,13 +1,16 @@
 -- What waits and what is scheduled after events, as lists of the items of messages.
-use Rattle.std.proofs.Common.{◌≡◌, ℕ, ◌<◌, Bool, true, false, ◌==◌, List, [], ◌∷◌, ◌++◌, length, Option, Some, None, is_some, if◌then◌else◌, refl, ap, subst, arith}
+use Rattle.std.proofs.Common.{◌≡◌, ℕ, ◌<◌, Bool, true, false, ◌==◌, List, [], ◌∷◌, ◌++◌, length, Option, Some, None, is_some, if◌then◌else◌, refl, ap, subst, ◌∙◌, arith}
 use Rattle.std.specs.List.{filter_map, list_any}
 use Rattle.std.specs.Cmp.{IsEquivalence}
 use Rattle.std.proofs.lemmas.Bool.Decides.{nat_tests}
-use Rattle.kube_model.specs.Queue.{QueueEvent, Entry, Frozen, entry, entry_after, frozen, requested_message, waiting, goes_before}
+use Rattle.kube_model.specs.Queue.{QueueEvent, Entry, Frozen, entry, entry_after, frozen, priority, requested_message, was_frozen_before}
+use Rattle.kube_model.specs.ByPriority.{as_frozen}
+use Rattle.kube_model.specs.WaitingOnce.{HasEachOnce, is_among, is_frozen}
 use Rattle.kube_model.proofs.Entries.{entry-append}
-use Rattle.kube_model.proofs.Sorted.{Orders}
-use Rattle.kube_model.proofs.Listed.{Items, Lists, one-list, lists-items}
-use Rattle.kube_model.proofs.Waits.{before-orders, entry-alike, entry-of, requested-entry, frozen-own, frozen-items, frozen-whole}
+use Rattle.kube_model.proofs.Sorted.{Orders, any-sorted}
+use Rattle.kube_model.proofs.Listed.{IsOnce, Items, Lists, items_of, items-listed, once-items, one-list, lists-items}
+use Rattle.kube_model.proofs.ByRank.{frozen-orders}
+use Rattle.kube_model.proofs.Waits.{entry-alike, entry-of, requested-entry, frozen-own, frozen-items, frozen-whole, some-frozen}
 use Rattle.kube_sched.specs.Entries.{unfrozen, is_set_before, scheduled}
 use Rattle.kube_sched.proofs.Places.{IsBelow, ComesBefore, AreApart, entry-before, entries-apart}
 
@@ -45,13 +48,13 @@ module _ {M : Type 0} (same : M → M → Bool) (equiv : IsEquivalence same) (de
 
   module _ (es : List (QueueEvent M)) where
     abbrev pub frozen_in : M → Option (Frozen M)
-    frozen_in m = frozen (entry same debounce es m)
+    frozen_in m = frozen (priority same es m) (entry same debounce es m)
 
     abbrev pub unfrozen_in : M → Option (Entry M)
     unfrozen_in m = unfrozen (entry same debounce es m)
 
     abbrev pub Waiting : List (Frozen M) → Type 0
-    Waiting fs = Lists same equiv message_of_frozen goes_before frozen_in fs
+    Waiting fs = Lists same equiv message_of_frozen was_frozen_before frozen_in fs
 
     abbrev pub Scheduled : List (Entry M) → Type 0
     Scheduled cs = Lists same equiv message_of is_set_before unfrozen_in cs
@@ -66,9 +69,9 @@ module _ {M : Type 0} (same : M → M → Bool) (equiv : IsEquivalence same) (de
     unfrozen-whole m h = ap unfrozen (requested-entry same equiv debounce es m h)
 
     -- there is one such list
-    pub waiting-by : (fs : List (Frozen M)) → Waiting fs → waiting same debounce es ≡ fs
+    pub waiting-by : (fs : List (Frozen M)) → Waiting fs → as_frozen same debounce es ≡ fs
     waiting-by fs l =
-        one-list same equiv message_of_frozen frozen_in (frozen-items same equiv debounce es) (filter_map requested_message es) (frozen-whole same equiv debounce es) goes_before before-orders fs l
+        one-list same equiv message_of_frozen frozen_in (frozen-items same equiv debounce es) (filter_map requested_message es) (frozen-whole same equiv debounce es) was_frozen_before frozen-orders fs l
 
     pub scheduled-by : (cs : List (Entry M)) → Scheduled cs → scheduled same debounce es ≡ cs
     scheduled-by cs l =
@@ -77,7 +80,7 @@ module _ {M : Type 0} (same : M → M → Bool) (equiv : IsEquivalence same) (de
     apart : (a b : Entry M) → entry same debounce es a.message ≡ Some a → entry same debounce es b.message ≡ Some b → same a.message b.message ≡ false → (a.request == b.request) ≡ false
     apart a b h k other = subst (λ o. AreApart o (Some b)) h (subst (λ o. AreApart (entry same debounce es a.message) o) k (entries-apart debounce same equiv a.message b.message other es))
 
-    strict-frozen : (a b : Frozen M) → frozen_in a.entry.message ≡ Some a → frozen_in b.entry.message ≡ Some b → same a.entry.message b.entry.message ≡ false → goes_before b a ≡ false → goes_before a b ≡ true
+    strict-frozen : (a b : Frozen M) → frozen_in a.entry.message ≡ Some a → frozen_in b.entry.message ≡ Some b → same a.entry.message b.entry.message ≡ false → was_frozen_before b a ≡ false → was_frozen_before a b ≡ true
     strict-frozen a b h k other l =
         let numbers = apart a.entry b.entry (frozen-own same equiv debounce es a.entry.message a h).0.0 (frozen-own same equiv debounce es b.entry.message b k).0.0 other in
         grind (arith, nat_tests)
@@ -88,13 +91,28 @@ module _ {M : Type 0} (same : M → M → Bool) (equiv : IsEquivalence same) (de
         grind (arith, nat_tests)
 
     -- both lists are such
-    pub waiting-lists : Waiting (waiting same debounce es)
+    pub waiting-lists : Waiting (as_frozen same debounce es)
     waiting-lists =
-        lists-items same equiv message_of_frozen frozen_in (frozen-items same equiv debounce es) (filter_map requested_message es) (frozen-whole same equiv debounce es) goes_before before-orders strict-frozen
+        lists-items same equiv message_of_frozen frozen_in (frozen-items same equiv debounce es) (filter_map requested_message es) (frozen-whole same equiv debounce es) was_frozen_before frozen-orders strict-frozen
 
     pub scheduled-lists : Scheduled (scheduled same debounce es)
     scheduled-lists =
         lists-items same equiv message_of unfrozen_in unfrozen-items (filter_map requested_message es) unfrozen-whole is_set_before set-orders strict-unfrozen
+
+    once-of : (fs : List (Frozen M)) → IsOnce same equiv message_of_frozen fs → HasEachOnce same fs
+    once-of [] h = tt
+    once-of (f ∷ fs) h = (h.0, once-of fs h.1)
+
+    pub frozen-once : HasEachOnce same (as_frozen same debounce es)
+    frozen-once =
+        once-of (as_frozen same debounce es)
+        (once-items same equiv message_of_frozen frozen_in (frozen-items same equiv debounce es) (filter_map requested_message es) (frozen-whole same equiv debounce es) was_frozen_before frozen-orders)
+
+    pub frozen-among : (m : M) → is_among same (as_frozen same debounce es) m ≡ is_frozen (entry same debounce es m)
+    frozen-among m =
+        any-sorted was_frozen_before (λ f. same f.entry.message m) (items_of same equiv message_of_frozen frozen_in (frozen-items same equiv debounce es) (filter_map requested_message es))
+        ∙ (items-listed same equiv message_of_frozen frozen_in (frozen-items same equiv debounce es) (filter_map requested_message es) (frozen-whole same equiv debounce es) m
+        ∙ some-frozen (priority same es m) (entry same debounce es m))
 
     -- a frozen entry was frozen by an earlier settle
     pub settle-below : (f : Frozen M) → frozen_in f.entry.message ≡ Some f → f.settle < length es

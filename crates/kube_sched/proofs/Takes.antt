@@ -1,11 +1,13 @@
 -- What a take leaves.
-use Rattle.std.proofs.Common.{◌≡◌, ℕ, suc, zero, ◌<◌, Bool, true, false, not, List, [], ◌∷◌, ◌++◌, map, length, get_or, Option, Some, None, if◌then◌else◌, cond, refl, sym, ap, ◌∙◌, arith}
+use Rattle.std.proofs.Common.{◌≡◌, ℕ, suc, zero, ◌<◌, Bool, true, false, not, List, [], ◌∷◌, ◌++◌, map, length, get_or, Option, Some, None, if◌then◌else◌, cond, refl, sym, ap, ap₂, ◌∙◌, arith}
 use Rattle.std.specs.List.{filter, list_any, remove}
 use Rattle.std.specs.Cmp.{IsEquivalence}
-use Rattle.kube_model.specs.Queue.{QueueEvent, Took, Entry, Frozen, entry, frozen, goes_before, waiting}
+use Rattle.kube_model.specs.Queue.{QueueEvent, Took, Entry, Frozen, entry, frozen, priority, was_frozen_before}
+use Rattle.kube_model.specs.ByPriority.{as_frozen}
 use Rattle.kube_model.specs.WaitingOnce.{HasEachOnce, is_frozen}
 use Rattle.kube_model.proofs.Alls.{or-left, or-right}
 use Rattle.kube_model.proofs.Waits.{entry-alike, frozen-items}
+use Rattle.kube_model.proofs.Priorities.{priority-took}
 use Rattle.kube_sched.specs.declared.held.Held.{Held}
 use Rattle.kube_sched.specs.Held.{is_of}
 use Rattle.kube_sched.specs.Entries.{unfrozen, is_set_before, scheduled}
@@ -19,10 +21,10 @@ module _ {M : Type 0} (same : M → M → Bool) (equiv : IsEquivalence same) (de
 
   frozen-took : (m : M) → frozen_in same equiv debounce after m ≡ if_passes (λ f. not (same f.entry.message t)) (frozen_in same equiv debounce es m)
   frozen-took m =
-      ap frozen (one-more same equiv debounce es (Took t) m)
+      ap₂ frozen (priority-took same es m t) (one-more same equiv debounce es (Took t) m)
       ∙ (go (same t m) ∙ without-one same equiv message_of_frozen (frozen_in same equiv debounce es) (frozen-items same equiv debounce es) t m)
     where
-      go : (b : Bool) → frozen (if b then None else entry same debounce es m) ≡ (if b then None else frozen (entry same debounce es m))
+      go : (b : Bool) → frozen (if b then 0 else priority same es m) (if b then None else entry same debounce es m) ≡ (if b then None else frozen (priority same es m) (entry same debounce es m))
       go true = refl
       go false = refl
 
@@ -38,11 +40,11 @@ module _ {M : Type 0} (same : M → M → Bool) (equiv : IsEquivalence same) (de
       go false s = refl
 
   -- its message waits no more
-  pub waiting-took : waiting same debounce (es ++ Took t ∷ []) ≡ filter (λ f. not (same f.entry.message t)) (waiting same debounce es)
+  pub waiting-took : as_frozen same debounce (es ++ Took t ∷ []) ≡ filter (λ f. not (same f.entry.message t)) (as_frozen same debounce es)
   waiting-took =
-      waiting-by same equiv debounce after (filter (λ f. not (same f.entry.message t)) (waiting same debounce es))
-      (lists-filter same equiv message_of_frozen goes_before (frozen_in same equiv debounce es) (frozen_in same equiv debounce after) (frozen-items same equiv debounce es)
-      (λ f. not (same f.entry.message t)) frozen-took (waiting same debounce es) (waiting-lists same equiv debounce es))
+      waiting-by same equiv debounce after (filter (λ f. not (same f.entry.message t)) (as_frozen same debounce es))
+      (lists-filter same equiv message_of_frozen was_frozen_before (frozen_in same equiv debounce es) (frozen_in same equiv debounce after) (frozen-items same equiv debounce es)
+      (λ f. not (same f.entry.message t)) frozen-took (as_frozen same debounce es) (waiting-lists same equiv debounce es))
 
   -- what is scheduled stays, where the message waited
   pub scheduled-took : is_frozen (entry same debounce es t) ≡ true → scheduled same debounce (es ++ Took t ∷ []) ≡ scheduled same debounce es

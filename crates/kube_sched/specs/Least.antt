@@ -1,5 +1,5 @@
 -- The words of the law on entries without debounce.
-use Rattle.std.specs.Prelude.{ℕ, ◌≤◌, min, List, [], ◌∷◌, ◌++◌, Bool, Option, Some, None, if◌then◌else◌}
+use Rattle.std.specs.Prelude.{ℕ, ◌≤◌, min, List, [], ◌∷◌, Option, Some, None}
 use Rattle.std.specs.List.{fold}
 use Rattle.kube_model.specs.Queue.{Request, QueueEvent, Requested, Settled, Took, plus, longest_wait}
 
@@ -13,15 +13,6 @@ NeverFall last (Took m ∷ es) = NeverFall last es
 -- the moment that is asked for, but not later than 180 days after that of the request
 abbrev pub clamped_time : {M : Type 0} → Request M → ℕ
 clamped_time q = min q.run_at (plus q.now longest_wait)
-
-abbrev pub asked_after : {M : Type 0} → (M → M → Bool) → M → List (Request M) → QueueEvent M → List (Request M)
-asked_after same m qs (Requested q) = if same q.message m then qs ++ q ∷ [] else qs
-asked_after same m qs (Settled now) = qs
-asked_after same m qs (Took taken) = if same taken m then [] else qs
-
--- the requests for a message since it was last taken: the first of them made its entry
-abbrev pub asked_since : {M : Type 0} → (M → M → Bool) → M → List (QueueEvent M) → List (Request M)
-asked_since same m events = fold (asked_after same m) [] events
 
 abbrev pub least : List ℕ → Option ℕ
 least [] = None

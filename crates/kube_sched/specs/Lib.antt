@@ -1,5 +1,7 @@
 -- the definitions that the contracts cite
 pub mod Held
+pub mod Urgent
+pub mod Ranks
 pub mod Tables
 pub mod Timetables
 pub mod Entries

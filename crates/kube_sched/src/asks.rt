@@ -1,7 +1,7 @@
 //! How a scheduler takes requests.
 
 ghost use Rattle.std.specs.Prelude.{◌≡◌, ◌+◌, ◌≤◌, IfOk, OnErr};
-ghost use Rattle.kube_sched.specs.Schedule.{held_len};
+ghost use Rattle.kube_sched.specs.Schedule.{ParksSame, held_len};
 ghost use Rattle.kube_sched.specs.Polls.{Asked, AskedInVain};
 
 use crate::request::ScheduleRequest;
@@ -38,6 +38,7 @@ pub fn take_requests<T: Eq + Hash + Drop, R: Requests<T>>(
     ensures asked { IfOk result (λ asks. Asked T.eq R.told now fuel scheduler.old requests.old scheduler.new requests.new asks.0 asks.1) }
     ensures held { IfOk result (λ asks. held_len scheduler.new + asks.1 ≤ held_len scheduler.old + fuel) }
     ensures debounce { scheduler.new.debounce ≡ scheduler.old.debounce }
+    ensures parked { ParksSame T.eq scheduler.old scheduler.new }
     ensures lost { OnErr result (AskedInVain T.eq R.told now fuel scheduler.old requests.old scheduler.new requests.new) }
 {
     for taken in 0..fuel {

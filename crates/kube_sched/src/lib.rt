@@ -7,6 +7,7 @@ pub mod future_hash_map;
 mod held;
 pub mod hold;
 pub mod laws;
+mod ranks;
 pub mod request;
 pub mod requests;
 pub mod runner;
@@ -17,6 +18,7 @@ mod timetable;
 pub mod told_future;
 
 pub use future_hash_map::FutureHashMap;
+pub use held::Due;
 pub use hold::{Hold, HoldUnless};
 pub use request::ScheduleRequest;
 pub use requests::Requests;

@@ -9,4 +9,6 @@ pub struct ScheduleRequest<T> {
     pub message: T,
     /// From when on.
     pub run_at: Moment,
+    /// The greater one is given first.
+    pub priority: u32,
 }

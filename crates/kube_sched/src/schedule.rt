@@ -1,13 +1,14 @@
 //! The scheduler (kube-runtime's `Scheduler`, without its stream of requests).
 
-ghost use Rattle.std.specs.Prelude.{◌≡◌, ◌+◌, ◌<◌, ◌≤◌, true, List, [], length, IfSome, IfNone, OnOk, OnErr, min, if◌then◌else◌, option_copied};
+ghost use Rattle.std.specs.Prelude.{◌≡◌, ◌+◌, ◌<◌, ◌≤◌, not, ◌&&◌, true, List, [], length, is_some, IfSome, IfNone, OnOk, OnErr, min, if◌then◌else◌, option_copied};
 ghost use Rattle.std.specs.Fn.{FnReturnsAt};
-ghost use Rattle.kube_model.specs.Queue.{QueueEvent, entry, waiting, plus, longest_wait};
+ghost use Rattle.std.specs.Option.{option_map};
+ghost use Rattle.kube_model.specs.Queue.{QueueEvent, entry, priority, waiting, plus, longest_wait};
 ghost use Rattle.kube_model.specs.WaitingOnce.{is_frozen};
 ghost use Rattle.kube_sched.specs.Entries.{entries};
 
 use crate::counting::Steps;
-use crate::held::Held;
+use crate::held::{Due, Held};
 use crate::request::ScheduleRequest;
 use crate::timetable::Timetable;
 use kube_meta::{Moment, NoMemory};
@@ -39,23 +40,24 @@ pub struct Scheduler<T: Eq + Hash> {
 
 impl<T: Eq + Hash> Model for Scheduler<T> {
     ghost use Rattle.kube_sched.specs.Schedule.{Schedule};
-    ghost use Rattle.kube_sched.specs.Timetables.{IsKept, waiting_of, scheduled_of, stale_of};
+    ghost use Rattle.kube_sched.specs.Timetables.{IsWhole, head_of, parked_of, waiting_of, scheduled_of, stale_of};
 
     ghost Value = { Schedule T };
 
-    ghost view = { λ s. record { debounce = s.debounce; waiting = waiting_of s.times; scheduled = scheduled_of s.times; spare = s.times.spare; stale = stale_of s.times } };
+    ghost view = { λ s. record { debounce = s.debounce; waiting = waiting_of s.times; scheduled = scheduled_of s.times; spare = s.times.spare; stale = stale_of s.times; parked = parked_of s.times; head = head_of s.times } };
 
-    ghost invariant = { λ s. IsKept T.eq s.times };
+    ghost invariant = { λ s. IsWhole T.eq s.times };
 }
 
 impl<T: Eq + Hash + Drop> Scheduler<T> {
-    ghost use Rattle.kube_sched.specs.Schedule.{Stands, with_request, with_settle, with_take, IsFirst, waiting_messages, held_len, frozen_by, sets_anew};
+    ghost use Rattle.kube_sched.specs.Schedule.{NoneParked, ParkedFail, ParksFailing, ParksSame, Stands, is_parked, passes_unparked, with_request, with_settle, with_take, IsFirst, waiting_messages, held_len, frozen_by, sets_anew};
 
     /// A scheduler that holds nothing. A message is held for `debounce` nanoseconds longer than asked.
     pub fn new(alloc: Global, debounce: u64) -> Scheduler<T>
         ensures debounce { result.debounce ≡ debounce }
         ensures stands { Stands T.eq result [] }
         ensures stale { result.stale ≡ 0 }
+        ensures parked { NoneParked T.eq result }
     {
         Scheduler {
             debounce,
@@ -63,7 +65,8 @@ impl<T: Eq + Hash + Drop> Scheduler<T> {
         }
     }
 
-    /// Requests a message. A message that waits stays as it is; one that is due earlier than `run_at` does too.
+    /// Requests a message. A message that waits stays as it is, and so does one that is due earlier than `run_at`; but each gets
+    /// the request's priority where that is greater.
     ///
     /// # Errors
     ///
@@ -76,6 +79,7 @@ impl<T: Eq + Hash + Drop> Scheduler<T> {
     ) -> Result<(), NoMemory>
         ensures stands { OnOk result ((events : List (QueueEvent T)) → Stands T.eq self.old events → Stands T.eq self.new (with_request events request now)) }
         ensures debounce { self.new.debounce ≡ self.old.debounce }
+        ensures parked { ParksSame T.eq self.old self.new }
         ensures spare { OnOk result (self.new.spare ≡ self.old.spare) }
         ensures stale { OnOk result ((events : List (QueueEvent T)) → Stands T.eq self.old events → self.new.stale ≤ self.old.stale + (if sets_anew (entry T.eq self.old.debounce events request.message) request.run_at then 1 else 0)) }
         ensures err { OnErr result (self.new ≡ self.old) }
@@ -92,6 +96,7 @@ impl<T: Eq + Hash + Drop> Scheduler<T> {
     ) -> Result<(), NoMemory>
         ensures stands { OnOk result ((events : List (QueueEvent T)) → Stands T.eq self.old events → Stands T.eq self.new (with_request events request now)) }
         ensures debounce { self.new.debounce ≡ self.old.debounce }
+        ensures parked { ParksSame T.eq self.old self.new }
         ensures spare { OnOk result (self.new.spare ≡ self.old.spare) }
         ensures stale { OnOk result ((events : List (QueueEvent T)) → Stands T.eq self.old events → self.new.stale ≤ self.old.stale + (if sets_anew (entry T.eq self.old.debounce events request.message) request.run_at then 1 else 0)) }
         ensures held { OnOk result (held_len self.new ≤ held_len self.old + 1) }
@@ -104,6 +109,7 @@ impl<T: Eq + Hash + Drop> Scheduler<T> {
         self.reserve(alloc, places)?;
         self.take_in_reserved(request, now);
         self.times.spare = spare;
+        self.times.drop_stale(alloc);
         Ok(())
     }
 
@@ -112,6 +118,7 @@ impl<T: Eq + Hash + Drop> Scheduler<T> {
         requires { 1 ≤ self.old.spare }
         ensures stands { (events : List (QueueEvent T)) → Stands T.eq self.old events → Stands T.eq self.new (with_request events request now) }
         ensures debounce { self.new.debounce ≡ self.old.debounce }
+        ensures parked { ParksSame T.eq self.old self.new }
         ensures spare { self.old.spare ≤ self.new.spare + 1 }
         ensures stale { (events : List (QueueEvent T)) → Stands T.eq self.old events → self.new.stale ≤ self.old.stale + (if sets_anew (entry T.eq self.old.debounce events request.message) request.run_at then 1 else 0) }
     {
@@ -123,13 +130,25 @@ impl<T: Eq + Hash + Drop> Scheduler<T> {
         requires { 1 ≤ self.old.spare }
         ensures stands { (events : List (QueueEvent T)) → Stands T.eq self.old events → Stands T.eq self.new (with_request events request now) }
         ensures debounce { self.new.debounce ≡ self.old.debounce }
+        ensures parked { ParksSame T.eq self.old self.new }
         ensures spare { self.old.spare ≤ self.new.spare + 1 }
         ensures stale { (events : List (QueueEvent T)) → Stands T.eq self.old events → self.new.stale ≤ self.old.stale + (if sets_anew (entry T.eq self.old.debounce events request.message) request.run_at then 1 else 0) }
         ensures held { held_len self.new ≤ held_len self.old + 1 }
     {
-        let ScheduleRequest { message, run_at } = request;
+        let ScheduleRequest {
+            message,
+            run_at,
+            priority,
+        } = request;
         let time = due_time(self.debounce, run_at, now);
-        self.times.set(Held { message, time }, run_at);
+        self.times.set(
+            Held {
+                message,
+                time,
+                priority,
+            },
+            run_at,
+        );
     }
 
     /// Takes memory for messages to come: `spare` is then at least `n`.
@@ -146,6 +165,15 @@ impl<T: Eq + Hash + Drop> Scheduler<T> {
         self.times.reserve(n)
     }
 
+    /// Drops the places that were left by entries that were set anew or got a greater priority, where they are more than the
+    /// others and there is memory for the rest. What is held stays.
+    pub fn drop_stale(&mut self, alloc: Global)
+        ensures stale { self.new.stale ≤ self.old.stale }
+        ensures same { self.new ≡ record self.old { stale = self.new.stale; head = self.new.head } }
+    {
+        self.times.drop_stale(alloc);
+    }
+
     /// For how many more messages memory is taken.
     pub fn spare(&self) -> usize
         ensures { result ≡ self.now.spare }
@@ -157,6 +185,7 @@ impl<T: Eq + Hash + Drop> Scheduler<T> {
     pub fn settle(&mut self, now: Moment)
         ensures stands { (events : List (QueueEvent T)) → Stands T.eq self.old events → Stands T.eq self.new (with_settle events now) }
         ensures debounce { self.new.debounce ≡ self.old.debounce }
+        ensures parked { ParksSame T.eq self.old self.new }
         ensures spare { self.new.spare ≡ self.old.spare }
         ensures stale { self.new.stale ≤ self.old.stale }
     {
@@ -167,6 +196,7 @@ impl<T: Eq + Hash + Drop> Scheduler<T> {
     pub(crate) fn let_wait(&mut self, now: Moment)
         ensures stands { (events : List (QueueEvent T)) → Stands T.eq self.old events → Stands T.eq self.new (with_settle events now) }
         ensures debounce { self.new.debounce ≡ self.old.debounce }
+        ensures parked { ParksSame T.eq self.old self.new }
         ensures spare { self.new.spare ≡ self.old.spare }
         ensures stale { self.new.stale ≤ self.old.stale }
         ensures held { held_len self.new ≡ held_len self.old }
@@ -181,6 +211,7 @@ impl<T: Eq + Hash + Drop> Scheduler<T> {
         requires some { 0 < blank.parts }
         ensures stands { (events : List (QueueEvent T)) → Stands T.eq self.old events → Stands T.eq self.new (with_settle events now) }
         ensures debounce { self.new.debounce ≡ self.old.debounce }
+        ensures parked { ParksSame T.eq self.old self.new }
         ensures spare { self.new.spare ≡ self.old.spare }
         ensures stale { self.new.stale ≤ self.old.stale }
         ensures held { held_len self.new ≡ held_len self.old }
@@ -196,6 +227,7 @@ impl<T: Eq + Hash + Drop> Scheduler<T> {
     pub fn settle_counted<L: Ledger>(&mut self, now: Moment, steps: &mut Steps<L>)
         ensures stands { (events : List (QueueEvent T)) → Stands T.eq self.old events → Stands T.eq self.new (with_settle events now) }
         ensures debounce { self.new.debounce ≡ self.old.debounce }
+        ensures parked { ParksSame T.eq self.old self.new }
         ensures spare { self.new.spare ≡ self.old.spare }
         ensures stale { self.new.stale ≤ self.old.stale }
         ensures cost { (events : List (QueueEvent T)) → Stands T.eq self.old events → steps.new + self.new.stale ≤ steps.old + frozen_by T.eq self.old.debounce events now + self.old.stale + 1 }
@@ -204,48 +236,88 @@ impl<T: Eq + Hash + Drop> Scheduler<T> {
         self.times.settle(now, steps);
     }
 
-    /// The first waiting message that passes, which stays: `take_first` then gives it, where the test answers the same.
+    /// Takes the first waiting message that passes: of those with the greatest priority the first that was due. It looks at those
+    /// before it alone.
     ///
-    /// It takes no memory. What a caller needs of the message may be copied before anything is taken.
-    pub fn first<C: Fn(&T) -> bool>(&self, c: C) -> Option<&T>
+    /// What `look` put aside isn't looked at; so it is given none that passes where the caller put such a one aside.
+    pub fn take_first<C: Fn(&T) -> bool>(&mut self, c: C) -> Option<Due<T>>
         requires { C.IsAlwaysCallable c }
-        ensures { (events : List (QueueEvent T)) → Stands T.eq self.now events → IsFirst (FnReturnsAt C.Fn c) (waiting_messages T.eq self.now.debounce events) (option_copied result) }
-    {
-        match self.times.first_passing(&c) {
-            Some(place) => Some(self.times.message_at(place)),
-            None => None,
-        }
-    }
-
-    /// Takes the first waiting message that passes.
-    pub fn take_first<C: Fn(&T) -> bool>(&mut self, c: C) -> Option<T>
-        requires { C.IsAlwaysCallable c }
-        ensures first { (events : List (QueueEvent T)) → Stands T.eq self.old events → IsFirst (FnReturnsAt C.Fn c) (waiting_messages T.eq self.old.debounce events) result }
-        ensures taken { IfSome result (λ m. (events : List (QueueEvent T)) → Stands T.eq self.old events → Stands T.eq self.new (with_take events m)) }
-        ensures none { IfNone result (self.new ≡ self.old) }
+        ensures first { (events : List (QueueEvent T)) → Stands T.eq self.old events → ParkedFail T.eq (FnReturnsAt C.Fn c) self.old
+            → IsFirst (FnReturnsAt C.Fn c) (waiting_messages T.eq self.old.debounce events) (option_map (λ due. due.message) result) }
+        ensures priority { IfSome result (λ due. (events : List (QueueEvent T)) → Stands T.eq self.old events → due.priority ≡ priority T.eq events due.message) }
+        ensures taken { IfSome result (λ due. (events : List (QueueEvent T)) → Stands T.eq self.old events → Stands T.eq self.new (with_take events due.message)) }
+        ensures none { IfNone result ((events : List (QueueEvent T)) → Stands T.eq self.old events → Stands T.eq self.new events) }
         ensures debounce { self.new.debounce ≡ self.old.debounce }
         ensures spare { self.new.spare ≡ self.old.spare }
         ensures stale { self.new.stale ≡ self.old.stale }
+        ensures parked { ParksSame T.eq self.old self.new }
     {
         self.take_passing(&c)
     }
 
     // The same by a closure that is lent.
-    pub(crate) fn take_passing<C: Fn(&T) -> bool>(&mut self, c: &C) -> Option<T>
+    pub(crate) fn take_passing<C: Fn(&T) -> bool>(&mut self, c: &C) -> Option<Due<T>>
         requires { C.IsAlwaysCallable c.now }
-        ensures first { (events : List (QueueEvent T)) → Stands T.eq self.old events → IsFirst (FnReturnsAt C.Fn c.now) (waiting_messages T.eq self.old.debounce events) result }
-        ensures taken { IfSome result (λ m. (events : List (QueueEvent T)) → Stands T.eq self.old events → Stands T.eq self.new (with_take events m)) }
+        ensures first { (events : List (QueueEvent T)) → Stands T.eq self.old events → ParkedFail T.eq (FnReturnsAt C.Fn c.now) self.old
+            → IsFirst (FnReturnsAt C.Fn c.now) (waiting_messages T.eq self.old.debounce events) (option_map (λ due. due.message) result) }
+        ensures priority { IfSome result (λ due. (events : List (QueueEvent T)) → Stands T.eq self.old events → due.priority ≡ priority T.eq events due.message) }
+        ensures taken { IfSome result (λ due. (events : List (QueueEvent T)) → Stands T.eq self.old events → Stands T.eq self.new (with_take events due.message)) }
+        ensures none { IfNone result ((events : List (QueueEvent T)) → Stands T.eq self.old events → Stands T.eq self.new events) }
+        ensures debounce { self.new.debounce ≡ self.old.debounce }
+        ensures spare { self.new.spare ≡ self.old.spare }
+        ensures stale { self.new.stale ≡ self.old.stale }
+        ensures parked { ParksSame T.eq self.old self.new }
+        ensures held { IfSome result (λ due. held_len self.new + 1 ≡ held_len self.old) }
+        ensures passes { IfSome result (λ due. FnReturnsAt C.Fn c.now due.message true) }
+    {
+        self.times.take_passing(c)
+    }
+
+    /// Whether a waiting message passes that isn't put aside. The first such one is the head then, and stays.
+    ///
+    /// Those before it are put aside: no later call looks at them until `let_back` gives them back. They still wait. It takes
+    /// no memory. What a caller needs of the head may be copied before it is taken.
+    pub fn look<C: Fn(&T) -> bool>(&mut self, c: &C) -> bool
+        requires { C.IsAlwaysCallable c.now }
+        ensures found { result ≡ is_some self.new.head }
+        ensures first { (events : List (QueueEvent T)) → Stands T.eq self.new events → IsFirst (passes_unparked T.eq self.new) (waiting_messages T.eq self.new.debounce events) self.new.head }
+        ensures passes { IfSome self.new.head (λ m. FnReturnsAt C.Fn c.now m true) }
+        ensures parked { ParksFailing T.eq (FnReturnsAt C.Fn c.now) self.old self.new }
+        ensures same { self.new ≡ record self.old { parked = self.new.parked; head = self.new.head } }
+    {
+        self.times.look(c)
+    }
+
+    /// The message that the last look found, where nothing has changed since.
+    pub fn head(&self) -> Option<&T>
+        ensures { option_copied result ≡ self.now.head }
+    {
+        self.times.first()
+    }
+
+    /// Takes the head. It takes no memory.
+    pub fn take_head(&mut self) -> Option<Due<T>>
+        ensures head { option_map (λ due. due.message) result ≡ self.old.head }
+        ensures priority { IfSome result (λ due. (events : List (QueueEvent T)) → Stands T.eq self.old events → due.priority ≡ priority T.eq events due.message) }
+        ensures taken { IfSome result (λ due. (events : List (QueueEvent T)) → Stands T.eq self.old events → Stands T.eq self.new (with_take events due.message)) }
         ensures none { IfNone result (self.new ≡ self.old) }
         ensures debounce { self.new.debounce ≡ self.old.debounce }
         ensures spare { self.new.spare ≡ self.old.spare }
         ensures stale { self.new.stale ≡ self.old.stale }
-        ensures held { IfSome result (λ m. held_len self.new + 1 ≡ held_len self.old) }
-        ensures passes { IfSome result (λ m. FnReturnsAt C.Fn c.now m true) }
+        ensures parked { ParksSame T.eq self.old self.new }
     {
-        match self.times.first_passing(c) {
-            Some(place) => Some(self.times.take(place)),
-            None => None,
-        }
+        self.times.take_first()
+    }
+
+    /// Lets an equal message that was put aside be looked at again, in its place. It takes no memory.
+    pub fn let_back(&mut self, message: &T)
+        ensures stands { (events : List (QueueEvent T)) → Stands T.eq self.old events → Stands T.eq self.new events }
+        ensures parked { (m : T) → is_parked T.eq self.new m ≡ (is_parked T.eq self.old m && not (T.eq message.now m)) }
+        ensures debounce { self.new.debounce ≡ self.old.debounce }
+        ensures spare { self.new.spare ≡ self.old.spare }
+        ensures stale { self.new.stale ≡ self.old.stale }
+    {
+        self.times.let_back(message);
     }
 
     // Drops all messages.
@@ -253,6 +325,7 @@ impl<T: Eq + Hash + Drop> Scheduler<T> {
         ensures stands { Stands T.eq self.new [] }
         ensures debounce { self.new.debounce ≡ self.old.debounce }
         ensures held { held_len self.new ≡ 0 }
+        ensures parked { NoneParked T.eq self.new }
     {
         self.times.clear();
     }

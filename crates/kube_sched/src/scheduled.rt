@@ -2,11 +2,13 @@
 
 ghost use Rattle.std.specs.Prelude.{◌≡◌, ◌+◌, ◌≤◌, ◌<◌, List, true, false, IfOk, OnErr, IsErr};
 ghost use Rattle.std.specs.Fn.{FnReturnsAt};
+ghost use Rattle.std.specs.Option.{option_map};
 ghost use Rattle.kube_model.specs.Queue.{QueueEvent, entry};
 ghost use Rattle.kube_model.specs.WaitingOnce.{is_frozen};
 ghost use Rattle.kube_sched.specs.Polls.{IsOpened, given as answer_of};
 
 use crate::asks::{Ending, take_requests};
+use crate::held::Due;
 use crate::requests::Requests;
 use crate::schedule::Scheduler;
 use kube_meta::{Moment, Next, NoMemory};
@@ -29,10 +31,13 @@ pub struct Scheduled<T: Eq + Hash, R> {
 
 impl<T: Eq + Hash, R> Model for Scheduled<T, R> {
     ghost use Rattle.kube_sched.specs.Polls.{Stream};
+    ghost use Rattle.kube_sched.specs.Schedule.{NoneParked};
 
     ghost Value = { Stream T R };
 
     ghost view = { λ s. record { schedule = s.scheduler; requests = s.requests; is_over = s.is_over; is_spent = s.is_spent } };
+
+    ghost invariant = { λ s. NoneParked T.eq s.scheduler };
 }
 
 /// A scheduler over a stream of requests, without debounce.
@@ -59,11 +64,11 @@ pub fn debounced_scheduler<T: Eq + Hash + Drop, R: Requests<T>>(
 }
 
 /// The answer with what was taken.
-fn given<T>(first: Option<T>) -> Next<T>
-    ensures { result ≡ answer_of first }
+fn given<T>(first: Option<Due<T>>) -> Next<T>
+    ensures { result ≡ answer_of (option_map (λ due. due.message) first) }
 {
     match first {
-        Some(message) => Next::Item(message),
+        Some(due) => Next::Item(due.message),
         None => Next::NotReady,
     }
 }

@@ -251,6 +251,7 @@ pub record Source : Type 0 where
   pub watcher : Settings
   pub lists : List (RawAnswer ObjectData)
   pub watches : List (List (Step ObjectData))
+  pub priority : ℕ  -- of what it requests
 
 unfoldable pub source_at : Data → Result Source ObjectFault
 source_at d = do
@@ -258,7 +259,8 @@ source_at d = do
   watcher ← default_field (codes "watcher") watcher_at default_settings d
   lists ← list_field (codes "lists") page_at d
   watches ← list_field (codes "watches") watch_at d
-  Ok (record { watcher = watcher; lists = lists; watches = watches })
+  priority ← default_field (codes "priority") small_at 0 d
+  Ok (record { watcher = watcher; lists = lists; watches = watches; priority = priority })
 
 pub data Mapped : Type 0 where
   ByOwners : Mapped
@@ -303,6 +305,17 @@ ref_at d = do
   namespace ← maybe_field (codes "namespace") text_at d
   Ok (record { name = name; namespace = namespace })
 
+-- a reference with the priority of the request for it
+pub record NamedRef : Type 0 where
+  pub reference : Ref
+  pub priority : ℕ
+
+unfoldable pub named_at : Data → Result NamedRef ObjectFault
+named_at d = do
+  reference ← ref_at d
+  priority ← default_field (codes "priority") small_at 0 d
+  Ok (record { reference = reference; priority = priority })
+
 -- a reconcile that ended: with the nanoseconds of a requeue or none, or with the text of a fault
 pub record Finish : Type 0 where
   pub reference : Ref
@@ -335,7 +348,7 @@ pub record Turn : Type 0 where
   pub budget : List ℕ
   pub finishes : List Finish
   pub reload : Bool
-  pub on : List Ref
+  pub on : List NamedRef
   pub shutdown : Shutdown
   pub show : Bool
 
@@ -346,7 +359,7 @@ turn_at d = do
   budget ← list_field (codes "budget") small_at d
   finishes ← list_field (codes "finishes") finish_at d
   reload ← default_field (codes "reload") flag_at false d
-  on ← list_field (codes "on") ref_at d
+  on ← list_field (codes "on") named_at d
   shutdown ← default_field (codes "shutdown") shutdown_at shutdowns.No d
   show ← default_field (codes "show") flag_at false d
   Ok (record { at = moment; budget = budget; finishes = finishes; reload = reload; on = on; shutdown = shutdown; show = show })

@@ -12,7 +12,7 @@ use Rattle.kube_script.specs.Seen.{seen_backoff, seen_config, seen_watcher}
 use Rattle.kube_script.specs.SeenTurn.{seen_turn}
 
 abbrev pub seen_source : held_source.Source → Source
-seen_source s = record { watcher = seen_watcher s.watcher; lists = map (λ page. list_answer (Ready page)) s.lists.items; watches = map (λ w. w) s.watches.items }
+seen_source s = record { watcher = seen_watcher s.watcher; lists = map (λ page. list_answer (Ready page)) s.lists.items; watches = map (λ w. w) s.watches.items; priority = s.priority }
 
 abbrev pub seen_map : held_map.Mapped → Mapped
 seen_map maps.ByOwners = ByOwners

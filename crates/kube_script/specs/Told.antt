@@ -5,11 +5,15 @@ use Rattle.kube_meta.specs.Reference.{ObjectType, Reference}
 use Rattle.kube_model.specs.History as told
 use Rattle.kube_model.specs.History.{Outcome, Succeeded, Failed}
 use Rattle.kube_api.specs.TestScript as api
-use Rattle.kube_script.specs.Script.{Ref, Finish, Turn, Source}
+use Rattle.kube_script.specs.Script.{Ref, NamedRef, Finish, Turn, Source}
 
 -- the reference to an object of this kind
 abbrev pub reference_in : ObjectType → Ref → Reference
 reference_in kind r = record { kind = kind; name = r.name; namespace = r.namespace }
+
+-- the same with the priority of the request for it
+abbrev pub named_in : ObjectType → NamedRef → told.Named
+named_in kind n = record { reference = reference_in kind n.reference; priority = n.priority }
 
 -- a fault's text stands beside: of a finish a history keeps only that it failed
 abbrev pub outcome_in : Result (Option ℕ) (List ℕ) → Outcome
@@ -25,7 +29,7 @@ turn_in kind t = record {
   budget = t.budget;
   finishes = map (finish_in kind) t.finishes;
   reload = t.reload;
-  on = map (reference_in kind) t.on;
+  on = map (named_in kind) t.on;
   shutdown = t.shutdown;
   show = t.show;
 }

@@ -17,4 +17,4 @@ pub use load::LoadError;
 pub use script::{Mapped, Related, Script, Source};
 pub use settings::BackoffRow;
 pub use told::{ScriptFinish, ScriptTurn};
-pub use turn::{FinishRow, Ref, TurnRow};
+pub use turn::{FinishRow, NamedRow, Ref, TurnRow};

@@ -20,12 +20,13 @@ use kube_watch::Config as WatcherConfig;
 use serde_json::Value;
 use std::alloc::Global;
 
-/// What the API of a source answers, and how it is watched.
+/// What the API of a source answers, how it is watched, and the priority of what it requests.
 #[derive(Drop)]
 pub struct Source {
     pub watcher: WatcherConfig,
     pub lists: Vec<Listed>,
     pub watches: Vec<Sequence<ScriptObject>>,
+    pub priority: u32,
 }
 
 impl OwnedRow for Source {
@@ -39,13 +40,18 @@ impl OwnedRow for Source {
     fn read(alloc: Global, value: Value) -> Result<Source, ObjectFault> {
         is_object(alloc, &value)?;
         let watcher = default_member(alloc, &value, "watcher", WatcherConfig::default())?;
+
+        // The lists and watches are moved out after it, but a fault of theirs comes first.
+        let priority = default_member(alloc, &value, "priority", 0);
         let (lists, watches) = two_members(value, "lists", "watches");
         let lists = list_out(alloc, lists, "lists")?;
         let watches = list_out(alloc, watches, "watches")?;
+        let priority = priority?;
         Ok(Source {
             watcher,
             lists,
             watches,
+            priority,
         })
     }
 }

@@ -4,17 +4,18 @@ ghost use Rattle.std.specs.Prelude.{◌≡◌, IfOk, List, Option, Result, ℕ, 
 ghost use Rattle.kube_meta.specs.Keys.{reference_of};
 ghost use Rattle.kube_object.specs.Named.{named_type};
 ghost use Rattle.kube_turn.specs.Records.{finish_of, turn_of, turns_of};
+ghost use Rattle.kube_turn.specs.Views.{named_of};
 ghost use Rattle.kube_watch.specs.Configs.{settings_of};
 ghost use Rattle.kube_script.specs.SeenScript.{seen_source};
-ghost use Rattle.kube_script.specs.SeenTurn.{seen_ref, seen_finish, seen_turn};
-ghost use Rattle.kube_script.specs.Told.{reference_in, finish_in, turn_in, fault_text, faults_in, api_at_first};
+ghost use Rattle.kube_script.specs.SeenTurn.{seen_ref, seen_named, seen_finish, seen_turn};
+ghost use Rattle.kube_script.specs.Told.{reference_in, named_in, finish_in, turn_in, fault_text, faults_in, api_at_first};
 
 use crate::script::Source;
-use crate::turn::{FinishRow, Ref, TurnRow};
+use crate::turn::{FinishRow, NamedRow, Ref, TurnRow};
 use kube_api::TestMode;
 use kube_meta::{Action, ApiResource, Extra, List, Moment, NoMemory, ObjectRef, Text};
 use kube_object::ScriptObject;
-use kube_turn::{Finish, Turn};
+use kube_turn::{Finish, Named, Turn};
 use kube_watch::Config as WatcherConfig;
 use std::alloc::Global;
 use std::sync::Arc;
@@ -56,19 +57,37 @@ pub fn script_reference(
     })
 }
 
-/// The references to objects of this kind, in order.
-fn references(
+/// The reference to an object of this kind, with the priority of the request for it.
+fn named(
     alloc: Global,
     kind: &Arc<ApiResource>,
-    rows: Vec<Ref>,
-) -> Result<List<ObjectRef<ScriptObject>>, NoMemory>
-    ensures { IfOk result (λ rs. map (reference_of named_type) rs ≡ map (reference_in (named_type kind.now)) (map seen_ref rows.items)) }
+    row: NamedRow,
+) -> Result<Named<ScriptObject>, NoMemory>
+    ensures { IfOk result (λ n. named_of named_type n ≡ named_in (named_type kind.now) (seen_named row)) }
 {
-    let mut references = List::new(alloc);
+    let NamedRow {
+        reference,
+        priority,
+    } = row;
+    Ok(Named {
+        reference: script_reference(alloc, kind, reference)?,
+        priority,
+    })
+}
+
+/// The references to objects of this kind with their priorities, in order.
+fn all_named(
+    alloc: Global,
+    kind: &Arc<ApiResource>,
+    rows: Vec<NamedRow>,
+) -> Result<List<Named<ScriptObject>>, NoMemory>
+    ensures { IfOk result (λ ns. map (named_of named_type) ns ≡ map (named_in (named_type kind.now)) (map seen_named rows.items)) }
+{
+    let mut all = List::new(alloc);
     for row in rows {
-        references.push(script_reference(alloc, kind, row)?)?;
+        all.push(named(alloc, kind, row)?)?;
     }
-    Ok(references)
+    Ok(all)
 }
 
 /// The outcome with the action that it names.
@@ -135,7 +154,7 @@ pub fn script_turn(
         show,
     } = row;
     let finishes = finishes(alloc, kind, ended)?;
-    let on = references(alloc, kind, on)?;
+    let on = all_named(alloc, kind, on)?;
     Ok(Turn {
         at: Moment(at),
         budget: List::from(budget),
@@ -177,6 +196,7 @@ impl Source {
             watcher,
             lists,
             watches,
+            priority: _priority,
         } = self;
         (TestMode::new(alloc, lists, watches), watcher)
     }

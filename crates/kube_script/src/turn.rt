@@ -3,8 +3,8 @@
 ghost use Rattle.std.specs.Prelude.{◌≡◌};
 ghost use Rattle.kube_meta.specs.Places.{Gives};
 ghost use Rattle.kube_model.specs.declared.turn.Shutdown.{Shutdown as shutdown_data};
-ghost use Rattle.kube_script.specs.Script.{Ref as ref_record, ref_at, Finish as finish_record, finish_at, outcome_of, shutdown_at, Turn as turn_record, turn_at};
-ghost use Rattle.kube_script.specs.SeenTurn.{seen_ref, seen_finish, seen_outcome, seen_turn};
+ghost use Rattle.kube_script.specs.Script.{Ref as ref_record, ref_at, NamedRef as named_record, named_at, Finish as finish_record, finish_at, outcome_of, shutdown_at, Turn as turn_record, turn_at};
+ghost use Rattle.kube_script.specs.SeenTurn.{seen_ref, seen_named, seen_finish, seen_outcome, seen_turn};
 
 use crate::owned::OwnedRow;
 use crate::row::{Row, default_member, is_object, list_member, maybe_member, member};
@@ -33,6 +33,31 @@ impl Row for Ref {
         let name = member(alloc, value, "name")?;
         let namespace = maybe_member(alloc, value, "namespace")?;
         Ok(Ref { name, namespace })
+    }
+}
+
+/// A reference with the priority of the request for it, which is 0 where none is said.
+#[derive(Debug, Drop)]
+pub struct NamedRow {
+    pub reference: Ref,
+    pub priority: u32,
+}
+
+impl Row for NamedRow {
+    ghost Seen = { named_record };
+
+    ghost seen = { seen_named };
+
+    ghost reads = { named_at };
+
+    #[tactic(auto, unfolding(crate::specs::Script::named_at))]
+    fn read(alloc: Global, value: &Value) -> Result<NamedRow, ObjectFault> {
+        let reference: Ref = Row::read(alloc, value)?;
+        let priority = default_member(alloc, value, "priority", 0)?;
+        Ok(NamedRow {
+            reference,
+            priority,
+        })
     }
 }
 
@@ -99,7 +124,7 @@ pub struct TurnRow {
     pub budget: Vec<u32>,
     pub finishes: Vec<FinishRow>,
     pub reload: bool,
-    pub on: Vec<Ref>,
+    pub on: Vec<NamedRow>,
     pub shutdown: Shutdown,
     pub show: bool,
 }

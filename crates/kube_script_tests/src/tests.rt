@@ -513,6 +513,13 @@ const FAULTS: &str = r#"{^}
 "name":"a","namespace":"b","more":1|
 "name":"a","namespace":1|shape /turns/1/on/0/namespace
 "name":"a","namespace":[]|shape /turns/1/on/0/namespace
+"name":"a","priority":null|
+"name":"a","priority":0|
+"name":"a","priority":4294967295|
+"name":"a","priority":4294967296|shape /turns/1/on/0/priority
+"name":"a","priority":-1|shape /turns/1/on/0/priority
+"name":"a","priority":"1"|shape /turns/1/on/0/priority
+"name":1,"priority":"1"|shape /turns/1/on/0/name
 "name":"a","namespace":true|shape /turns/1/on/0/namespace
 "name":1,"namespace":1|shape /turns/1/on/0/name
 {"kind":{"group":"","version":"v1","kind":"ConfigMap","plural":"configmaps"},"root":{},"turns":[{"at":1,"finishes":[{^}]}]}

@@ -3,14 +3,14 @@ use Rattle.std.proofs.Common.{◌≡◌, ℕ, zero, suc, Bool, true, false, ◌|
 use Rattle.std.proofs.lemmas.List.{map-append}
 use mathlib.Core.List.{IsPrefix}
 use Rattle.kube_meta.specs.declared.metadata.ObjectMeta.{ObjectMeta}
-use Rattle.kube_meta.specs.Reference.{ObjectType, Reference}
+use Rattle.kube_meta.specs.Reference.{ObjectType}
 use Rattle.kube_meta.specs.declared.resource.Resource as resource
-use Rattle.kube_model.specs.World.{World}
-use Rattle.kube_model.specs.History.{Dated, Exchange, Taken, Turn, Step, dated, dated_of, exchanges, exchanges_of, exchanges_with}
+use Rattle.kube_model.specs.World.{World, priority_at, priority_of}
+use Rattle.kube_model.specs.History.{Dated, Exchange, Named, Taken, Turn, Step, dated, dated_of, exchanges, exchanges_of, exchanges_with}
 use Rattle.kube_model.specs.Asks.{next_asked}
 use Rattle.kube_model.specs.Pause.{gave_up}
 use Rattle.kube_model.specs.Shutdowns.{is_shut, asks_shutdown, is_closed}
-use Rattle.kube_model.specs.Named.{RootIsNamed}
+use Rattle.kube_model.specs.Named.{AreNamed, RootIsNamed}
 use Rattle.kube_model.specs.Turns.{next_source}
 use Rattle.kube_model.specs.Traces.{IsNext}
 use Rattle.kube_history.specs.CoreWorld.{CoreWorld, core_world}
@@ -24,7 +24,7 @@ use Rattle.kube_backoff.specs.declared.backoff.Backoff as backoff
 use Rattle.kube_reflect.specs.Cached.{Kept}
 use Rattle.kube_reflect.specs.Exchanged.{IsLeftBy}
 use Rattle.kube_core.specs.Cores.{Parts, StandsFor as CoreStands, with_room}
-use Rattle.kube_asks.specs.Asking.{Asking, AskStands, IsNextAsked, IsPolledAt, IsBrokenAt, IfUnnamed, IsWorldOf, with_asked}
+use Rattle.kube_asks.specs.Asking.{Asking, AskStands, IsNextAsked, IsPolledAt, IsPolledWith, IsPlacePolledWith, IsBrokenAt, IfUnnamed, IsWorldOf, with_asked}
 use Rattle.kube_asks.specs.declared.asks.AskFault.{AskFault}
 use Rattle.kube_asks.specs.declared.asks.AskFault.TheVariants as faults
 use Rattle.kube_asks.specs.declared.root.RootSource as root_source
@@ -35,12 +35,12 @@ use Rattle.kube_step.specs.Controllers.{IsWorldOfAsks, AsksStand}
 use Rattle.kube_step.specs.Turns.{requests_first, AmongTakes, BeforeTakes, IsEndedBy}
 use Rattle.kube_step.proofs.Trails.{next-append, named-append}
 
-requests-none : (O : Type 0) (at : ℕ) (rs : List Reference) → answers_in {O = O} (map (Requested at) rs) ≡ []
+requests-none : (O : Type 0) (at : ℕ) (rs : List Named) → answers_in {O = O} (map (Requested at) rs) ≡ []
 requests-none O at [] = refl
 requests-none O at (r ∷ rs) = requests-none O at rs
 
 -- the requests of a turn that name the first of its references are the first of its requests
-pub requests-front : {O : Type 0} (at : ℕ) (reload : Bool) (rs rest all : List Reference) → all ≡ rs ++ rest → IsPrefix (requests_first {O = O} at reload rs) (requests_first at reload all)
+pub requests-front : {O : Type 0} (at : ℕ) (reload : Bool) (rs rest all : List Named) → all ≡ rs ++ rest → IsPrefix (requests_first {O = O} at reload rs) (requests_first at reload all)
 requests-front at reload rs rest all e = (
   map (Requested at) rest,
   append_assoc (reload_events at reload) (map (Requested at) rs) (map (Requested at) rest) ∙ ap (λ us. reload_events at reload ++ us) (sym (ap (map (Requested at)) e ∙ map-append (Requested at) rs rest)),
@@ -64,6 +64,7 @@ stands-with-room type_of meta world es core n s = record {
     scheduled = record { waits = s.pending.scheduled.waits; comes = s.pending.scheduled.comes };
     seen_as = s.pending.seen_as;
     running = s.pending.running;
+    count = s.pending.count;
     once = s.pending.once;
   };
   initial = s.initial;
@@ -135,12 +136,14 @@ module _ {R S B O D : Type 0} (root : root_source.Ghosts R O D) (related : relat
 
   module _ (xs : List (Exchange O)) (es : List (CoreEvent O)) (a : Asking R S B) (core : Parts O D) (may : MayAsk root related delays object w h t xs es a core) (x : Exchange O) (a' : Asking R S B)
       (asked : IsNextAsked w t.budget (exchanges h) (dated t.at xs) t.at (Some x))
-      (polled : (ds : List (Dated O)) → AllStand root related a.root a.related ds → IsPolledAt root.polls related.polls ds t.at x a.root a.related a'.root a'.related x.source) where
+      (polled : (ds : List (Dated O)) → AllStand root related a.root a.related ds → IsPolledAt (IsPolledWith (priority_at a.priorities 0) root.polls) (IsPlacePolledWith a.priorities related.polls) ds t.at x a.root a.related a'.root a'.related x.source) where
     all-joined : exchanges h ++ dated t.at xs ≡ exchanges_with h t xs
     all-joined = refl
 
-    pub poll-is : IsPolledAt root.polls related.polls (exchanges_with h t xs) t.at x a.root a.related a'.root a'.related x.source
-    poll-is = polled (exchanges_with h t xs) may.asks_stand.sources
+    pub poll-is : IsPolledAt (IsPolledWith (priority_of w 0) root.polls) (IsPlacePolledWith w.priorities related.polls) (exchanges_with h t xs) t.at x a.root a.related a'.root a'.related x.source
+    poll-is =
+        subst (λ ps. IsPolledAt (IsPolledWith (priority_at ps 0) root.polls) (IsPlacePolledWith ps related.polls) (exchanges_with h t xs) t.at x a.root a.related a'.root a'.related x.source) (sym may.world.prioritized)
+        (polled (exchanges_with h t xs) may.asks_stand.sources)
 
     pub next-is : IsNext w h t xs x
     next-is = record { source = source-is w h t xs may.is_open ∙ asked.0; fits = asked.1 }
@@ -148,8 +151,8 @@ module _ {R S B O D : Type 0} (root : root_source.Ghosts R O D) (related : relat
     pub named-is : RootIsNamed w x.source (exchanges_of x.source (exchanges_with h t xs)) x
     named-is = go x.source poll-is
       where
-        go : (s : ℕ) → IsPolledAt root.polls related.polls (exchanges_with h t xs) t.at x a.root a.related a'.root a'.related s → RootIsNamed w s (exchanges_of s (exchanges_with h t xs)) x
-        go zero p = may.names (dated_of 0 (exchanges_with h t xs)) t.at x a.root a'.root p.0
+        go : (s : ℕ) → IsPolledAt (IsPolledWith (priority_of w 0) root.polls) (IsPlacePolledWith w.priorities related.polls) (exchanges_with h t xs) t.at x a.root a.related a'.root a'.related s → RootIsNamed w s (exchanges_of s (exchanges_with h t xs)) x
+        go zero p = subst (λ y. AreNamed w (exchanges_of 0 (exchanges_with h t xs)) y) (sym p.0.1) (may.names (dated_of 0 (exchanges_with h t xs)) t.at p.0.0 a.root a'.root p.0.2)
         go (suc place) p = tt
 
     pub may-be : MayBeAnswered (core_world w) (answers_in es) x
@@ -189,11 +192,12 @@ module _ {R S B O D : Type 0} (root : root_source.Ghosts R O D) (related : relat
     pub left-is : is_some (next_asked w t.budget (exchanges h) (dated t.at xs) at) ≡ true → is_some (next_source w h t xs) ≡ true
     left-is e = ap is_some (source-is w h t xs may.is_open ∙ ap (next_asked w t.budget (exchanges h) (dated t.at xs)) now) ∙ e
 
-    same-world : root.kind a'.root ≡ root.kind a.root → root.feed a'.root ≡ root.feed a.root → related.feeds a'.related ≡ related.feeds a.related → IsWorldOfAsks root related delays object w a'
-    same-world kind feed feeds =
-        subst (λ k. IsWorldOf w k object.meta_of (root.feed a'.root) (related.feeds a'.related) delays.delay delays.delayed delays.restarted) (sym kind)
-        (subst (λ f. IsWorldOf w (root.kind a.root) object.meta_of f (related.feeds a'.related) delays.delay delays.delayed delays.restarted) (sym feed)
-        (subst (λ f. IsWorldOf w (root.kind a.root) object.meta_of (root.feed a.root) f delays.delay delays.delayed delays.restarted) (sym feeds) may.world))
+    same-world : root.kind a'.root ≡ root.kind a.root → root.feed a'.root ≡ root.feed a.root → related.feeds a'.related ≡ related.feeds a.related → a'.priorities ≡ a.priorities → IsWorldOfAsks root related delays object w a'
+    same-world kind feed feeds priorities =
+        subst (λ k. IsWorldOf w k object.meta_of (root.feed a'.root) (related.feeds a'.related) a'.priorities delays.delay delays.delayed delays.restarted) (sym kind)
+        (subst (λ f. IsWorldOf w (root.kind a.root) object.meta_of f (related.feeds a'.related) a'.priorities delays.delay delays.delayed delays.restarted) (sym feed)
+        (subst (λ f. IsWorldOf w (root.kind a.root) object.meta_of (root.feed a.root) f a'.priorities delays.delay delays.delayed delays.restarted) (sym feeds)
+        (subst (λ ps. IsWorldOf w (root.kind a.root) object.meta_of (root.feed a.root) (related.feeds a.related) ps delays.delay delays.delayed delays.restarted) (sym priorities) may.world)))
 
     stand-none : AllStand root related a.root a.related (exchanges_with h t (xs ++ []))
     stand-none = subst (λ ys. AllStand root related a.root a.related (exchanges_with h t ys)) (sym (append-nil xs)) may.asks_stand.sources
@@ -232,8 +236,8 @@ module _ {R S B O D : Type 0} (root : root_source.Ghosts R O D) (related : relat
     given-next faults.Spent lost unnamed only core' stand = absurd (let e : false ≡ true = sym may.unspent ∙ only refl in cc)
 
     module _ (x : Exchange O) (next : IsNextAsked w t.budget (exchanges h) (dated t.at xs) at (Some x) × AskStands w (root.stands a'.root) (related.stands a'.related) (length (related.feeds a.related)) t.budget (exchanges h) (with_asked (dated t.at xs) at (Some x)) a'.kept)
-        (polled : (ds : List (Dated O)) → AllStand root related a.root a.related ds → IsPolledAt root.polls related.polls ds at x a.root a.related a'.root a'.related x.source)
-        (kind : root.kind a'.root ≡ root.kind a.root) (feed : root.feed a'.root ≡ root.feed a.root) (feeds : related.feeds a'.related ≡ related.feeds a.related) where
+        (polled : (ds : List (Dated O)) → AllStand root related a.root a.related ds → IsPolledAt (IsPolledWith (priority_at a.priorities 0) root.polls) (IsPlacePolledWith a.priorities related.polls) ds at x a.root a.related a'.root a'.related x.source)
+        (kind : root.kind a'.root ≡ root.kind a.root) (feed : root.feed a'.root ≡ root.feed a.root) (feeds : related.feeds a'.related ≡ related.feeds a.related) (priorities : a'.priorities ≡ a.priorities) where
       asked-now : IsNextAsked w t.budget (exchanges h) (dated t.at xs) t.at (Some x)
       asked-now = subst (λ n. IsNextAsked w t.budget (exchanges h) (dated t.at xs) n (Some x)) (sym now) next.0
 
@@ -242,15 +246,15 @@ module _ {R S B O D : Type 0} (root : root_source.Ghosts R O D) (related : relat
           subst (λ n. AskStands w (root.stands a'.root) (related.stands a'.related) n t.budget (exchanges h) (with_asked (dated t.at xs) t.at (Some x)) a'.kept) (ap length (sym feeds))
           (subst (λ n. AskStands w (root.stands a'.root) (related.stands a'.related) (length (related.feeds a.related)) t.budget (exchanges h) (with_asked (dated t.at xs) n (Some x)) a'.kept) (sym now) next.1)
 
-      polled-now : (ds : List (Dated O)) → AllStand root related a.root a.related ds → IsPolledAt root.polls related.polls ds t.at x a.root a.related a'.root a'.related x.source
-      polled-now ds s = subst (λ n. IsPolledAt root.polls related.polls ds n x a.root a.related a'.root a'.related x.source) (sym now) (polled ds s)
+      polled-now : (ds : List (Dated O)) → AllStand root related a.root a.related ds → IsPolledAt (IsPolledWith (priority_at a.priorities 0) root.polls) (IsPlacePolledWith a.priorities related.polls) ds t.at x a.root a.related a'.root a'.related x.source
+      polled-now ds s = subst (λ n. IsPolledAt (IsPolledWith (priority_at a.priorities 0) root.polls) (IsPlacePolledWith a.priorities related.polls) ds n x a.root a.related a'.root a'.related x.source) (sym now) (polled ds s)
 
       pub asked-once : (core' : Parts O D) → a'.is_spent ≡ false
           → (CoreStands object.type_of object.meta_of (core_world w) es core → MayBeAnswered (core_world w) (answers_in es) x → CoreStands object.type_of object.meta_of (core_world w) (es ++ Answered at x ∷ []) core')
           → IsOneAsk root related delays object w h t xs es a x a' core'
       asked-once core' unspent stands =
           one-ask xs es a core may x a' asked-now polled-now core'
-          (may-go-on xs es a core may x a' asked-now polled-now core' (same-world kind feed feeds) stand-now unspent
+          (may-go-on xs es a core may x a' asked-now polled-now core' (same-world kind feed feeds priorities) stand-now unspent
           (subst (λ n. CoreStands object.type_of object.meta_of (core_world w) (es ++ Answered n x ∷ []) core') (sym now) (stands may.core_stands (may-be xs es a core may x a' asked-now polled-now))))
 
       -- the exchange was made, and memory was wanting before it was given to what decides
@@ -278,8 +282,8 @@ module _ {R S B O D : Type 0} (root : root_source.Ghosts R O D) (related : relat
     asked = next-append w h t [] xs (x ∷ []) k.asked (one.next, tt);
     each_named = named-append w h t (RootIsNamed w) [] xs (x ∷ []) k.each_named (one.is_named, tt);
     polled =
-        subst (λ ds. ArePolled root.polls related.polls (exchanges h) a.root a.related ds b'.root b'.related) (sym (dated-more t.at xs (x ∷ [])))
-        (polled-append root.polls related.polls (exchanges h) a.root a.related (dated t.at xs) (dated t.at (x ∷ [])) b.root b.related b'.root b'.related k.polled (b'.root, b'.related, one.polled, (refl, refl)));
+        subst (λ ds. ArePolled (IsPolledWith (priority_of w 0) root.polls) (IsPlacePolledWith w.priorities related.polls) (exchanges h) a.root a.related ds b'.root b'.related) (sym (dated-more t.at xs (x ∷ [])))
+        (polled-append (IsPolledWith (priority_of w 0) root.polls) (IsPlacePolledWith w.priorities related.polls) (exchanges h) a.root a.related (dated t.at xs) (dated t.at (x ∷ [])) b.root b.related b'.root b'.related k.polled (b'.root, b'.related, one.polled, (refl, refl)));
     may =
         subst (λ us. MayAsk root related delays object w h t (xs ++ x ∷ []) us b' core'')
         (append_assoc es (map (Answered t.at) xs) (Answered t.at x ∷ []) ∙ ap (λ us. es ++ us) (sym (map-append (Answered t.at) xs (x ∷ [])))) one.may;
@@ -303,9 +307,9 @@ module _ {R S B O D : Type 0} (root : root_source.Ghosts R O D) (related : relat
     reached_root = cut.reached_root;
     reached_related = cut.reached_related;
     polled =
-        subst (λ ds. ArePolled root.polls related.polls ds a.root a.related (dated t.at (xs ++ cut.made)) cut.reached_root cut.reached_related) (sym (append-nil (exchanges h)))
-        (subst (λ ds. ArePolled root.polls related.polls (exchanges h) a.root a.related ds cut.reached_root cut.reached_related) (sym (dated-more t.at xs cut.made))
-        (polled-append root.polls related.polls (exchanges h) a.root a.related (dated t.at xs) (dated t.at cut.made) b.root b.related cut.reached_root cut.reached_related k.polled cut.polled));
+        subst (λ ds. ArePolled (IsPolledWith (priority_of w 0) root.polls) (IsPlacePolledWith w.priorities related.polls) ds a.root a.related (dated t.at (xs ++ cut.made)) cut.reached_root cut.reached_related) (sym (append-nil (exchanges h)))
+        (subst (λ ds. ArePolled (IsPolledWith (priority_of w 0) root.polls) (IsPlacePolledWith w.priorities related.polls) (exchanges h) a.root a.related ds cut.reached_root cut.reached_related) (sym (dated-more t.at xs cut.made))
+        (polled-append (IsPolledWith (priority_of w 0) root.polls) (IsPlacePolledWith w.priorities related.polls) (exchanges h) a.root a.related (dated t.at xs) (dated t.at cut.made) b.root b.related cut.reached_root cut.reached_related k.polled cut.polled));
     stand = cut.stand;
     rest = cut.rest;
   }
@@ -327,7 +331,7 @@ module _ {R S B O D : Type 0} (root : root_source.Ghosts R O D) (related : relat
     each_named = k.each_named;
     reached_root = b.root;
     reached_related = b.related;
-    polled = subst (λ ds. ArePolled root.polls related.polls ds a.root a.related (dated t.at xs) b.root b.related) (sym (append-nil (exchanges h))) k.polled;
+    polled = subst (λ ds. ArePolled (IsPolledWith (priority_of w 0) root.polls) (IsPlacePolledWith w.priorities related.polls) ds a.root a.related (dated t.at xs) b.root b.related) (sym (append-nil (exchanges h))) k.polled;
     stand = k.may.asks_stand.sources;
     rest = NotAsked refl refl;
   }
@@ -374,20 +378,20 @@ module _ {R S B O D : Type 0} (root : root_source.Ghosts R O D) (related : relat
     asked = k.asked;
     each_named = k.each_named;
     polled =
-        subst (λ r. ArePolled root.polls related.polls (exchanges h) a.root a.related (dated t.at xs) r b'.related) (sym same_root)
-        (subst (λ s. ArePolled root.polls related.polls (exchanges h) a.root a.related (dated t.at xs) b.root s) (sym same_related) k.polled);
+        subst (λ r. ArePolled (IsPolledWith (priority_of w 0) root.polls) (IsPlacePolledWith w.priorities related.polls) (exchanges h) a.root a.related (dated t.at xs) r b'.related) (sym same_root)
+        (subst (λ s. ArePolled (IsPolledWith (priority_of w 0) root.polls) (IsPlacePolledWith w.priorities related.polls) (exchanges h) a.root a.related (dated t.at xs) b.root s) (sym same_related) k.polled);
     may = may;
   }
 
   -- what requests before the asks answers nothing
-  none-answered : (at : ℕ) (reload : Bool) (on : List Reference) → answers_in {O = O} (requests_first at reload on) ≡ []
+  none-answered : (at : ℕ) (reload : Bool) (on : List Named) → answers_in {O = O} (requests_first at reload on) ≡ []
   none-answered at reload on = answers-append (reload_events at reload) (map (Requested at) on) ∙ ap₂ (λ a b. a ++ b) (none-reloaded reload) (none-named on)
     where
       none-reloaded : (b : Bool) → answers_in {O = O} (reload_events at b) ≡ []
       none-reloaded true = refl
       none-reloaded false = refl
 
-      none-named : (rs : List Reference) → answers_in {O = O} (map (Requested at) rs) ≡ []
+      none-named : (rs : List Named) → answers_in {O = O} (map (Requested at) rs) ≡ []
       none-named rs = requests-none O at rs
 
   pub may-requested : (es : List (CoreEvent O)) (a : Asking R S B) (core core' : Parts O D) → MayAsk root related delays object w h t [] es a core

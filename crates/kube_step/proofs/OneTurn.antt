@@ -3,7 +3,7 @@ use Rattle.std.proofs.Common.{◌≡◌, ℕ, Bool, true, false, ◌&&◌, ◌||
 use Rattle.std.specs.List.{list_any}
 use Rattle.std.proofs.lemmas.Grind.{flat_map-append}
 use Rattle.kube_meta.specs.declared.resource.Resource as resource
-use Rattle.kube_model.specs.World.{World}
+use Rattle.kube_model.specs.World.{World, priority_of}
 use Rattle.kube_model.specs.Reads.{nothing_read}
 use Rattle.kube_model.specs.History.{Exchange, Turn, TurnRecord, Finished, Taken, Step, dated, exchanges, exchanges_of, exchanges_with}
 use Rattle.kube_model.specs.Pause.{gave_up}
@@ -23,7 +23,7 @@ use Rattle.kube_history.proofs.Calls.{idle-is}
 use Rattle.kube_history.proofs.Segments.{answers-append}
 use Rattle.kube_backoff.specs.declared.backoff.Backoff as backoff
 use Rattle.kube_core.specs.Cores.{Parts, StandsFor as CoreStands}
-use Rattle.kube_asks.specs.Asking.{Asking}
+use Rattle.kube_asks.specs.Asking.{Asking, IsPolledWith, IsPlacePolledWith}
 use Rattle.kube_asks.specs.declared.root.RootSource as root_source
 use Rattle.kube_asks.specs.declared.set.RelatedSet as related_set
 use Rattle.kube_step.specs.Calls.{ArePolled}
@@ -86,7 +86,7 @@ module _ {R S B O D : Type 0} (root : root_source.Ghosts R O D) (related : relat
   -- it is the record that was made
   module _ (xs : List (Exchange O)) (a' : Asking R S B) (core' : Parts O D) (all : List (CoreEvent O)) (shut : Bool) (q : TurnRecord O)
       (is_record : IsRecord w (answered_in fs) h t (unread (made-of xs))) (agrees : Agrees w (h ++ step t (unread (made-of xs)) ∷ []) all)
-      (named : EachIsNamed w (RootIsNamed w) h t [] xs) (polled : ArePolled root.polls related.polls (exchanges h) a.root a.related (dated t.at xs) a'.root a'.related)
+      (named : EachIsNamed w (RootIsNamed w) h t [] xs) (polled : ArePolled (IsPolledWith (priority_of w 0) root.polls) (IsPlacePolledWith w.priorities related.polls) (exchanges h) a.root a.related (dated t.at xs) a'.root a'.related)
       (world : IsWorldOfAsks root related delays object w a') (stands : AsksStand root related delays object w t.budget (exchanges h) (dated t.at xs) a') (unspent : a'.is_spent ≡ false)
       (core_stands : CoreStands object.type_of object.meta_of (core_world w) all core') (shuts : (shut || gave_up w (exchanges_with h t xs)) ≡ ((is_shut h || asks_shutdown t.shutdown) || gave_up w (exchanges_with h t xs)))
       (at : q.at ≡ t.at) (finished : q.finished ≡ fs) (asked : q.exchanges ≡ xs) (stopped : q.stops ≡ stops_of w t.budget (exchanges h) (dated t.at xs) shut)
@@ -143,8 +143,8 @@ module _ {R S B O D : Type 0} (root : root_source.Ghosts R O D) (related : relat
         → IsTaken root related delays object w h t a q a' core'
     open-taken shown ends =
         taken-with xs a' core' all false q open-is.0 open-is.2 gone.asked.each_named
-        (subst (λ r. ArePolled root.polls related.polls (exchanges h) r a.related (dated t.at xs) a'.root a'.related) same_root
-        (subst (λ s. ArePolled root.polls related.polls (exchanges h) a1.root s (dated t.at xs) a'.root a'.related) same_related gone.asked.polled))
+        (subst (λ r. ArePolled (IsPolledWith (priority_of w 0) root.polls) (IsPlacePolledWith w.priorities related.polls) (exchanges h) r a.related (dated t.at xs) a'.root a'.related) same_root
+        (subst (λ s. ArePolled (IsPolledWith (priority_of w 0) root.polls) (IsPlacePolledWith w.priorities related.polls) (exchanges h) a1.root s (dated t.at xs) a'.root a'.related) same_related gone.asked.polled))
         gone.asked.may.world gone.asked.may.asks_stand gone.asked.may.unspent core-now (open-shut w may.settings may.is_watched h t xs o) at finished asked stopped (took ∙ sym open-is.1) shown runs ends
 
   -- a closed one

@@ -1,12 +1,24 @@
 -- Places of references that run, and marks at them.
-use Rattle.std.proofs.Common.{◌≡◌, ◌≢◌, ℕ, zero, suc, ◌+◌, ◌≤◌, ◌<◌, ◌==◌, Bool, true, false, not, ◌||◌, cond, List, [], ◌∷◌, ◌++◌, drop, length, Option, Some, None, is_some, if◌then◌else◌, slice_set, refl, sym, ap, ap₂, ◌∙◌, arith}
+use Rattle.std.proofs.Common.{◌≡◌, ◌≢◌, ℕ, zero, suc, ◌+◌, ◌≤◌, ◌<◌, ◌==◌, Bool, true, false, not, ◌||◌, cond, List, [], ◌∷◌, ◌++◌, drop, length, map, Option, Some, None, is_some, if◌then◌else◌, slice_set, refl, sym, ap, ap₂, ◌∙◌, arith}
 use Rattle.std.specs.List.{position_from, list_any}
+use Rattle.std.specs.Map.{lookup}
+use Rattle.std.specs.Option.{option_map}
+use Rattle.std.specs.Arc.{arc_value}
+use Rattle.std.specs.declared.sync.Arc.{Arc}
+use Rattle.std.specs.declared.alloc.Global.{Global}
 use Rattle.std.proofs.lemmas.Bool.{eq-eqb, eqb-true, ne_eqb, true≢false}
-use Rattle.kube_meta.specs.Reference.{Reference, same_reference}
+use Rattle.kube_meta.specs.Reference.{ObjectType, Reference, same_reference}
+use Rattle.kube_meta.specs.declared.object_ref.ObjectRef.{ObjectRef}
+use Rattle.kube_meta.specs.Keys.{reference_of}
 use Rattle.kube_meta.specs.ReferenceLaws.{same_reference_equiv}
-use Rattle.kube_model.specs.History.{Finish}
+use Rattle.kube_model.specs.History.{Finish, Message}
+use Rattle.kube_model.specs.Queue.{QueueEvent}
 use Rattle.kube_model.specs.Takes.{Running, runs}
 use Rattle.kube_model.specs.Traces.{NotRunning, Twice, refused_finish}
+use Rattle.kube_history.specs.CoreWorld.{CoreWorld}
+use Rattle.kube_core.specs.Pendings.{Parts, Stands, handed_in}
+use Rattle.kube_core.proofs.RunningSteps.{runs-handed}
+use Rattle.kube_turn.specs.Views.{running_of}
 use Rattle.kube_step.specs.Marks.{is_marked}
 
 same-sym : (a b : Reference) → same_reference a b ≡ true → same_reference b a ≡ true
@@ -142,3 +154,27 @@ module _ {O : Type 0} where
     pub named : List Reference
     pub marked : AreMarked rs named marks
     pub left : refused_finish rs [] 0 all ≡ refused_finish rs named n rest
+
+  -- only what runs is looked at
+  pub refused-alike : (us rs : List (Running O)) → ((r : Reference) → runs us r ≡ runs rs r) → (named : List Reference) (n : ℕ) (fs : List Finish) → refused_finish us named n fs ≡ refused_finish rs named n fs
+  refused-alike us rs same named n [] = refl
+  refused-alike us rs same named n (f ∷ fs) =
+      ap₂ (λ a o. if not a then Some (NotRunning n) else if list_any (λ r. same_reference r f.reference) named then Some (Twice n) else o)
+      (same f.reference) (refused-alike us rs same (f.reference ∷ named) (n + 1) fs)
+
+-- What runs, by the references that are kept.
+module _ {K D : Type 0} (type_of : D → ObjectType) where
+  runs-in : (es : List (ObjectRef K D × Arc K Global)) (r : Reference) → runs (map (running_of type_of) es) r ≡ is_some (handed_in type_of es r)
+  runs-in [] r = refl
+  runs-in (e ∷ es) r = go (same_reference (reference_of type_of e.0) r) (same_reference r (reference_of type_of e.0)) (same_reference_equiv.symm (reference_of type_of e.0) r) (runs-in es r)
+    where
+      go : (a b : Bool) → a ≡ b → runs (map (running_of type_of) es) r ≡ is_some (handed_in type_of es r)
+          → (a || runs (map (running_of type_of) es) r) ≡ is_some (option_map arc_value (cond b (Some e.1) (lookup (λ k. same_reference r (reference_of type_of k)) es)))
+      go true true i h = refl
+      go false false i h = h
+      go true false i h = absurd (true≢false i)
+      go false true i h = absurd (true≢false (sym i))
+
+  -- what is kept runs exactly where what it stands for does
+  pub runs-kept : (core : CoreWorld K) (p : Parts K D) (qs : List (QueueEvent Message)) (rs : List (Running K)) → Stands type_of core p qs rs → (r : Reference) → runs (map (running_of type_of) p.running) r ≡ runs rs r
+  runs-kept core p qs rs s r = runs-in p.running r ∙ (ap is_some (sym (s.running r)) ∙ sym (runs-handed rs r))

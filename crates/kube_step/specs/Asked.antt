@@ -1,7 +1,7 @@
 -- Asks of a turn, one after another, each given to what decides. R is the type of a controller's root, S that of its related sources, B that of its backoff's states, O that of objects and D that of their dynamic types.
 use Rattle.std.specs.Prelude.{◌≡◌, ◌⊎◌, ℕ, false, List, [], ◌∷◌, ◌++◌, map, length, Option, Some, None}
 use Rattle.kube_meta.specs.declared.resource.Resource as resource
-use Rattle.kube_model.specs.World.{World, Settings, Watched, feed_of}
+use Rattle.kube_model.specs.World.{World, Settings, Watched, feed_of, priority_of}
 use Rattle.kube_model.specs.History.{Dated, Exchange, Turn, Step, dated, exchanges, exchanges_with, exchanges_of}
 use Rattle.kube_model.specs.Shutdowns.{is_closed}
 use Rattle.kube_model.specs.Named.{AreNamed, RootIsNamed, EachIsNamed}
@@ -18,7 +18,7 @@ use Rattle.kube_reflect.specs.Exchanged.{IsLeftBy}
 use Rattle.kube_core.specs.Cores.{Parts, StandsFor as CoreStands}
 use Rattle.kube_asks.specs.declared.asks.AskFault.{AskFault}
 use Rattle.kube_asks.specs.declared.asks.AskFault.TheVariants as faults
-use Rattle.kube_asks.specs.Asking.{Asking, SourcesStand, IsPolledAt, IsBrokenAt}
+use Rattle.kube_asks.specs.Asking.{Asking, SourcesStand, IsPolledAt, IsPolledWith, IsPlacePolledWith, IsBrokenAt}
 use Rattle.kube_asks.specs.declared.root.RootSource as root_source
 use Rattle.kube_asks.specs.declared.set.RelatedSet as related_set
 use Rattle.kube_step.specs.Calls.{ArePolled}
@@ -64,7 +64,7 @@ module _ {R S O D : Type 0} (root : root_source.Ghosts R O D) (related : related
       pub each_named : EachIsNamed w (RootIsNamed w) h t before made
       pub reached_root : R
       pub reached_related : S
-      pub polled : ArePolled root.polls related.polls (exchanges_with h t before) r s (dated t.at made) reached_root reached_related
+      pub polled : ArePolled (IsPolledWith (priority_of w 0) root.polls) (IsPlacePolledWith w.priorities related.polls) (exchanges_with h t before) r s (dated t.at made) reached_root reached_related
       pub stand : AllStand reached_root reached_related (exchanges_with h t (before ++ made))
       pub rest : Ends (next_source w h t (before ++ made)) t.at reached_root reached_related r' s'
 
@@ -118,7 +118,7 @@ module _ {R S B O D : Type 0} (root : root_source.Ghosts R O D) (related : relat
   pub record IsOneAsk (xs : List (Exchange O)) (es : List (CoreEvent O)) (a : Asking R S B) (x : Exchange O) (a' : Asking R S B) (core' : Parts O D) : Type 0 where
     pub next : IsNext w h t xs x
     pub is_named : RootIsNamed w x.source (exchanges_of x.source (exchanges_with h t xs)) x
-    pub polled : IsPolledAt root.polls related.polls (exchanges_with h t xs) t.at x a.root a.related a'.root a'.related x.source
+    pub polled : IsPolledAt (IsPolledWith (priority_of w 0) root.polls) (IsPlacePolledWith w.priorities related.polls) (exchanges_with h t xs) t.at x a.root a.related a'.root a'.related x.source
     pub may : MayAsk (xs ++ x ∷ []) (es ++ Answered t.at x ∷ []) a' core'
 
   -- or none is left to make
@@ -130,5 +130,5 @@ module _ {R S B O D : Type 0} (root : root_source.Ghosts R O D) (related : relat
   pub record AreAsked (es : List (CoreEvent O)) (a : Asking R S B) (xs : List (Exchange O)) (a' : Asking R S B) (core' : Parts O D) : Type 0 where
     pub asked : EachIsNext w h t [] xs
     pub each_named : EachIsNamed w (RootIsNamed w) h t [] xs
-    pub polled : ArePolled root.polls related.polls (exchanges h) a.root a.related (dated t.at xs) a'.root a'.related
+    pub polled : ArePolled (IsPolledWith (priority_of w 0) root.polls) (IsPlacePolledWith w.priorities related.polls) (exchanges h) a.root a.related (dated t.at xs) a'.root a'.related
     pub may : MayAsk xs (es ++ map (Answered t.at) xs) a' core'

@@ -13,9 +13,9 @@ use Rattle.kube_asks.specs.declared.root.RootSource as root_source
 use Rattle.kube_asks.specs.declared.set.RelatedSet as related_set
 
 module _ {R S B O D : Type 0} (root : root_source.Ghosts R O D) (related : related_set.Ghosts S O D) (delays : backoff.Ghosts B) (object : resource.Ghosts O D) where
-  -- the objects, the sources and the backoff of this world are those of these asks
+  -- the objects, the sources, their priorities and the backoff of this world are those of these asks
   abbrev pub IsWorldOfAsks : World O B → Asking R S B → Type 0
-  IsWorldOfAsks w a = IsWorldOf w (root.kind a.root) object.meta_of (root.feed a.root) (related.feeds a.related) delays.delay delays.delayed delays.restarted
+  IsWorldOfAsks w a = IsWorldOf w (root.kind a.root) object.meta_of (root.feed a.root) (related.feeds a.related) a.priorities delays.delay delays.delayed delays.restarted
 
   -- the asks stand for these exchanges, those before a turn with this budget and those of it
   abbrev pub AsksStand : World O B → List ℕ → List (Dated O) → List (Dated O) → Asking R S B → Type 0

@@ -2,11 +2,11 @@
 use Rattle.std.specs.Prelude.{◌≡◌, ◌⊎◌, ℕ, Bool, true, false, if◌then◌else◌, List, [], ◌∷◌, ◌++◌, map, None}
 use mathlib.Core.List.{IsPrefix}
 use Rattle.kube_meta.specs.declared.action.Action.{Action}
-use Rattle.kube_meta.specs.Reference.{ObjectType, Reference}
+use Rattle.kube_meta.specs.Reference.{ObjectType}
 use Rattle.kube_meta.specs.declared.resource.Resource as resource
-use Rattle.kube_model.specs.World.{World, Settings, Watched, feed_of}
+use Rattle.kube_model.specs.World.{World, Settings, Watched, feed_of, priority_of}
 use Rattle.kube_model.specs.Reads.{nothing_read}
-use Rattle.kube_model.specs.History.{Exchange, Finished, Taken, Turn, TurnRecord, Step, dated, exchanges, exchanges_with}
+use Rattle.kube_model.specs.History.{Exchange, Finished, Named, Taken, Turn, TurnRecord, Step, dated, exchanges, exchanges_with}
 use Rattle.kube_model.specs.Named.{RootIsNamed, EachIsNamed}
 use Rattle.kube_model.specs.Pause.{gave_up}
 use Rattle.kube_model.specs.Shutdowns.{is_closed}
@@ -24,7 +24,7 @@ use Rattle.kube_turn.specs.declared.turn.Turn.{Turn as HeldTurn}
 use Rattle.kube_turn.specs.Records.{turn_of}
 use Rattle.kube_asks.specs.declared.asks.AskFault.{AskFault}
 use Rattle.kube_asks.specs.declared.asks.AskFault.TheVariants as faults
-use Rattle.kube_asks.specs.Asking.{Asking}
+use Rattle.kube_asks.specs.Asking.{Asking, IsPolledWith, IsPlacePolledWith}
 use Rattle.kube_asks.specs.declared.root.RootSource as root_source
 use Rattle.kube_asks.specs.declared.set.RelatedSet as related_set
 use Rattle.kube_step.specs.Asked.{NamesObjects, AreAsked, AreCutOff, AreEndedBy, AreGivenUntil, IsCutEarly, IsLeftAfter, IsLeftOrLost, IsLostNext}
@@ -35,7 +35,7 @@ use Rattle.kube_step.specs.Policies.{answered_in}
 use Rattle.kube_step.specs.Takes.{AreHandedOrLost, taken_so_far}
 
 -- the requests of a turn that come before its asks: a reload, and those that name references
-abbrev pub requests_first : {O : Type 0} → ℕ → Bool → List Reference → List (CoreEvent O)
+abbrev pub requests_first : {O : Type 0} → ℕ → Bool → List Named → List (CoreEvent O)
 requests_first at reload on = reload_events at reload ++ map (Requested at) on
 
 -- finishes of a turn, in a closed one after its shutdown, where that is the first
@@ -64,7 +64,7 @@ module _ {R S B O D : Type 0} (root : root_source.Ghosts R O D) (related : relat
     pub record IsTaken (a : Asking R S B) (r : TurnRecord O) (a' : Asking R S B) (core' : Parts O D) : Type 0 where
       pub recorded : IsRecord w (answered_in r.finished) h t (unread r)
       pub each_named : EachIsNamed w (RootIsNamed w) h t [] r.exchanges
-      pub polled : ArePolled root.polls related.polls (exchanges h) a.root a.related (dated t.at r.exchanges) a'.root a'.related
+      pub polled : ArePolled (IsPolledWith (priority_of w 0) root.polls) (IsPlacePolledWith w.priorities related.polls) (exchanges h) a.root a.related (dated t.at r.exchanges) a'.root a'.related
       pub parts : PartsStand root related delays object w (h ++ step t (unread r) ∷ []) a' core'
 
 -- policy says what the error policy answered of an object and a fault
@@ -106,5 +106,5 @@ module _ {R S O D : Type 0} (root : root_source.Ghosts R O D) (related : related
       InAsks : ts ≡ [] → is_closed w h t ≡ false → (finished : List Finished) → AreFinishedSo object.type_of policy (running h) fs finished
           → HasAskedUntil f (es ++ map (finish_event t.at) finished) r s r' s' core → IsDoneUntil f es ts r s r' s' core
       InTakes : f ≡ faults.NoMemory → is_closed w h t ≡ false → (finished : List Finished) → AreFinishedSo object.type_of policy (running h) fs finished
-          → (xs : List (Exchange O)) → EachIsNext w h t [] xs → next_source w h t xs ≡ None → ArePolled root.polls related.polls (exchanges h) r s (dated t.at xs) r' s'
+          → (xs : List (Exchange O)) → EachIsNext w h t [] xs → next_source w h t xs ≡ None → ArePolled (IsPolledWith (priority_of w 0) root.polls) (IsPlacePolledWith w.priorities related.polls) (exchanges h) r s (dated t.at xs) r' s'
           → (made : List (Taken O)) → AreHandedOrLost ts made → CoreStands object.type_of object.meta_of (core_world w) (es ++ before_takes w h t finished xs ++ taken_so_far t.at made) core → IsDoneUntil f es ts r s r' s' core

@@ -4,7 +4,6 @@ ghost use Rattle.std.specs.Prelude.{◌≡◌, ◌<◌, ◌≤◌, ◌+◌, ◌^
 ghost use mathlib.Core.List.{IsPrefix};
 ghost use Rattle.std.specs.Arc.{arc_value};
 ghost use Rattle.std.specs.List.{AllByRecursion, filter_map};
-ghost use Rattle.kube_meta.specs.Keys.{reference_of};
 ghost use Rattle.kube_model.specs.World.{World};
 ghost use Rattle.kube_model.specs.History.{Exchange, Step, Taken as PlainTaken, Turn as PlainTurn, exchanges_with};
 ghost use Rattle.kube_model.specs.Pause.{gave_up};
@@ -18,7 +17,7 @@ ghost use Rattle.kube_history.specs.Legal.{AreLegal};
 ghost use Rattle.kube_history.specs.TurnEvents.{reload_events, shut_if, takes};
 ghost use Rattle.kube_core.specs.Cores.{HasSameHandles, StandsFor, with_room};
 ghost use Rattle.kube_turn.specs.Records.{record_of, turn_of};
-ghost use Rattle.kube_turn.specs.Views.{exchange_of, shown_objects, taken_of};
+ghost use Rattle.kube_turn.specs.Views.{exchange_of, named_of, shown_objects, taken_of};
 ghost use Rattle.kube_step.specs.Asked.{AreEndedBy, MayAsk};
 ghost use Rattle.kube_step.specs.Errors.{IfUnnamedAsk};
 ghost use Rattle.kube_step.specs.Finishes.{AreFinished};
@@ -33,9 +32,9 @@ use crate::sources::ask_all;
 use crate::takes::take_all;
 use kube_asks::{AskFault, Asks, Backoff, RelatedSet, RootSource};
 use kube_core::Core;
-use kube_meta::{Action, List, Moment, NoMemory, ObjectRef, Resource};
+use kube_meta::{Action, List, Moment, NoMemory, Resource};
 use kube_model::turn::Shutdown;
-use kube_turn::{SourceExchange, Taken, Turn, TurnRecord};
+use kube_turn::{Named, SourceExchange, Taken, Turn, TurnRecord};
 use std::alloc::Global;
 use std::sync::Arc;
 
@@ -86,25 +85,29 @@ fn reload_where<K: Resource>(
     Ok(())
 }
 
-/// Requests all that is stored, where a reload is asked for, and then these references.
+/// Requests all that is stored, where a reload is asked for, and then these references with their priorities.
 fn request_first<K: Resource>(
     core: &mut Core<K>,
     alloc: Global,
     reload: bool,
-    on: List<ObjectRef<K>>,
+    on: List<Named<K>>,
     at: Moment,
 ) -> Result<(), NoMemory>
     requires { core.old.clock.0 ≤ at.0 }
     ensures stands { OnOk result ((world : CoreWorld K) (es : List (CoreEvent K)) → StandsFor K.type_of K.meta_of world es core.old
-        → StandsFor K.type_of K.meta_of world (es ++ requests_first at.0 reload (map (reference_of K.type_of) on)) core.new) }
+        → StandsFor K.type_of K.meta_of world (es ++ requests_first at.0 reload (map (named_of K.type_of) on)) core.new) }
     ensures clock { OnOk result (core.new.clock.0 ≤ at.0) }
     ensures writer { core.new.writer ≡ core.old.writer }
-    ensures left { OnErr result ((made : List (CoreEvent K)) × IsPrefix made (requests_first at.0 reload (map (reference_of K.type_of) on))
+    ensures left { OnErr result ((made : List (CoreEvent K)) × IsPrefix made (requests_first at.0 reload (map (named_of K.type_of) on))
         × ((world : CoreWorld K) (es : List (CoreEvent K)) → StandsFor K.type_of K.meta_of world es core.old → StandsFor K.type_of K.meta_of world (es ++ made) core.new)) }
 {
     reload_where(core, alloc, reload, at)?;
-    for reference in Vec::from(on) {
-        core.request(alloc, reference, at)?;
+    for named in Vec::from(on) {
+        let Named {
+            reference,
+            priority,
+        } = named;
+        core.request(alloc, reference, priority, at)?;
     }
     Ok(())
 }
@@ -135,7 +138,7 @@ fn ask_where<R: RootSource, S: RelatedSet<R::Object>, B: Backoff>(
     core: &mut Core<R::Object>,
     alloc: Global,
     reload: bool,
-    on: List<ObjectRef<R::Object>>,
+    on: List<Named<R::Object>>,
     at: Moment,
 ) -> Result<List<SourceExchange<R::Object>>, AskFault>
     requires few { length (S.feeds asks.old.related) + 1 < 2 ^ 32 }
@@ -148,13 +151,13 @@ fn ask_where<R: RootSource, S: RelatedSet<R::Object>, B: Backoff>(
     ensures clock { OnOk result (core.new.clock.0 ≤ at.0) }
     ensures handles { HasSameHandles core.old.writer core.new.writer }
     ensures closed { IfOk result (λ xs. goes_on ≡ false → (xs ≡ []) × (asks.new ≡ asks.old) × (core.new ≡ core.old)) }
-    ensures asked { IfOk result (λ xs. goes_on ≡ true → (w : World R.Object B) (h : List (Step R.Object)) (t : PlainTurn) (es : List (CoreEvent R.Object)) → t.at ≡ at.0 → t.reload ≡ reload → t.on ≡ map (reference_of R.Object.type_of) on
+    ensures asked { IfOk result (λ xs. goes_on ≡ true → (w : World R.Object B) (h : List (Step R.Object)) (t : PlainTurn) (es : List (CoreEvent R.Object)) → t.at ≡ at.0 → t.reload ≡ reload → t.on ≡ map (named_of R.Object.type_of) on
         → MayAsk R.RootSource S.RelatedSet B.Backoff R.Object.Resource w h t [] es asks.old core.old
         → HasAsked R.RootSource S.RelatedSet B.Backoff R.Object.Resource w h t es asks.old (map (exchange_of R.Object.type_of) xs) asks.new core.new) }
-    ensures ended { IfErr result (λ f. (goes_on ≡ true) × ((w : World R.Object B) (h : List (Step R.Object)) (t : PlainTurn) (es : List (CoreEvent R.Object)) → t.at ≡ at.0 → t.reload ≡ reload → t.on ≡ map (reference_of R.Object.type_of) on
+    ensures ended { IfErr result (λ f. (goes_on ≡ true) × ((w : World R.Object B) (h : List (Step R.Object)) (t : PlainTurn) (es : List (CoreEvent R.Object)) → t.at ≡ at.0 → t.reload ≡ reload → t.on ≡ map (named_of R.Object.type_of) on
         → MayAsk R.RootSource S.RelatedSet B.Backoff R.Object.Resource w h t [] es asks.old core.old
         → AreEndedBy R.RootSource S.RelatedSet w h t f core.new.writer.kept [] asks.old.root asks.old.related asks.new.root asks.new.related)) }
-    ensures left { IfErr result (λ f. (w : World R.Object B) (h : List (Step R.Object)) (t : PlainTurn) (es : List (CoreEvent R.Object)) → t.at ≡ at.0 → t.reload ≡ reload → t.on ≡ map (reference_of R.Object.type_of) on
+    ensures left { IfErr result (λ f. (w : World R.Object B) (h : List (Step R.Object)) (t : PlainTurn) (es : List (CoreEvent R.Object)) → t.at ≡ at.0 → t.reload ≡ reload → t.on ≡ map (named_of R.Object.type_of) on
         → MayAsk R.RootSource S.RelatedSet B.Backoff R.Object.Resource w h t [] es asks.old core.old
         → HasAskedUntil R.RootSource S.RelatedSet R.Object.Resource w h t f es asks.old.root asks.old.related asks.new.root asks.new.related core.new) }
 {

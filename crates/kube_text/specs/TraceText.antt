@@ -1,5 +1,5 @@
 -- The text of a trace: a line for each record, which is an object in the compact text, with its members by the bytes of their names.
-use Rattle.std.specs.Prelude.{ℕ, ◌+◌, Bool, List, [], ◌∷◌, ◌++◌, Option, Some, None, option_map, is_some, codes}
+use Rattle.std.specs.Prelude.{ℕ, ◌+◌, ◌==◌, Bool, if◌then◌else◌, List, [], ◌∷◌, ◌++◌, Option, Some, None, option_map, is_some, codes}
 use Rattle.serde_json.specs.Data.{Data, boolean, number, unsigned, string, object, Members, no_members, member}
 use Rattle.serde_json.specs.Written.{compact_text}
 use Rattle.kube_meta.specs.Reference.{Reference, shown}
@@ -7,7 +7,7 @@ use Rattle.kube_meta.specs.Reading.{ObjectData}
 use Rattle.kube_meta.specs.Writing.{object_data}
 use Rattle.kube_model.specs.ErrorTexts.{fault_text}
 use Rattle.kube_model.specs.Reason.{Reason, reason_text}
-use Rattle.kube_model.specs.History.{Exchange, Finished, Message, Taken, TurnRecord}
+use Rattle.kube_model.specs.History.{Exchange, Finished, Prioritized, Taken, TurnRecord}
 use Rattle.kube_model.specs.declared.call.Call.{Call}
 use Rattle.kube_model.specs.declared.call.Call.TheVariants as calls
 use Rattle.kube_model.specs.declared.call.Answer.{Answer}
@@ -26,8 +26,8 @@ reference_data r = string (shown r)
 abbrev pub reason_data : Reason → Data
 reason_data r = string (reason_text r)
 
-abbrev pub request_data : Message → Data
-request_data m = reference_data m.reference
+abbrev pub request_data : Prioritized → Data
+request_data q = reference_data q.message.reference
 
 -- ---- calls with their answers
 
@@ -128,13 +128,18 @@ stop_word stops.Paused = codes "paused"
 abbrev pub stop_data : Stop → Data
 stop_data s = string (stop_word s)
 
-abbrev pub taken_with : Reference → Reason → Option ObjectData → Taken ObjectData
-taken_with reference reason handed = record { message = record { reference = reference; reason = reason }; object = handed }
+abbrev pub taken_with : Reference → Reason → ℕ → Option ObjectData → Taken ObjectData
+taken_with reference reason priority handed = record { message = record { reference = reference; reason = reason }; priority = priority; object = handed }
+
+-- a priority, unless it is 0
+abbrev pub unless_zero : ℕ → Option ℕ
+unless_zero priority = if priority == 0 then None else Some priority
 
 unfoldable pub taken_members : Taken ObjectData → Members → Members
 taken_members t rest =
     member (codes "found") (boolean (is_some t.object)) (member_if (codes "object") (option_map object_data t.object)
-    (member (codes "reason") (reason_data t.message.reason) (member (codes "ref") (reference_data t.message.reference) rest)))
+    (member_if (codes "priority") (option_map (λ n. number (unsigned n)) (unless_zero t.priority))
+    (member (codes "reason") (reason_data t.message.reason) (member (codes "ref") (reference_data t.message.reference) rest))))
 
 unfoldable pub taken_data : Taken ObjectData → Data
 taken_data t = object (taken_members t no_members)

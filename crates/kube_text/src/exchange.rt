@@ -3,12 +3,12 @@
 ghost use Rattle.std.specs.Prelude.{◌≡◌, ◌++◌};
 ghost use Rattle.serde_json.specs.Data.{string as string_data};
 ghost use Rattle.kube_model.specs.ErrorTexts.{fault_text as fault_text_of};
-ghost use Rattle.kube_model.specs.History.{Exchange as exchange_record, Message as message_record};
+ghost use Rattle.kube_model.specs.History.{Exchange as exchange_record, Prioritized as prioritized_record};
 ghost use Rattle.kube_meta.specs.Reading.{ObjectData as object_record};
 ghost use Rattle.kube_text.specs.Shown.{ShowsMembers, ShowsFront};
 ghost use Rattle.kube_text.specs.TraceText.{request_data, answer_word as answer_word_of, call_word as call_word_of, error_word as error_word_of, code_members, error_members, from_members, text_members, version_members, exchange_members, exchange_data};
 ghost use Rattle.kube_object.specs.Named.{named_type};
-ghost use Rattle.kube_turn.specs.Views.{exchange_of, message_of};
+ghost use Rattle.kube_turn.specs.Views.{exchange_of, prioritized_of};
 
 use crate::show::{Show, member, text_member};
 use json::Writer;
@@ -19,9 +19,9 @@ use std::alloc::{AllocError, Global};
 
 /// The reference alone.
 impl Show for ReconcileRequest<ScriptObject> {
-    ghost Seen = { message_record };
+    ghost Seen = { prioritized_record };
 
-    ghost seen = { message_of named_type };
+    ghost seen = { prioritized_of named_type };
 
     ghost data_of = { request_data };
 

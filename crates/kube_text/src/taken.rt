@@ -14,14 +14,14 @@ ghost use Rattle.kube_model.specs.ReasonView.{reason_of};
 ghost use Rattle.kube_text.specs.Causes.{Rose};
 ghost use Rattle.kube_text.specs.Pieces.{Adds, BreaksOff, AddsMembers, BreaksOffMembers};
 ghost use Rattle.kube_text.specs.Shown.{ShowsMembers, ShowsFront, tokens_of, or_null, array_of, member_if as data_member_if};
-ghost use Rattle.kube_text.specs.TraceText.{taken_with, taken_members, taken_data};
+ghost use Rattle.kube_text.specs.TraceText.{taken_with, taken_members, taken_data, unless_zero as unless_zero_of};
 ghost use Rattle.kube_object.specs.Named.{named_type};
 ghost use Rattle.kube_text.specs.TraceView.{seen_reference};
 ghost use Rattle.kube_turn.specs.Views.{taken_of};
 
 use crate::failed::Unwritten;
 use crate::pieces::{begin_list, write_item};
-use crate::show::{Show, member};
+use crate::show::{Show, member, member_if};
 use crate::sink::Sink;
 use json::Writer;
 use kube_meta::{List, ObjectRef};
@@ -45,10 +45,13 @@ impl Show for Taken<ScriptObject> {
                 reference,
                 reason,
                 object,
-            } => show_message(alloc, out, reference, reason, Some(object)),
-            Taken::NotFound { reference, reason } => {
-                show_message(alloc, out, reference, reason, None)
-            }
+                priority,
+            } => show_message(alloc, out, reference, reason, *priority, Some(object)),
+            Taken::NotFound {
+                reference,
+                reason,
+                priority,
+            } => show_message(alloc, out, reference, reason, *priority, None),
             Taken::Nothing => out.null(),
         }
     }
@@ -100,21 +103,22 @@ fn is_of_some(taken: &Taken<ScriptObject>) -> bool
     !matches!(taken, Taken::Nothing)
 }
 
-/// A message that was taken, with the object that was handed over, if one was found.
+/// A message that was taken with its priority, and the object that was handed over, if one was found.
 #[tactic(auto, using(crate::proofs::Shown::object_shown), unfolding(crate::specs::TraceText::taken_data))]
 fn show_message(
     alloc: Global,
     out: &mut Writer,
     reference: &ObjectRef<ScriptObject>,
     reason: &ReconcileReason,
+    priority: u32,
     object: Option<&Arc<ScriptObject>>,
 ) -> Result<(), AllocError>
     ensures before { out.new.before ≡ out.old.before }
-    ensures tokens { OnOk result (out.new.tokens ≡ out.old.tokens ++ tokens_of (taken_data (taken_with (seen_reference reference.now) (reason_of reason.now) (option_map (λ o. arc_value o.now) object.entry)))) }
-    ensures front { OnErr result (WritesFront out.old.tokens out.new.tokens (tokens_of (taken_data (taken_with (seen_reference reference.now) (reason_of reason.now) (option_map (λ o. arc_value o.now) object.entry))))) }
+    ensures tokens { OnOk result (out.new.tokens ≡ out.old.tokens ++ tokens_of (taken_data (taken_with (seen_reference reference.now) (reason_of reason.now) priority (option_map (λ o. arc_value o.now) object.entry)))) }
+    ensures front { OnErr result (WritesFront out.old.tokens out.new.tokens (tokens_of (taken_data (taken_with (seen_reference reference.now) (reason_of reason.now) priority (option_map (λ o. arc_value o.now) object.entry))))) }
 {
     out.begin_object()?;
-    show_members(alloc, out, reference, reason, object)?;
+    show_members(alloc, out, reference, reason, priority, object)?;
     out.end_object()?;
     Ok(())
 }
@@ -125,17 +129,26 @@ fn show_members(
     out: &mut Writer,
     reference: &ObjectRef<ScriptObject>,
     reason: &ReconcileReason,
+    priority: u32,
     object: Option<&Arc<ScriptObject>>,
 ) -> Result<(), AllocError>
     ensures before { out.new.before ≡ out.old.before }
-    ensures members { ShowsMembers result out.old out.new (taken_members (taken_with (seen_reference reference.now) (reason_of reason.now) (option_map (λ o. arc_value o.now) object.entry))) }
-    ensures front { ShowsFront result out.old out.new (taken_members (taken_with (seen_reference reference.now) (reason_of reason.now) (option_map (λ o. arc_value o.now) object.entry))) }
+    ensures members { ShowsMembers result out.old out.new (taken_members (taken_with (seen_reference reference.now) (reason_of reason.now) priority (option_map (λ o. arc_value o.now) object.entry))) }
+    ensures front { ShowsFront result out.old out.new (taken_members (taken_with (seen_reference reference.now) (reason_of reason.now) priority (option_map (λ o. arc_value o.now) object.entry))) }
 {
     member(alloc, out, "found", &object.is_some())?;
     show_object(alloc, out, object)?;
+    member_if(alloc, out, "priority", &unless_zero(priority))?;
     member(alloc, out, "reason", reason)?;
     member(alloc, out, "ref", reference)?;
     Ok(())
+}
+
+/// A priority, unless it is 0.
+fn unless_zero(priority: u32) -> Option<u32>
+    ensures { result ≡ unless_zero_of priority }
+{
+    if priority == 0 { None } else { Some(priority) }
 }
 
 fn show_object(

@@ -115,7 +115,7 @@ impl<I: Drop, K: Resource, F: Fn(I) -> Result<Vec<ReconcileRequest<K>>, StreamFa
     }
 }
 
-/// Gives a request for each object itself, since it was updated.
+/// Gives a request for each object itself, since it was updated, with priority 0.
 #[derive(Drop)]
 pub struct Own<K: Resource> {
     pub dyntype: K::DynamicType,
@@ -147,8 +147,12 @@ impl<K: Resource> Adapt<Arc<K>, ReconcileRequest<K>> for Own<K> {
         match told {
             Ok(object) => match key(alloc, &self.dyntype, &*object) {
                 Ok(obj_ref) => {
-                    let reason = ReconcileReason::ObjectUpdated;
-                    Ok(wait(waiting, Ok(ReconcileRequest { obj_ref, reason }))?)
+                    let own = ReconcileRequest {
+                        obj_ref,
+                        reason: ReconcileReason::ObjectUpdated,
+                        priority: 0,
+                    };
+                    Ok(wait(waiting, Ok(own))?)
                 }
                 Err(fault) => Err(fault),
             },
@@ -157,7 +161,7 @@ impl<K: Resource> Adapt<Arc<K>, ReconcileRequest<K>> for Own<K> {
     }
 }
 
-/// Gives a request for each reference that an object is mapped to, for the object's sake.
+/// Gives a request for each reference that an object is mapped to, for the object's sake, with priority 0.
 #[derive(Drop)]
 pub struct Mapped<V: Resource, M> {
     pub mapper: M,

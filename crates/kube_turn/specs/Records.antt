@@ -9,7 +9,7 @@ use Rattle.kube_turn.specs.declared.turn.Finish.{Finish as HeldFinish}
 use Rattle.kube_turn.specs.declared.turn.Turn.{Turn as HeldTurn}
 use Rattle.kube_turn.specs.declared.record.Finished.{Finished as HeldFinished}
 use Rattle.kube_turn.specs.declared.record.TurnRecord.{TurnRecord as HeldRecord}
-use Rattle.kube_turn.specs.Views.{exchange_of, taken_of, shown_objects}
+use Rattle.kube_turn.specs.Views.{named_of, exchange_of, taken_of, shown_objects}
 
 -- a fault is a run's own: a history keeps that there was one
 abbrev pub outcome_of : {E : Type 0} → Result Action E → Outcome
@@ -26,7 +26,7 @@ module _ {K D E : Type 0} (type_of : D → ObjectType) where
     budget = t.budget;
     finishes = map finish_of t.finishes;
     reload = t.reload;
-    on = map (reference_of type_of) t.on;
+    on = map (named_of type_of) t.on;
     shutdown = t.shutdown;
     show = t.show;
   }

@@ -37,8 +37,8 @@ module _ {K D E : Type 0} where
 
 -- the reference that was taken and under which nothing is stored
 abbrev pub not_found : {K D : Type 0} → Taken K D → Option (ObjectRef K D)
-not_found (NotFound reference reason) = Some reference
-not_found (Started reference reason object) = None
+not_found (NotFound reference reason priority) = Some reference
+not_found (Started reference reason object priority) = None
 not_found Nothing = None
 
 module _ {K D E : Type 0} (type_of : D → ObjectType) where

@@ -6,17 +6,25 @@ use Rattle.std.specs.declared.alloc.Global.{Global}
 use Rattle.kube_meta.specs.Reference.{ObjectType, same_reference}
 use Rattle.kube_meta.specs.Keys.{reference_of}
 use Rattle.kube_meta.specs.declared.object_ref.ObjectRef.{ObjectRef}
-use Rattle.kube_model.specs.History.{Exchange, Message, Taken as Take}
+use Rattle.kube_model.specs.History.{Exchange, Message, Named as NamedReference, Prioritized, Taken as Take}
 use Rattle.kube_model.specs.ReasonView.{reason_of}
 use Rattle.kube_model.specs.Takes.{Running}
 use Rattle.kube_turn.specs.declared.exchange.SourceExchange.{SourceExchange}
 use Rattle.kube_turn.specs.declared.request.ReconcileRequest.{ReconcileRequest}
 use Rattle.kube_turn.specs.declared.taken.Taken.{Taken}
+use Rattle.kube_turn.specs.declared.turn.Named.{Named}
 use Rattle.kube_turn.specs.declared.taken.Taken.TheVariants.{Started, NotFound, Nothing}
 
 module _ {K D : Type 0} (type_of : D → ObjectType) where
   abbrev pub message_of : ReconcileRequest K D → Message
   message_of q = record { reference = reference_of type_of q.obj_ref; reason = reason_of q.reason }
+
+  abbrev pub prioritized_of : ReconcileRequest K D → Prioritized
+  prioritized_of q = record { message = message_of q; priority = q.priority }
+
+  -- a reference that a turn names
+  abbrev pub named_of : Named K D → NamedReference
+  named_of n = record { reference = reference_of type_of n.reference; priority = n.priority }
 
   -- whether the references are equal
   abbrev pub same_request : ReconcileRequest K D → ReconcileRequest K D → Bool
@@ -28,16 +36,16 @@ module _ {K D : Type 0} (type_of : D → ObjectType) where
     call = x.call;
     answer = x.answer;
     items = map arc_value x.items;
-    requests = map message_of x.requests;
+    requests = map prioritized_of x.requests;
     error = x.error;
   }
 
   -- what was taken; nothing is no take
   abbrev pub taken_of : Taken K D → Option (Take K)
-  taken_of (Started reference reason object) =
-      Some (record { message = record { reference = reference_of type_of reference; reason = reason_of reason }; object = Some (arc_value object) })
-  taken_of (NotFound reference reason) =
-      Some (record { message = record { reference = reference_of type_of reference; reason = reason_of reason }; object = None })
+  taken_of (Started reference reason object priority) =
+      Some (record { message = record { reference = reference_of type_of reference; reason = reason_of reason }; priority = priority; object = Some (arc_value object) })
+  taken_of (NotFound reference reason priority) =
+      Some (record { message = record { reference = reference_of type_of reference; reason = reason_of reason }; priority = priority; object = None })
   taken_of Nothing = None
 
   -- a reference that runs, with the object that was handed over

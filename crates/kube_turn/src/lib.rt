@@ -21,4 +21,4 @@ pub use kube_model::turn::{Shutdown, Stop};
 pub use record::{Finished, Trace, TurnRecord};
 pub use request::ReconcileRequest;
 pub use taken::Taken;
-pub use turn::{Finish, Turn};
+pub use turn::{Finish, Named, Turn};

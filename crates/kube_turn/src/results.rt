@@ -103,11 +103,13 @@ fn not_found<K: Resource>(taken: Taken<K>) -> Option<ObjectRef<K>>
         Taken::NotFound {
             reference,
             reason: _,
+            priority: _,
         } => Some(reference),
         Taken::Started {
             reference: _,
             reason: _,
             object: _,
+            priority: _,
         } => None,
         Taken::Nothing => None,
     }

@@ -13,11 +13,15 @@ pub enum Taken<K: Resource> {
         reference: ObjectRef<K>,
         reason: ReconcileReason,
         object: Arc<K>,
+        /// The greatest of the requests for it since it was last taken.
+        priority: u32,
     },
     /// Nothing is stored under it.
     NotFound {
         reference: ObjectRef<K>,
         reason: ReconcileReason,
+        /// The greatest of the requests for it since it was last taken.
+        priority: u32,
     },
     /// None could be taken. No record holds this.
     Nothing,

@@ -17,7 +17,7 @@ pub struct Turn<K: Resource, E: Drop> {
     /// Whether every stored object is to be reconciled.
     pub reload: bool,
     /// References that are to be reconciled.
-    pub on: List<ObjectRef<K>>,
+    pub on: List<Named<K>>,
     pub shutdown: Shutdown,
     /// Whether the record shows the store.
     pub show: bool,
@@ -42,6 +42,15 @@ impl<K: Resource, E: Drop> Turn<K, E> {
             show: false,
         }
     }
+}
+
+/// A reference that a turn names, with the priority of the request for it.
+#[derive(Drop)]
+#[derive_where(Debug; K::DynamicType)]
+pub struct Named<K: Resource> {
+    pub reference: ObjectRef<K>,
+    /// The greater one is taken first.
+    pub priority: u32,
 }
 
 /// A reconcile that ended.

@@ -50,15 +50,16 @@ fn requests(rt: &impl Abort, alloc: Global, kind: &Arc<ApiResource>, end: u32) -
     requests
 }
 
-/// A copy for another reason.
+/// A copy for another reason, with another priority.
 fn in_bulk(rt: &impl Abort, alloc: Global, request: &Request) -> Request {
     ReconcileRequest {
         obj_ref: request.obj_ref.copy(alloc).expect(rt, "memory"),
         reason: ReconcileReason::BulkReconcile,
+        priority: 7,
     }
 }
 
-/// How many different requests these and their copies for another reason are.
+/// How many different requests these and their copies for another reason and with another priority are.
 fn count(rt: &impl Abort, alloc: Global, requests: &[Request]) -> usize {
     let mut seen = HashSet::new(alloc);
     for request in requests {
@@ -120,13 +121,18 @@ fn taken(
     let reference = reference(rt, alloc, kind, number);
     let reason = ReconcileReason::Unknown;
     if !is_found {
-        return Taken::NotFound { reference, reason };
+        return Taken::NotFound {
+            reference,
+            reason,
+            priority: number,
+        };
     }
     let object = Arc::new(alloc, DynamicObject::bare(ObjectMeta::empty())).expect(rt, "memory");
     Taken::Started {
         reference,
         reason,
         object,
+        priority: number,
     }
 }
 

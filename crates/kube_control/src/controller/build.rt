@@ -1,6 +1,6 @@
 //! Controllers that have not run yet, and what can be seen of one.
 
-ghost use Rattle.std.specs.Prelude.{◌≡◌, ◌↔◌, ◌⊎◌, ◌-◌, [], List, IfOk, IfSome, IsNone, OnOk, OnErr, Some, None, if◌then◌else◌};
+ghost use Rattle.std.specs.Prelude.{◌≡◌, ◌↔◌, ◌⊎◌, ◌<◌, ◌+◌, ◌-◌, [], List, length, IfOk, IfSome, IsNone, OnOk, OnErr, Some, None, if◌then◌else◌};
 ghost use Rattle.kube_model.specs.World.{World};
 ghost use Rattle.kube_model.specs.History.{Step};
 ghost use Rattle.kube_model.specs.Stored.{store_after};
@@ -9,6 +9,7 @@ ghost use Rattle.kube_backoff.specs.Backoffs.{ResetTimer, Exponential, default_b
 ghost use Rattle.kube_reflect.specs.Exchanged.{all_keyed};
 ghost use Rattle.kube_reflect.specs.Entries.{IsPublished};
 ghost use Rattle.kube_reflect.specs.Writers.{published};
+ghost use Rattle.kube_asks.specs.Asking.{with_priority_of};
 ghost use Rattle.kube_step.specs.Controllers.{IsWorldOfAsks};
 ghost use Rattle.kube_control.specs.Controllers.{StandsFor};
 
@@ -48,6 +49,7 @@ impl<A: ApiMode> Controller<WatchRoot<A>, NoRelated, DefaultBackoff> {
         ensures api { IfOk result (λ c. api_of c.asks.root.watcher ≡ api) }
         ensures config { IfOk result (λ c. config_of c.asks.root.watcher ≡ wc) }
         ensures kind { IfOk result (λ c. c.asks.root.kind ≡ A.Value.type_of t) }
+        ensures priorities { IfOk result (λ c. c.asks.priorities ≡ []) }
         ensures handles { IfOk result (λ c. c.core.writer.readers ≡ 4) }
     {
         let own = t.share(alloc)?;
@@ -83,6 +85,7 @@ where
         ensures api { IfOk result (λ c. api_of c.asks.root.watcher ≡ api) }
         ensures config { IfOk result (λ c. config_of c.asks.root.watcher ≡ wc) }
         ensures kind { IfOk result (λ c. c.asks.root.kind ≡ A.Value.type_of tt) }
+        ensures priorities { IfOk result (λ c. c.asks.priorities ≡ []) }
         ensures handles { IfOk result (λ c. c.core.writer.readers ≡ 4) }
     {
         Controller::new_with(alloc, api, wc, ())
@@ -107,6 +110,31 @@ impl<R: RootSource, S: RelatedSet<R::Object>, B: Backoff> Controller<R, S, B> {
         }
     }
 
+    /// The same, where what a source requests has this priority: the root is 0, related ones follow in the order in which they
+    /// were added. It must not have run yet.
+    ///
+    /// # Errors
+    ///
+    /// `NoMemory` where there is none for the priorities; the controller is dropped.
+    pub fn priority(self, source: u32, priority: u32) -> Result<Controller<R, S, B>, NoMemory>
+        requires { source < length (S.feeds self.asks.related) + 1 }
+        ensures stands { IfOk result (λ c. (first w : World R.Object B) → StandsFor R.RootSource S.RelatedSet B.Backoff R.Object.Resource first [] self
+            → IsWorldOfAsks R.RootSource S.RelatedSet B.Backoff R.Object.Resource w c.asks → w.backoff ≡ first.backoff → w.limit ≡ first.limit → w.debounce ≡ first.debounce
+            → StandsFor R.RootSource S.RelatedSet B.Backoff R.Object.Resource w [] c) }
+        ensures asks { IfOk result (λ c. c.asks ≡ with_priority_of self.asks source priority) }
+        ensures core { IfOk result (λ c. c.core ≡ self.core) }
+    {
+        let mut asks = self.asks;
+        asks.set_priority(source, priority)?;
+        Ok(Controller {
+            asks,
+            core: self.core,
+            last: self.last,
+            ended: self.ended,
+            spent: self.spent,
+        })
+    }
+
     /// The same with another backoff (kube-runtime's `Controller::trigger_backoff`). It must not have run yet.
     pub fn trigger_backoff<B2: Backoff>(self, alloc: Global, b: B2) -> Controller<R, S, B2>
         ensures stands { (first : World R.Object B) (w : World R.Object B2) → StandsFor R.RootSource S.RelatedSet B.Backoff R.Object.Resource first [] self
@@ -114,11 +142,14 @@ impl<R: RootSource, S: RelatedSet<R::Object>, B: Backoff> Controller<R, S, B> {
             → StandsFor R.RootSource S.RelatedSet B2.Backoff R.Object.Resource w [] result }
         ensures root { result.asks.root ≡ self.asks.root }
         ensures related { result.asks.related ≡ self.asks.related }
+        ensures priorities { result.asks.priorities ≡ self.asks.priorities }
         ensures core { result.core ≡ self.core }
     {
-        let (root, related, _backoff) = self.asks.into_sources();
+        let (root, related, _backoff, priorities) = self.asks.into_sources();
+        let mut asks = Asks::new(alloc, root, related, b);
+        asks.set_priorities(priorities);
         Controller {
-            asks: Asks::new(alloc, root, related, b),
+            asks,
             core: self.core,
             last: self.last,
             ended: self.ended,

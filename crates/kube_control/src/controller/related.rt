@@ -31,11 +31,14 @@ impl<R: RootSource, S: RelatedSet<R::Object>, B: Backoff> Controller<R, S, B> {
             → StandsFor R.RootSource ⟦<Beside<S, T> as RelatedSet<R::Object>>⟧ B.Backoff R.Object.Resource w [] result }
         ensures root { result.asks.root ≡ self.asks.root }
         ensures related { result.asks.related ≡ record { first = self.asks.related; rest = set } }
+        ensures priorities { result.asks.priorities ≡ self.asks.priorities }
         ensures core { result.core ≡ self.core }
     {
-        let (root, first, backoff) = self.asks.into_sources();
+        let (root, first, backoff, priorities) = self.asks.into_sources();
+        let mut asks = Asks::new(alloc, root, Beside { first, rest: set }, backoff);
+        asks.set_priorities(priorities);
         Controller {
-            asks: Asks::new(alloc, root, Beside { first, rest: set }, backoff),
+            asks,
             core: self.core,
             last: self.last,
             ended: self.ended,
@@ -56,6 +59,7 @@ impl<R: RootSource, S: RelatedSet<R::Object>, B: Backoff> Controller<R, S, B> {
             → StandsFor R.RootSource ⟦<Beside<S, RelatedList<T>> as RelatedSet<R::Object>>⟧ B.Backoff R.Object.Resource w [] result }
         ensures root { result.asks.root ≡ self.asks.root }
         ensures related { result.asks.related ≡ record { first = self.asks.related; rest = list } }
+        ensures priorities { result.asks.priorities ≡ self.asks.priorities }
         ensures core { result.core ≡ self.core }
     {
         self.beside(alloc, list)
@@ -84,6 +88,7 @@ impl<R: RootSource, S: RelatedSet<R::Object>, B: Backoff> Controller<R, S, B> {
         ensures config { IfOk result (λ c. config_of c.asks.related.rest.0.watcher ≡ wc) }
         ensures kind { IfOk result (λ c. c.asks.related.rest.0.kind ≡ A.Value.type_of t) }
         ensures owners { IfOk result (λ c. R.Object.type_of c.asks.related.rest.0.mapper.dyntype ≡ R.kind self.asks.root) }
+        ensures priorities { IfOk result (λ c. c.asks.priorities ≡ self.asks.priorities) }
         ensures core { IfOk result (λ c. c.core ≡ self.core) }
     {
         let dyntype = self.asks.dyntype().share(alloc)?;
@@ -113,6 +118,7 @@ impl<R: RootSource, S: RelatedSet<R::Object>, B: Backoff> Controller<R, S, B> {
         ensures config { IfOk result (λ c. config_of c.asks.related.rest.0.watcher ≡ wc) }
         ensures kind { IfOk result (λ c. c.asks.related.rest.0.kind ≡ A.Value.type_of tt) }
         ensures owners { IfOk result (λ c. R.Object.type_of c.asks.related.rest.0.mapper.dyntype ≡ R.kind self.asks.root) }
+        ensures priorities { IfOk result (λ c. c.asks.priorities ≡ self.asks.priorities) }
         ensures core { IfOk result (λ c. c.core ≡ self.core) }
     {
         self.owns_with(alloc, api, (), wc)
@@ -140,6 +146,7 @@ impl<R: RootSource, S: RelatedSet<R::Object>, B: Backoff> Controller<R, S, B> {
         ensures config { config_of result.asks.related.rest.0.watcher ≡ wc }
         ensures kind { result.asks.related.rest.0.kind ≡ A.Value.type_of t }
         ensures mapper { result.asks.related.rest.0.mapper ≡ record { function = mapper } }
+        ensures priorities { result.asks.priorities ≡ self.asks.priorities }
         ensures core { result.core ≡ self.core }
     {
         let mapper = ByFunction { function: mapper };
@@ -168,6 +175,7 @@ impl<R: RootSource, S: RelatedSet<R::Object>, B: Backoff> Controller<R, S, B> {
         ensures config { config_of result.asks.related.rest.0.watcher ≡ wc }
         ensures kind { result.asks.related.rest.0.kind ≡ A.Value.type_of tt }
         ensures mapper { result.asks.related.rest.0.mapper ≡ record { function = mapper } }
+        ensures priorities { result.asks.priorities ≡ self.asks.priorities }
         ensures core { result.core ≡ self.core }
     {
         self.watches_with(alloc, api, (), wc, mapper)

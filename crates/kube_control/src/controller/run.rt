@@ -3,7 +3,7 @@
 ghost use Rattle.std.specs.Prelude.{◌≡◌, ◌<◌, ◌+◌, ◌^◌, ◌++◌, [], Err, List, true, false, IfErr, IfOk, IsErrAnd, OnOk, length, map, take};
 ghost use Rattle.std.specs.Arc.{arc_value};
 ghost use Rattle.std.specs.List.{AllByRecursion};
-ghost use Rattle.kube_model.specs.World.{World};
+ghost use Rattle.kube_model.specs.World.{World, priority_of};
 ghost use Rattle.kube_model.specs.History.{Step, exchanges};
 ghost use Rattle.kube_model.specs.Named.{AreNamedTurns, RootIsNamed};
 ghost use Rattle.kube_model.specs.Raw.{grown_by};
@@ -11,6 +11,7 @@ ghost use Rattle.kube_model.specs.Traces.{AreValid, IsRefusedAfter, IsTrace, ste
 ghost use Rattle.kube_history.specs.Running.{EachShutsDown};
 ghost use Rattle.kube_core.specs.Cores.{HasSameHandles};
 ghost use Rattle.kube_turn.specs.Records.{records_of, turns_of};
+ghost use Rattle.kube_asks.specs.Asking.{IsPolledWith, IsPlacePolledWith};
 ghost use Rattle.kube_step.specs.Calls.{ArePolled, dated_in};
 ghost use Rattle.kube_step.specs.HandOvers.{handed_by, taken_by};
 ghost use Rattle.kube_step.specs.Policies.{Answers, answered_by};
@@ -82,7 +83,7 @@ impl<A: ApiMode, S: RelatedSet<A::Value>, B: Backoff> Controller<WatchRoot<A>, S
         // The trace's exchanges are all that the sources were asked, one after another, each at its turn's moment. Where an
         // API tells its talk, it grew by exactly these.
         ensures asked { (w : World A.Value B) (h : List (Step A.Value)) → StandsFor ⟦<WatchRoot<A> as RootSource>⟧ S.RelatedSet B.Backoff A.Value.Resource w h self.old
-            → IfOk result (λ r. ArePolled ⟦<WatchRoot<A> as RootSource>⟧.polls S.polls (exchanges h) self.old.asks.root self.old.asks.related (dated_in (records_of A.Value.type_of r.records)) self.new.asks.root self.new.asks.related) }
+            → IfOk result (λ r. ArePolled (IsPolledWith (priority_of w 0) ⟦<WatchRoot<A> as RootSource>⟧.polls) (IsPlacePolledWith w.priorities S.polls) (exchanges h) self.old.asks.root self.old.asks.related (dated_in (records_of A.Value.type_of r.records)) self.new.asks.root self.new.asks.related) }
 
         // Each turn kept to its budget: a source made at most as many exchanges as that allows, and none after it told that it
         // was not ready; one that lists and watches idled at most once.
@@ -122,7 +123,7 @@ impl<A: ApiMode, S: RelatedSet<A::Value>, B: Backoff> Controller<WatchRoot<A>, S
             → IsRefusedAfter w (answered_by (records_of A.Value.type_of (records_before e))) h (turns_of A.Value.type_of turns.items) (map unread (records_of A.Value.type_of (records_before e))) why
             × IsTrace w (answered_by (records_of A.Value.type_of (records_before e))) h (take turn (turns_of A.Value.type_of turns.items)) (map unread (records_of A.Value.type_of (records_before e)))
             × AreNamedTurns w (RootIsNamed w) h (steps (take turn (turns_of A.Value.type_of turns.items)) (map unread (records_of A.Value.type_of (records_before e))))
-            × ArePolled ⟦<WatchRoot<A> as RootSource>⟧.polls S.polls (exchanges h) self.old.asks.root self.old.asks.related (dated_in (records_of A.Value.type_of (records_before e))) self.new.asks.root self.new.asks.related
+            × ArePolled (IsPolledWith (priority_of w 0) ⟦<WatchRoot<A> as RootSource>⟧.polls) (IsPlacePolledWith w.priorities S.polls) (exchanges h) self.old.asks.root self.old.asks.related (dated_in (records_of A.Value.type_of (records_before e))) self.new.asks.root self.new.asks.related
             × StandsFor ⟦<WatchRoot<A> as RootSource>⟧ S.RelatedSet B.Backoff A.Value.Resource w (h ++ steps (take turn (turns_of A.Value.type_of turns.items)) (map unread (records_of A.Value.type_of (records_before e)))) self.new))) }
 
         // An object without a name came from its source, asked by the next call of the turn after those that were taken. What

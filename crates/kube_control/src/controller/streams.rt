@@ -36,6 +36,7 @@ impl<R: RootSource, S: RelatedSet<R::Object>, B: Backoff> Controller<R, S, B> {
         ensures feeding { IfOk result (λ c. c.asks.related.rest.0.feeding ≡ record { stream = st; standing = Open }) }
         ensures kind { IfOk result (λ c. c.asks.related.rest.0.kind ≡ V.type_of t) }
         ensures owners { IfOk result (λ c. R.Object.type_of c.asks.related.rest.0.mapper.dyntype ≡ R.kind self.asks.root) }
+        ensures priorities { IfOk result (λ c. c.asks.priorities ≡ self.asks.priorities) }
         ensures core { IfOk result (λ c. c.core ≡ self.core) }
     {
         let dyntype = self.asks.dyntype().share(alloc)?;
@@ -61,6 +62,7 @@ impl<R: RootSource, S: RelatedSet<R::Object>, B: Backoff> Controller<R, S, B> {
         ensures feeding { IfOk result (λ c. c.asks.related.rest.0.feeding ≡ record { stream = st; standing = Open }) }
         ensures kind { IfOk result (λ c. c.asks.related.rest.0.kind ≡ V.type_of tt) }
         ensures owners { IfOk result (λ c. R.Object.type_of c.asks.related.rest.0.mapper.dyntype ≡ R.kind self.asks.root) }
+        ensures priorities { IfOk result (λ c. c.asks.priorities ≡ self.asks.priorities) }
         ensures core { IfOk result (λ c. c.core ≡ self.core) }
     {
         self.owns_stream_with(alloc, st, ())
@@ -85,6 +87,7 @@ impl<R: RootSource, S: RelatedSet<R::Object>, B: Backoff> Controller<R, S, B> {
         ensures feeding { IfOk result (λ c. c.asks.related.rest.0.feeding ≡ record { stream = st; standing = Open }) }
         ensures kind { IfOk result (λ c. c.asks.related.rest.0.kind ≡ V.type_of t) }
         ensures owners { IfOk result (λ c. R.Object.type_of c.asks.related.rest.0.mapper.dyntype ≡ R.kind self.asks.root) }
+        ensures priorities { IfOk result (λ c. c.asks.priorities ≡ self.asks.priorities) }
         ensures core { IfOk result (λ c. c.core ≡ self.core) }
     {
         self.owns_stream_with(alloc, st, t)
@@ -108,6 +111,7 @@ impl<R: RootSource, S: RelatedSet<R::Object>, B: Backoff> Controller<R, S, B> {
         ensures feeding { IfOk result (λ c. c.asks.related.rest.0.feeding ≡ record { stream = st; standing = Open }) }
         ensures kind { IfOk result (λ c. c.asks.related.rest.0.kind ≡ V.type_of tt) }
         ensures owners { IfOk result (λ c. R.Object.type_of c.asks.related.rest.0.mapper.dyntype ≡ R.kind self.asks.root) }
+        ensures priorities { IfOk result (λ c. c.asks.priorities ≡ self.asks.priorities) }
         ensures core { IfOk result (λ c. c.core ≡ self.core) }
     {
         self.owns_stream_with(alloc, st, ())
@@ -134,6 +138,7 @@ impl<R: RootSource, S: RelatedSet<R::Object>, B: Backoff> Controller<R, S, B> {
         ensures feeding { result.asks.related.rest.0.feeding ≡ record { stream = st; standing = Open } }
         ensures kind { result.asks.related.rest.0.kind ≡ V.type_of t }
         ensures mapper { result.asks.related.rest.0.mapper ≡ record { function = mapper } }
+        ensures priorities { result.asks.priorities ≡ self.asks.priorities }
         ensures core { result.core ≡ self.core }
     {
         let mapper = ByFunction { function: mapper };
@@ -160,6 +165,7 @@ impl<R: RootSource, S: RelatedSet<R::Object>, B: Backoff> Controller<R, S, B> {
         ensures feeding { result.asks.related.rest.0.feeding ≡ record { stream = st; standing = Open } }
         ensures kind { result.asks.related.rest.0.kind ≡ V.type_of tt }
         ensures mapper { result.asks.related.rest.0.mapper ≡ record { function = mapper } }
+        ensures priorities { result.asks.priorities ≡ self.asks.priorities }
         ensures core { result.core ≡ self.core }
     {
         self.watches_stream_with(alloc, st, mapper, ())
@@ -185,6 +191,7 @@ impl<R: RootSource, S: RelatedSet<R::Object>, B: Backoff> Controller<R, S, B> {
         ensures feeding { result.asks.related.rest.0.feeding ≡ record { stream = st; standing = Open } }
         ensures kind { result.asks.related.rest.0.kind ≡ V.type_of t }
         ensures mapper { result.asks.related.rest.0.mapper ≡ record { function = mapper } }
+        ensures priorities { result.asks.priorities ≡ self.asks.priorities }
         ensures core { result.core ≡ self.core }
     {
         self.watches_stream_with(alloc, st, mapper, t)
@@ -209,6 +216,7 @@ impl<R: RootSource, S: RelatedSet<R::Object>, B: Backoff> Controller<R, S, B> {
         ensures feeding { result.asks.related.rest.0.feeding ≡ record { stream = st; standing = Open } }
         ensures kind { result.asks.related.rest.0.kind ≡ V.type_of tt }
         ensures mapper { result.asks.related.rest.0.mapper ≡ record { function = mapper } }
+        ensures priorities { result.asks.priorities ≡ self.asks.priorities }
         ensures core { result.core ≡ self.core }
     {
         self.watches_stream_with(alloc, st, mapper, ())

@@ -94,6 +94,7 @@ fn update(
     ReconcileRequest {
         obj_ref: reference(rt, alloc, kind, number),
         reason: ReconcileReason::ObjectUpdated,
+        priority: 0,
     }
 }
 
@@ -203,15 +204,27 @@ pub fn settle(core: &mut Tested, nanos: u64) {
     core.settle(now);
 }
 
-/// The name of a taken message with how it was taken, and nothing where none was.
+/// How a message was taken, its name, and its priority where it isn't 0.
+fn told_of(rt: &impl Abort, alloc: Global, how: &str, name: &str, priority: u32) -> String {
+    if priority == 0 {
+        return format!(in alloc; "{how} {name}").expect(rt, "memory");
+    }
+    format!(in alloc; "{how} {name} at {priority}").expect(rt, "memory")
+}
+
+/// What was taken, and nothing where none was.
 fn shown(rt: &impl Abort, alloc: Global, taken: &Taken<DynamicObject>) -> String {
     match taken {
-        Taken::Started { reference, .. } => {
-            format!(in alloc; "started {}", reference.name.as_str()).expect(rt, "memory")
-        }
-        Taken::NotFound { reference, .. } => {
-            format!(in alloc; "not found {}", reference.name.as_str()).expect(rt, "memory")
-        }
+        Taken::Started {
+            reference,
+            priority,
+            ..
+        } => told_of(rt, alloc, "started", reference.name.as_str(), *priority),
+        Taken::NotFound {
+            reference,
+            priority,
+            ..
+        } => told_of(rt, alloc, "not found", reference.name.as_str(), *priority),
         Taken::Nothing => String::from_str(alloc, "nothing").expect(rt, "memory"),
     }
 }
@@ -253,11 +266,19 @@ pub fn runs(rt: &impl Abort, alloc: Global, core: &Tested, kind: &Kind, number: 
     core.running(&reference).is_some()
 }
 
-/// Requests the object of a number at the core's clock.
-pub fn request(rt: &impl Abort, alloc: Global, core: &mut Tested, kind: &Kind, number: u32) {
+/// Requests the object of a number at the core's clock, with a priority.
+pub fn request(
+    rt: &impl Abort,
+    alloc: Global,
+    core: &mut Tested,
+    kind: &Kind,
+    number: u32,
+    priority: u32,
+) {
     let reference = reference(rt, alloc, kind, number);
     let now = core.clock();
-    core.request(alloc, reference, now).expect(rt, "memory");
+    core.request(alloc, reference, priority, now)
+        .expect(rt, "memory");
 }
 
 /// Reloads at the core's clock.

@@ -16,7 +16,8 @@ enum Step {
     Deleted(u32),
     /// A related source requests the objects before a number.
     Related(u32),
-    Request(u32),
+    /// The object of a number is requested with a priority.
+    Request(u32, u32),
     Reload,
     /// Settles so many nanoseconds later.
     Settle(u64),
@@ -46,7 +47,7 @@ fn is_told(rt: &impl Abort, alloc: Global, core: &mut Tested, kind: &Kind, step:
         Step::Opened => answer(rt, alloc, core, opened(rt, alloc)),
         Step::Deleted(number) => answer(rt, alloc, core, deleted(rt, alloc, number)),
         Step::Related(end) => answer(rt, alloc, core, related(rt, alloc, kind, end)),
-        Step::Request(number) => request(rt, alloc, core, kind, number),
+        Step::Request(number, priority) => request(rt, alloc, core, kind, number, priority),
         Step::Reload => reload(rt, alloc, core),
         Step::Settle(nanos) => settle(core, nanos),
         Step::Shut => core.shut(),
@@ -88,7 +89,7 @@ fn check(rt: &impl Abort, alloc: Global, case: &Case) {
     check_steps(rt, alloc, &mut core, &kind, steps);
 }
 
-const CASES: [Case; 8] = [
+const CASES: [Case; 11] = [
     // a list in pages is stored at its last, and requests then
     (
         0,
@@ -182,7 +183,7 @@ const CASES: [Case; 8] = [
     (
         0,
         &[
-            Step::Request(7),
+            Step::Request(7, 0),
             Step::Settle(0),
             Step::Waiting(1),
             Step::Takes("nothing"),
@@ -204,12 +205,72 @@ const CASES: [Case; 8] = [
             Step::IsShut(true),
             Step::Takes("nothing"),
             Step::Opened,
-            Step::Request(0),
+            Step::Request(0, 0),
             Step::Reload,
             Step::Finish(0, Some(0), true),
             Step::Settle(1),
             Step::Waiting(999),
             Step::Running(0),
+            Step::Takes("nothing"),
+        ],
+    ),
+    // of what waits the greatest priority is taken first, and a take ends it
+    (
+        1,
+        &[
+            Step::Page("", "", 0, 4),
+            Step::Settle(0),
+            Step::Takes("started o0"),
+            Step::Request(2, 5),
+            Step::Request(2, 1),
+            Step::Request(3, 2),
+            Step::Takes("nothing"),
+            Step::Finish(0, None, true),
+            Step::Takes("started o2 at 5"),
+            Step::Finish(2, Some(0), true),
+            Step::Settle(0),
+            Step::Takes("started o3 at 2"),
+            Step::Finish(3, None, true),
+            Step::Takes("started o1"),
+            Step::Finish(1, None, true),
+            Step::Takes("started o2"),
+        ],
+    ),
+    // what isn't due is not taken, whatever its priority
+    (
+        1,
+        &[
+            Step::Page("", "", 0, 2),
+            Step::Settle(0),
+            Step::Takes("started o0"),
+            Step::Finish(0, Some(5), true),
+            Step::Request(7, 9),
+            Step::Takes("started o1"),
+            Step::Finish(1, None, true),
+            Step::Settle(0),
+            Step::Takes("not found o7 at 9"),
+            Step::Takes("nothing"),
+            Step::Settle(5),
+            Step::Takes("started o0"),
+        ],
+    ),
+    // what waited for its reference's end stands in its order again
+    (
+        0,
+        &[
+            Step::Page("", "", 0, 1),
+            Step::Settle(0),
+            Step::Takes("started o0"),
+            Step::Request(0, 0),
+            Step::Settle(0),
+            Step::Takes("nothing"),
+            Step::Request(7, 0),
+            Step::Request(8, 1),
+            Step::Settle(0),
+            Step::Takes("not found o8 at 1"),
+            Step::Finish(0, None, true),
+            Step::Takes("started o0"),
+            Step::Takes("not found o7"),
             Step::Takes("nothing"),
         ],
     ),

@@ -161,9 +161,11 @@ impl<R: RootSource, S: RelatedSet<R::Object>, B: Backoff> FedController<R, S, B>
         ensures related { result.asks.related ≡ self.asks.related }
         ensures reader { result.reader ≡ self.reader }
     {
-        let (root, related, _backoff) = self.asks.into_sources();
+        let (root, related, _backoff, priorities) = self.asks.into_sources();
+        let mut asks = Asks::new(alloc, root, related, b);
+        asks.set_priorities(priorities);
         FedController {
-            asks: Asks::new(alloc, root, related, b),
+            asks,
             parts: self.parts,
             last: self.last,
             ended: self.ended,

@@ -34,9 +34,11 @@ impl<R: RootSource, S: RelatedSet<R::Object>, B: Backoff> FedController<R, S, B>
         ensures related { result.asks.related ≡ record { first = self.asks.related; rest = set } }
         ensures reader { result.reader ≡ self.reader }
     {
-        let (root, first, backoff) = self.asks.into_sources();
+        let (root, first, backoff, priorities) = self.asks.into_sources();
+        let mut asks = Asks::new(alloc, root, Beside { first, rest: set }, backoff);
+        asks.set_priorities(priorities);
         FedController {
-            asks: Asks::new(alloc, root, Beside { first, rest: set }, backoff),
+            asks,
             parts: self.parts,
             last: self.last,
             ended: self.ended,

@@ -19,7 +19,7 @@ use std::test::Fail;
 
 /// A record with calls, answers, errors, stops and takes of every kind.
 const EVERY_KIND: &str =
-    r#"{"asks":[{"answer":"page","call":"list","from":null,"items":[{"metadata":{"name":"a","namespace":"n","resourceVersion":"1","uid":"u"}},{"metadata":{}}],"requests":["ConfigMap.v1./a.n"],"source":0,"token":"t","version":null},{"answer":"page","call":"list","from":"t","items":[],"requests":[],"source":0,"token":null,"version":"1"},{"answer":"fault","call":"list","error":"InitialListFailed","from":null,"items":[],"requests":[],"source":0,"text":"gone"},{"answer":"opened","call":"watch","from":"0","initial":true,"items":[],"requests":[],"source":0},{"answer":"fault","call":"watch","error":"WatchStartFailed","from":"1","initial":false,"items":[],"requests":[],"source":0,"text":"lost"},{"answer":"added","call":"next","items":[],"requests":[],"source":0,"version":"2"},{"answer":"modified","call":"next","error":"NoResourceVersion","items":[],"requests":[],"source":0,"version":null},{"answer":"deleted","call":"next","items":[],"requests":[],"source":0,"version":"3"},{"answer":"bookmark","call":"next","ending":true,"items":[],"requests":[],"source":0,"version":""},{"answer":"error","call":"next","code":410,"error":"WatchError","items":[],"requests":[],"source":0},{"answer":"fault","call":"next","error":"WatchFailed","items":[],"requests":[],"source":7,"text":"read"},{"answer":"end","call":"next","items":[],"requests":[],"source":0},{"answer":"not ready","call":"next","items":[],"requests":[],"source":0},{"answer":"idle","call":"next","items":[],"requests":[],"source":0},{"answer":"item","call":"stream","items":[],"requests":[],"source":0},{"answer":"spent","call":"stream","items":[],"requests":[],"source":0}],"at":18446744073709551615,"ended":true,"finished":[{"error":null,"ref":"ConfigMap.v1./a.n","requeue":5},{"error":"bad \"luck\"\n","ref":"ConfigMap.v1./a.n","requeue":null}],"stops":["not ready","shutdown","budget","paused"],"store":[{"metadata":{"name":"a","namespace":"n","resourceVersion":"1","uid":"u"}}],"taken":[{"found":true,"object":{"metadata":{"name":"a","namespace":"n","resourceVersion":"1","uid":"u"}},"reason":"object updated","ref":"ConfigMap.v1./a.n"},{"found":false,"reason":"related object updated: ConfigMap.v1./a.n","ref":"ConfigMap.v1./a.n"},{"found":false,"reason":"because","ref":"ConfigMap.v1./a.n"}],"turn":9}"#;
+    r#"{"asks":[{"answer":"page","call":"list","from":null,"items":[{"metadata":{"name":"a","namespace":"n","resourceVersion":"1","uid":"u"}},{"metadata":{}}],"requests":["ConfigMap.v1./a.n"],"source":0,"token":"t","version":null},{"answer":"page","call":"list","from":"t","items":[],"requests":[],"source":0,"token":null,"version":"1"},{"answer":"fault","call":"list","error":"InitialListFailed","from":null,"items":[],"requests":[],"source":0,"text":"gone"},{"answer":"opened","call":"watch","from":"0","initial":true,"items":[],"requests":[],"source":0},{"answer":"fault","call":"watch","error":"WatchStartFailed","from":"1","initial":false,"items":[],"requests":[],"source":0,"text":"lost"},{"answer":"added","call":"next","items":[],"requests":[],"source":0,"version":"2"},{"answer":"modified","call":"next","error":"NoResourceVersion","items":[],"requests":[],"source":0,"version":null},{"answer":"deleted","call":"next","items":[],"requests":[],"source":0,"version":"3"},{"answer":"bookmark","call":"next","ending":true,"items":[],"requests":[],"source":0,"version":""},{"answer":"error","call":"next","code":410,"error":"WatchError","items":[],"requests":[],"source":0},{"answer":"fault","call":"next","error":"WatchFailed","items":[],"requests":[],"source":7,"text":"read"},{"answer":"end","call":"next","items":[],"requests":[],"source":0},{"answer":"not ready","call":"next","items":[],"requests":[],"source":0},{"answer":"idle","call":"next","items":[],"requests":[],"source":0},{"answer":"item","call":"stream","items":[],"requests":[],"source":0},{"answer":"spent","call":"stream","items":[],"requests":[],"source":0}],"at":18446744073709551615,"ended":true,"finished":[{"error":null,"ref":"ConfigMap.v1./a.n","requeue":5},{"error":"bad \"luck\"\n","ref":"ConfigMap.v1./a.n","requeue":null}],"stops":["not ready","shutdown","budget","paused"],"store":[{"metadata":{"name":"a","namespace":"n","resourceVersion":"1","uid":"u"}}],"taken":[{"found":true,"object":{"metadata":{"name":"a","namespace":"n","resourceVersion":"1","uid":"u"}},"priority":3,"reason":"object updated","ref":"ConfigMap.v1./a.n"},{"found":false,"reason":"related object updated: ConfigMap.v1./a.n","ref":"ConfigMap.v1./a.n"},{"found":false,"priority":4294967295,"reason":"because","ref":"ConfigMap.v1./a.n"}],"turn":9}"#;
 
 /// An object of this metadata's texts.
 fn object(alloc: Global) -> Result<Arc<ScriptObject>, NoMemory> {
@@ -235,12 +235,13 @@ fn items(alloc: Global) -> Result<List<Arc<ScriptObject>>, NoMemory> {
     Ok(items)
 }
 
-/// A request.
+/// A request, whose priority isn't written.
 fn requests(alloc: Global) -> Result<List<ReconcileRequest<ScriptObject>>, NoMemory> {
     let mut requests = List::new(alloc);
     requests.push(ReconcileRequest {
         obj_ref: reference(alloc)?,
         reason: ReconcileReason::ObjectUpdated,
+        priority: 5,
     })?;
     Ok(requests)
 }
@@ -282,12 +283,13 @@ fn finishes(alloc: Global) -> Result<List<Finished<ScriptObject, Text>>, NoMemor
     Ok(finished)
 }
 
-/// A take that was found.
+/// A take that was found, of priority 3.
 fn started(alloc: Global) -> Result<Taken<ScriptObject>, NoMemory> {
     Ok(Taken::Started {
         reference: reference(alloc)?,
         reason: ReconcileReason::ObjectUpdated,
         object: object(alloc)?,
+        priority: 3,
     })
 }
 
@@ -296,7 +298,7 @@ fn erased(alloc: Global) -> Result<Box<ObjectRef<DynamicObject>>, NoMemory> {
     Ok(Box::new(alloc, reference(alloc)?.erase(alloc)?)?)
 }
 
-/// A take that was not found, for a related object or for a reason of its own.
+/// A take that was not found, for a related object with priority 0, or for a reason of its own with the greatest.
 fn not_found(alloc: Global, is_related: bool) -> Result<Taken<ScriptObject>, NoMemory> {
     if is_related {
         return Ok(Taken::NotFound {
@@ -304,6 +306,7 @@ fn not_found(alloc: Global, is_related: bool) -> Result<Taken<ScriptObject>, NoM
             reason: ReconcileReason::RelatedObjectUpdated {
                 obj_ref: erased(alloc)?,
             },
+            priority: 0,
         });
     }
     Ok(Taken::NotFound {
@@ -311,6 +314,7 @@ fn not_found(alloc: Global, is_related: bool) -> Result<Taken<ScriptObject>, NoM
         reason: ReconcileReason::Custom {
             reason: Text::new(alloc, "because")?,
         },
+        priority: u32::MAX,
     })
 }
 

@@ -2,7 +2,7 @@ use Rattle.std.proofs.Common.{◌<◌, length, arith, not, [], map, refl, sym, a
 use Rattle.std.specs.Arc.{arc_value}
 use Rattle.kube_meta.specs.Keys.{is_named}
 use Rattle.kube_watch.specs.Events.{event_map}
-use Rattle.kube_turn.specs.Views.{message_of}
+use Rattle.kube_turn.specs.Views.{prioritized_of}
 use Rattle.kube_watch.specs.Agrees.{objects_of}
 use Rattle.kube_model.specs.Mapping.{IsMappedTo}
 use Rattle.kube_asks.specs.Mapped.{AreParts}
@@ -13,7 +13,7 @@ use Rattle.kube_asks.proofs.mapping.map_all.Goals as goal
 pub loop-event-init : goal.loop-event-init
 loop-event-init g c =
     let R = IsMappedTo (g.V.Resource.type_of c.args.dyntype.now) g.V.Resource.meta_of (g.M.Mapper.answers c.args.mapper.now) in
-    record { mapped = subst (AreParts R [] []) (sym (ap (map (message_of g.K.Resource.type_of)) c.new-requests.ensures)) (parts-none R []); named = refl }
+    record { mapped = subst (AreParts R [] []) (sym (ap (map (prioritized_of g.K.Resource.type_of)) c.new-requests.ensures)) (parts-none R []); named = refl }
 
 pub returns-in-Err-clause-unnamed : goal.returns-in-Err-clause-unnamed
 returns-in-Err-clause-unnamed g c h =

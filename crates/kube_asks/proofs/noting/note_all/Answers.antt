@@ -3,7 +3,7 @@ use Rattle.std.specs.Arc.{arc_value}
 use Rattle.kube_meta.specs.Keys.{is_named}
 use Rattle.kube_watch.specs.Agrees.{objects_of}
 use Rattle.kube_watch.specs.Events.{event_map}
-use Rattle.kube_asks.specs.Noting.{after_event, updated_of}
+use Rattle.kube_asks.specs.Noting.{after_event, request_of}
 use Rattle.kube_asks.proofs.Notes.{fold-more, none-more, any-at}
 use Rattle.kube_asks.proofs.noting.note_all.Goals as goal
 
@@ -20,7 +20,7 @@ loop-event-preserved g c =
     let l : c.loop-event.event-index < length c.args.events.now = omega arith in
     record {
       noted =
-          fold-more (event_map arc_value) objects_of (λ o. not (is_named (meta o))) (after_event (updated_of (type_of c.args.dyntype.now) meta)) _ _ _
+          fold-more (event_map arc_value) objects_of (λ o. not (is_named (meta o))) (after_event (request_of (type_of c.args.dyntype.now) meta)) _ _ _
           c.args.events.now c.loop-event.event-index c.event-item.result l c.event-item.is c.loop-event.invariant.noted c.in-Ok.ensures.noted;
       named = none-more (event_map arc_value) objects_of (λ o. not (is_named (meta o))) c.args.events.now c.loop-event.event-index c.event-item.result l c.event-item.is c.loop-event.invariant.named c.in-Ok.ensures.named;
     }

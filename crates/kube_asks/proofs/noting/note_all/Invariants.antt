@@ -3,7 +3,7 @@ use Rattle.std.specs.List.{fold, flat_map}
 use Rattle.std.specs.Arc.{arc_value}
 use Rattle.kube_watch.specs.Agrees.{objects_of}
 use Rattle.kube_watch.specs.Events.{event_map}
-use Rattle.kube_asks.specs.Noting.{noted_of, after_event, updated_of, any_unnamed}
+use Rattle.kube_asks.specs.Noting.{noted_of, after_event, request_of, any_unnamed}
 use Rattle.kube_asks.proofs.noting.note_all.Given as goal
 
 -- as far as the loop has come
@@ -13,6 +13,6 @@ invariant-loop-event g l =
     let type_of = g.K.Resource.type_of in
     let seen = map (event_map arc_value) (take l.event-index l.events) in
     record {
-      noted : noted_of type_of l.noted ≡ fold (after_event (updated_of (type_of l.dyntype) meta)) (noted_of type_of l.fn.noted) seen;
+      noted : noted_of type_of l.noted ≡ fold (after_event (request_of (type_of l.dyntype) meta)) (noted_of type_of l.fn.noted) seen;
       named : any_unnamed meta (flat_map objects_of seen) ≡ false;
     }

@@ -1,6 +1,6 @@
 use Rattle.std.proofs.Common.{◌≡◌, ◌∷◌, length, ap, arith, rules, subst}
 use Rattle.kube_model.specs.Requests.{requested_at}
-use Rattle.kube_turn.specs.Views.{message_of}
+use Rattle.kube_turn.specs.Views.{prioritized_of}
 use Rattle.kube_core.proofs.Requesting.{timed, none-requested, one-requested, all-requested, AreRequested, empty}
 use Rattle.kube_core.proofs.requests.request_each.Goals as goal
 
@@ -28,7 +28,7 @@ loop-request-preserved g c =
       room = omega (arith, fewer, same, room, places);
       stands = λ core qs rs s.
           one-requested type_of core c.loop-request.pending c.request_again.new.self qs rs at
-          (requested_at at (message_of type_of c.in-Some.request)) (timed type_of at c.loop-request.request-iterator.rest.items) (timed type_of at c.next.new.self.rest.items)
+          (requested_at at (prioritized_of type_of c.in-Some.request)) (timed type_of at c.loop-request.request-iterator.rest.items) (timed type_of at c.next.new.self.rest.items)
           (timed type_of at c.into_iter-request-iterator.result.rest.items)
           (λ es z. c.request_again.ensures.stands core es rs z) (ap (timed type_of at) one) (c.loop-request.invariant.stands core qs rs s);
     }

@@ -1,11 +1,12 @@
 use Rattle.std.proofs.Common.{List, IfSome, length, sym, ap, subst}
 use Rattle.std.proofs.lemmas.Result.{err_from_is_err_and}
 use Rattle.std.specs.Option.{option_map}
+use Rattle.kube_model.specs.World.{priority_at}
 use Rattle.kube_model.specs.History.{Dated, dated, exchanges}
 use Rattle.kube_model.specs.Turns.{running_in}
 use Rattle.kube_history.specs.CoreWorld.{core_world}
 use Rattle.kube_turn.specs.Views.{exchange_of}
-use Rattle.kube_asks.specs.Asking.{Asking, AskStands, IsNextAsked, IsPolledAt, SourcesStand, with_asked}
+use Rattle.kube_asks.specs.Asking.{Asking, AskStands, IsNextAsked, IsPolledAt, IsPolledWith, IsPlacePolledWith, SourcesStand, with_asked}
 use Rattle.kube_feed.specs.Asked.{MayAsk, IsOneAsk}
 use Rattle.kube_feed.proofs.Asking.{none-is, asked-once, ended-after, ended-next}
 use Rattle.kube_feed.proofs.sources.ask_one.Goals as goal
@@ -26,10 +27,10 @@ returns-clause-asked g c w h t qs xs at may =
     let e = c.in_ok-exchange.ensures in
     let f = exchange_of g.R.Object.Resource.type_of in
     let next = subst (λ o. IsNextAsked w t.budget (exchanges h) (dated t.at xs) c.args.now.0 (option_map f o) × AskStands w (g.R.RootSource.stands c.next.new.self.root) (g.S.RelatedSet.stands c.next.new.self.related) (length (g.S.RelatedSet.feeds c.args.asks.now.related)) t.budget (exchanges h) (with_asked (dated t.at xs) c.args.now.0 (option_map f o)) c.next.new.self.kept) c.in-Some.is (e.next w t.budget (exchanges h) (dated t.at xs) may.world may.asks_stand) in
-    let polled = subst (λ o. IfSome o (λ x. (ds : List (Dated _)) → SourcesStand (g.R.RootSource.stands c.args.asks.now.root) (g.S.RelatedSet.stands c.args.asks.now.related) (length (g.S.RelatedSet.feeds c.args.asks.now.related)) ds → IsPolledAt g.R.RootSource.polls g.S.RelatedSet.polls ds c.args.now.0 (f x) c.args.asks.now.root c.args.asks.now.related c.next.new.self.root c.next.new.self.related x.source)) c.in-Some.is e.polled in
+    let polled = subst (λ o. IfSome o (λ x. (ds : List (Dated _)) → SourcesStand (g.R.RootSource.stands c.args.asks.now.root) (g.S.RelatedSet.stands c.args.asks.now.related) (length (g.S.RelatedSet.feeds c.args.asks.now.related)) ds → IsPolledAt (IsPolledWith (priority_at c.args.asks.now.priorities 0) g.R.RootSource.polls) (IsPlacePolledWith c.args.asks.now.priorities g.S.RelatedSet.polls) ds c.args.now.0 (f x) c.args.asks.now.root c.args.asks.now.related c.next.new.self.root c.next.new.self.related x.source)) c.in-Some.is e.polled in
     subst (λ x. IsOneAsk g.R.RootSource g.S.RelatedSet g.B.Backoff g.R.Object.Resource w h t qs xs c.args.asks.now (f x) c.next.new.self c.give.new.pending) (sym c.in_ok-exchange-2.ensures.same)
     (asked-once g.R.RootSource g.S.RelatedSet g.B.Backoff g.R.Object.Resource w h t qs xs c.args.asks.now c.args.pending.now may c.next.new.self c.args.now.0 at (f c.in-Some.exchange)
-    next polled e.kind e.feed e.feeds c.give.new.pending e.unspent (λ es s. c.in_ok-exchange-2.ensures.stands (core_world w) es (running_in w h t) s))
+    next polled e.kind e.feed e.feeds e.priorities c.give.new.pending e.unspent (λ es s. c.in_ok-exchange-2.ensures.stands (core_world w) es (running_in w h t) s))
 
 pub returns-in_err-exchange-clause-ended : goal.returns-in_err-exchange-clause-ended
 returns-in_err-exchange-clause-ended g c =
@@ -44,6 +45,6 @@ returns-in_err-exchange-2-clause-ended g c =
     let p = err_from_is_err_and c.from_residual-in_err-exchange-2.result c.from_residual-in_err-exchange-2.ensures.1 in
     rw (p.1, p.2) (λ w h t qs xs at may.
     let next = subst (λ o. IsNextAsked w t.budget (exchanges h) (dated t.at xs) c.args.now.0 (option_map f o) × AskStands w (g.R.RootSource.stands c.next.new.self.root) (g.S.RelatedSet.stands c.next.new.self.related) (length (g.S.RelatedSet.feeds c.args.asks.now.related)) t.budget (exchanges h) (with_asked (dated t.at xs) c.args.now.0 (option_map f o)) c.next.new.self.kept) c.in-Some.is (e.next w t.budget (exchanges h) (dated t.at xs) may.world may.asks_stand) in
-    let polled = subst (λ o. IfSome o (λ x. (ds : List (Dated _)) → SourcesStand (g.R.RootSource.stands c.args.asks.now.root) (g.S.RelatedSet.stands c.args.asks.now.related) (length (g.S.RelatedSet.feeds c.args.asks.now.related)) ds → IsPolledAt g.R.RootSource.polls g.S.RelatedSet.polls ds c.args.now.0 (f x) c.args.asks.now.root c.args.asks.now.related c.next.new.self.root c.next.new.self.related x.source)) c.in-Some.is e.polled in
+    let polled = subst (λ o. IfSome o (λ x. (ds : List (Dated _)) → SourcesStand (g.R.RootSource.stands c.args.asks.now.root) (g.S.RelatedSet.stands c.args.asks.now.related) (length (g.S.RelatedSet.feeds c.args.asks.now.related)) ds → IsPolledAt (IsPolledWith (priority_at c.args.asks.now.priorities 0) g.R.RootSource.polls) (IsPlacePolledWith c.args.asks.now.priorities g.S.RelatedSet.polls) ds c.args.now.0 (f x) c.args.asks.now.root c.args.asks.now.related c.next.new.self.root c.next.new.self.related x.source)) c.in-Some.is e.polled in
     ended-after g.R.RootSource g.S.RelatedSet g.B.Backoff g.R.Object.Resource w h t qs xs c.args.asks.now c.args.pending.now may c.next.new.self c.args.now.0 at (f c.in-Some.exchange)
-    next polled e.kind e.feed e.feeds c.in_err-exchange-2.ensures.brings)
+    next polled e.kind e.feed e.feeds e.priorities c.in_err-exchange-2.ensures.brings)

@@ -13,7 +13,7 @@ use Rattle.kube_step.specs.HandOvers.{handed_by}
 use Rattle.kube_step.specs.Takes.{IsSomething}
 use Rattle.kube_step.proofs.Taking.{none-of, some-of, grown-nil, all-push, kept-push, handed-more}
 use Rattle.kube_feed.specs.Reads.{AreFound}
-use Rattle.kube_feed.specs.Takes.{IsTake}
+use Rattle.kube_feed.specs.Takes.{IsTake, taken_for}
 use Rattle.kube_feed.proofs.Reading.{later-none, later-more}
 use Rattle.kube_feed.proofs.Taking.{HaveGone, all-taken, first-taken, gone-more, gone-none, none-left, none-waits}
 use Rattle.kube_feed.proofs.takes.take_all.Goals as goal
@@ -125,7 +125,7 @@ returns-in_err-add_one-clause-lost g c =
           let next =
           subst (λ o. IsTake g.K.Resource core (qs ++ took ts) (rs ++ filter_map started ts) o c.take_one.new.pending c.loop-take.reader c.take_one.new.reader) some.1
           (e.took core (qs ++ took ts) (rs ++ filter_map started ts) k.stands) in
-          first-taken g.K.Resource core qs rs c.args.reader.now ts c.loop-take.pending c.loop-take.reader c.take_one.new.reader k e.same some.0.message next.0,
+          first-taken g.K.Resource core qs rs c.args.reader.now ts c.loop-take.pending c.loop-take.reader c.take_one.new.reader k e.same (taken_for some.0) next.0,
     )
 
 pub returns-clause-taken : goal.returns-clause-taken

@@ -55,4 +55,5 @@ loop-taken-preserved g c = record {
       c.in_ok-take_in-in-Item.ensures.stands;
   held = (let a = c.in_ok-take_in-in-Item.ensures.held in let b = c.loop-taken.invariant.held in omega arith);
   kept = c.take_in.ensures.debounce ∙ c.loop-taken.invariant.kept;
+  parked = λ m. c.take_in.ensures.parked m ∙ c.loop-taken.invariant.parked m;
 }

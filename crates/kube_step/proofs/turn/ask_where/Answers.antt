@@ -1,18 +1,17 @@
 use Rattle.std.proofs.Common.{◌≡◌, ◌++◌, [], ℕ, Bool, List, map, refl, sym, ap, subst}
 use Rattle.std.proofs.lemmas.Result.{err_from_is_err_and}
 use mathlib.Core.List.{IsPrefix}
-use Rattle.kube_meta.specs.Keys.{reference_of}
-use Rattle.kube_meta.specs.Reference.{Reference}
+use Rattle.kube_model.specs.History.{Named}
 use Rattle.kube_history.specs.CoreWorld.{core_world}
 use Rattle.kube_history.specs.CoreEvents.{Answered}
 use Rattle.kube_reflect.specs.Writers.{Writing}
 use Rattle.kube_core.specs.Cores.{StandsFor}
-use Rattle.kube_turn.specs.Views.{exchange_of}
+use Rattle.kube_turn.specs.Views.{exchange_of, named_of}
 use Rattle.kube_step.specs.Turns.{SomeAsked, SomeRequested, requests_first}
 use Rattle.kube_step.proofs.Asking.{ended-at-once, may-requested}
 use Rattle.kube_step.proofs.turn.ask_where.Goals as goal
 
-requests-are : {O : Type 0} (at n : ℕ) (a b : Bool) (rs qs : List Reference) → at ≡ n → a ≡ b → rs ≡ qs → requests_first {O = O} n b qs ≡ requests_first at a rs
+requests-are : {O : Type 0} (at n : ℕ) (a b : Bool) (rs qs : List Named) → at ≡ n → a ≡ b → rs ≡ qs → requests_first {O = O} n b qs ≡ requests_first at a rs
 requests-are at n a b rs qs e f k = λ i. requests_first (sym e i) (sym f i) (sym k i)
 
 pub returns-clause-asked : goal.returns-clause-asked
@@ -20,7 +19,7 @@ returns-clause-asked g c goes w h t es at reload on may =
     let type_of = g.R.Object.Resource.type_of in
     let meta = g.R.Object.Resource.meta_of in
     let xs = map (exchange_of type_of) c.in_ok-exchanges.exchanges in
-    let first = subst (λ us. StandsFor type_of meta (core_world w) (es ++ us) c.request_first.new.core) (requests-are t.at c.args.at.0 t.reload c.args.reload t.on (map (reference_of type_of) c.args.on) at reload on)
+    let first = subst (λ us. StandsFor type_of meta (core_world w) (es ++ us) c.request_first.new.core) (requests-are t.at c.args.at.0 t.reload c.args.reload t.on (map (named_of type_of) c.args.on) at reload on)
     (c.in_ok-request_first.ensures.stands (core_world w) es may.core_stands) in
     let may1 = may-requested g.R.RootSource g.S.RelatedSet g.B.Backoff g.R.Object.Resource w h t es c.args.asks.now c.args.core.now c.request_first.new.core may first in
     let asked = c.in_ok-exchanges.ensures.asked w h t (es ++ requests_first t.at t.reload t.on) at may1 in
@@ -50,7 +49,7 @@ returns-in_err-exchanges-clause-ended g c =
       λ w h t es at reload on may.
           let type_of = g.R.Object.Resource.type_of in
           let meta = g.R.Object.Resource.meta_of in
-          let first = subst (λ us. StandsFor type_of meta (core_world w) (es ++ us) c.request_first.new.core) (requests-are t.at c.args.at.0 t.reload c.args.reload t.on (map (reference_of type_of) c.args.on) at reload on)
+          let first = subst (λ us. StandsFor type_of meta (core_world w) (es ++ us) c.request_first.new.core) (requests-are t.at c.args.at.0 t.reload c.args.reload t.on (map (named_of type_of) c.args.on) at reload on)
           (c.in_ok-request_first.ensures.stands (core_world w) es may.core_stands) in
           let may1 = may-requested g.R.RootSource g.S.RelatedSet g.B.Backoff g.R.Object.Resource w h t es c.args.asks.now c.args.core.now c.request_first.new.core may first in
           c.in_err-exchanges.ensures.ended w h t (es ++ requests_first t.at t.reload t.on) at may1,
@@ -62,7 +61,7 @@ returns-in_err-request_first-clause-left g c =
     rw (p.1, p.2) (λ w h t es at reload on may.
     let left = c.in_err-request_first.ensures.left in
     SomeRequested refl refl refl left.0
-    (subst (λ us. IsPrefix left.0 us) (requests-are t.at c.args.at.0 t.reload c.args.reload t.on (map (reference_of g.R.Object.Resource.type_of) c.args.on) at reload on) left.1)
+    (subst (λ us. IsPrefix left.0 us) (requests-are t.at c.args.at.0 t.reload c.args.reload t.on (map (named_of g.R.Object.Resource.type_of) c.args.on) at reload on) left.1)
     (left.2 (core_world w) es may.core_stands))
 
 pub returns-in_err-exchanges-clause-left : goal.returns-in_err-exchanges-clause-left
@@ -71,7 +70,7 @@ returns-in_err-exchanges-clause-left g c =
     rw (p.1, p.2) (λ w h t es at reload on may.
     let type_of = g.R.Object.Resource.type_of in
     let meta = g.R.Object.Resource.meta_of in
-    let first = subst (λ us. StandsFor type_of meta (core_world w) (es ++ us) c.request_first.new.core) (requests-are t.at c.args.at.0 t.reload c.args.reload t.on (map (reference_of type_of) c.args.on) at reload on)
+    let first = subst (λ us. StandsFor type_of meta (core_world w) (es ++ us) c.request_first.new.core) (requests-are t.at c.args.at.0 t.reload c.args.reload t.on (map (named_of type_of) c.args.on) at reload on)
     (c.in_ok-request_first.ensures.stands (core_world w) es may.core_stands) in
     let may1 = may-requested g.R.RootSource g.S.RelatedSet g.B.Backoff g.R.Object.Resource w h t es c.args.asks.now c.args.core.now c.request_first.new.core may first in
     SomeAsked (c.in_err-exchanges.ensures.left w h t (es ++ requests_first t.at t.reload t.on) at may1))

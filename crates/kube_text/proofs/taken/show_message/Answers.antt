@@ -13,7 +13,7 @@ pub returns-clause-tokens : goal.returns-clause-tokens
 unfolding taken_data
 returns-clause-tokens c =
     object_shown c.args.out.now.tokens c.begin_object.new.self.tokens c.show_members.new.out.tokens c.end_object.new.self.tokens
-    (taken_members (record { message = record { reference = seen_reference c.args.reference.now; reason = reason_of c.args.reason.now }; object = option_map (λ o. arc_value o.now) c.args.object }) no_members)
+    (taken_members (record { message = record { reference = seen_reference c.args.reference.now; reason = reason_of c.args.reason.now }; priority = c.args.priority; object = option_map (λ o. arc_value o.now) c.args.object }) no_members)
     c.in_ok-begin_object.ensures.ok (c.in_ok-show_members.ensures.members no_members) c.in_ok-end_object.ensures.ok
 
 pub returns-in_err-show_members-clause-front : goal.returns-in_err-show_members-clause-front

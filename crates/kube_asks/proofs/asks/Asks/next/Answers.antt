@@ -1,9 +1,9 @@
 use Rattle.std.proofs.Common.{◌≡◌, ℕ, ◌<◌, ◌+◌, ◌++◌, [], ◌∷◌, Some, not, nat_lt, slice_index, length, sym, ap, subst, ◌∙◌}
-use Rattle.kube_model.specs.World.{feed_of, is_watched}
+use Rattle.kube_model.specs.World.{feed_of, is_watched, priority_at}
 use Rattle.kube_turn.specs.Views.{exchange_of}
 use Rattle.kube_watch.specs.Polls.{dated_now}
 use Rattle.kube_asks.specs.Kept.{AskKept, noted, is_root_queue, spent_at, total}
-use Rattle.kube_asks.specs.Asking.{Asking, SourcesStand, IsWorldOf, IsPolledAt, IsBrokenAt, IfUnnamed}
+use Rattle.kube_asks.specs.Asking.{Asking, SourcesStand, IsWorldOf, IsPolledAt, IsPolledWith, IsPlacePolledWith, IsBrokenAt, IfUnnamed}
 use Rattle.std.proofs.lemmas.Result.{err_from_is_err_and}
 use Rattle.kube_asks.specs.declared.asks.AskFault.{AskFault}
 use Rattle.kube_asks.specs.declared.asks.AskFault.TheVariants.{NoMemory, Unnamed, Spent}
@@ -20,7 +20,7 @@ note-requires-clause-budget g c =
 
 pub returns-in_default-clause-next : goal.returns-in_default-clause-next
 returns-in_default-clause-next g c w budget before mine world h =
-    (next-is w _ _ _ _ _ _ _ world budget before mine _ c.args.now.0 h.kept (sym c.is_held.ensures ∙ c.if-is_held.false) ∙ (sym c.next_source.ensures.found ∙ c.in_default.is), h)
+    (next-is w _ _ _ _ _ _ _ _ world budget before mine _ c.args.now.0 h.kept (sym c.is_held.ensures ∙ c.if-is_held.false) ∙ (sym c.next_source.ensures.found ∙ c.in_default.is), h)
 
 pub returns-clause-next : goal.returns-clause-next
 returns-clause-next g c w budget before mine world h =
@@ -28,7 +28,7 @@ returns-clause-next g c w budget before mine world h =
     let from : x.source ≡ c.in-Some.source = c.in_ok-exchange.ensures.source in
     let back = sym c.self.view_is in
     let world' = subst (λ (a : Asking g.row.R.Denot g.row.S.Denot g.row.B.Denot).
-    IsWorldOf w (g.R.RootSource.kind a.root) g.R.Object.Resource.meta_of (g.R.RootSource.feed a.root) (g.S.RelatedSet.feeds a.related) g.B.Backoff.delay g.B.Backoff.delayed g.B.Backoff.restarted) back world in
+    IsWorldOf w (g.R.RootSource.kind a.root) g.R.Object.Resource.meta_of (g.R.RootSource.feed a.root) (g.S.RelatedSet.feeds a.related) a.priorities g.B.Backoff.delay g.B.Backoff.delayed g.B.Backoff.restarted) back world in
     let sources' = subst (λ (a : Asking g.row.R.Denot g.row.S.Denot g.row.B.Denot).
     SourcesStand (g.R.RootSource.stands a.root) (g.S.RelatedSet.stands a.related) (length (g.S.RelatedSet.feeds a.related)) (before ++ mine)) back h.sources in
     let made = c.in_ok-exchange.ensures.made w (before ++ mine) world' sources' in
@@ -38,7 +38,7 @@ returns-clause-next g c w budget before mine world h =
     let kept : c.poll.new.self.kept ≡ c.args.self.now.kept = c.in_ok-exchange.ensures.kept ∙ ap (λ (a : Asking g.row.R.Denot g.row.S.Denot g.row.B.Denot). a.kept) c.self.view_is in
     let root : c.poll.new.self.root ≡ c.self-2.inside.root = sym (ap (λ (a : Asking g.row.R.Denot g.row.S.Denot g.row.B.Denot). a.root) c.self-2.view_is ∙ c.note.ensures.root) in
     let related : c.poll.new.self.related ≡ c.self-2.inside.related = sym (ap (λ (a : Asking g.row.R.Denot g.row.S.Denot g.row.B.Denot). a.related) c.self-2.view_is ∙ c.note.ensures.related) in
-    next-made w _ _ _ _ _ _ _ world (g.R.RootSource.stands c.self-2.inside.root) (g.S.RelatedSet.stands c.self-2.inside.related) _ budget before mine _ _ at x h.kept (sym c.is_held.ensures ∙ c.if-is_held.false)
+    next-made w _ _ _ _ _ _ _ _ world (g.R.RootSource.stands c.self-2.inside.root) (g.S.RelatedSet.stands c.self-2.inside.related) _ budget before mine _ _ at x h.kept (sym c.is_held.ensures ∙ c.if-is_held.false)
     (sym c.next_source.ensures.found ∙ (c.in-Some.is ∙ ap Some (sym from)))
     (subst (λ s. s < length (g.S.RelatedSet.feeds c.args.self.now.related) + 1) (sym from) c.in-Some.ensures.within)
     (ap (λ (a : Asking g.row.R.Denot g.row.S.Denot g.row.B.Denot). a.kept) c.self-2.view_is ∙ (c.note.ensures.kept
@@ -69,10 +69,10 @@ returns-clause-polled g c ds h =
     let sources' = subst (λ (a : Asking g.row.R.Denot g.row.S.Denot g.row.B.Denot). SourcesStand (g.R.RootSource.stands a.root) (g.S.RelatedSet.stands a.related) (length (g.S.RelatedSet.feeds a.related)) ds) (sym c.self.view_is) h in
     let root : c.poll.new.self.root ≡ c.self-2.inside.root = sym (ap (λ (a : Asking g.row.R.Denot g.row.S.Denot g.row.B.Denot). a.root) c.self-2.view_is ∙ c.note.ensures.root) in
     let related : c.poll.new.self.related ≡ c.self-2.inside.related = sym (ap (λ (a : Asking g.row.R.Denot g.row.S.Denot g.row.B.Denot). a.related) c.self-2.view_is ∙ c.note.ensures.related) in
-    subst (λ s. IsPolledAt g.R.RootSource.polls g.S.RelatedSet.polls ds c.args.now.0 x c.args.self.now.root c.args.self.now.related c.self-2.inside.root c.self-2.inside.related s) (sym from)
-    (subst (λ r. IsPolledAt g.R.RootSource.polls g.S.RelatedSet.polls ds c.args.now.0 x c.args.self.now.root c.args.self.now.related r c.self-2.inside.related c.in-Some.source) root
-    (subst (λ r. IsPolledAt g.R.RootSource.polls g.S.RelatedSet.polls ds c.args.now.0 x c.args.self.now.root c.args.self.now.related c.poll.new.self.root r c.in-Some.source) related
-    (subst (λ (a : Asking g.row.R.Denot g.row.S.Denot g.row.B.Denot). IsPolledAt g.R.RootSource.polls g.S.RelatedSet.polls ds c.args.now.0 x a.root a.related c.poll.new.self.root c.poll.new.self.related c.in-Some.source) c.self.view_is
+    subst (λ s. IsPolledAt (IsPolledWith (priority_at c.args.self.now.priorities 0) g.R.RootSource.polls) (IsPlacePolledWith c.args.self.now.priorities g.S.RelatedSet.polls) ds c.args.now.0 x c.args.self.now.root c.args.self.now.related c.self-2.inside.root c.self-2.inside.related s) (sym from)
+    (subst (λ r. IsPolledAt (IsPolledWith (priority_at c.args.self.now.priorities 0) g.R.RootSource.polls) (IsPlacePolledWith c.args.self.now.priorities g.S.RelatedSet.polls) ds c.args.now.0 x c.args.self.now.root c.args.self.now.related r c.self-2.inside.related c.in-Some.source) root
+    (subst (λ r. IsPolledAt (IsPolledWith (priority_at c.args.self.now.priorities 0) g.R.RootSource.polls) (IsPlacePolledWith c.args.self.now.priorities g.S.RelatedSet.polls) ds c.args.now.0 x c.args.self.now.root c.args.self.now.related c.poll.new.self.root r c.in-Some.source) related
+    (subst (λ (a : Asking g.row.R.Denot g.row.S.Denot g.row.B.Denot). IsPolledAt (IsPolledWith (priority_at a.priorities 0) g.R.RootSource.polls) (IsPlacePolledWith a.priorities g.S.RelatedSet.polls) ds c.args.now.0 x a.root a.related c.poll.new.self.root c.poll.new.self.related c.in-Some.source) c.self.view_is
     (c.in_ok-exchange.ensures.polled ds sources'))))
 
 unnamed-weaker : (f : AskFault) (P Q : ℕ → Type 0) → ((s : ℕ) → P s → Q s) → IfUnnamed f P → IfUnnamed f Q
@@ -88,7 +88,7 @@ returns-in_err-exchange-clause-unnamed g c =
       subst (λ n. IsBrokenAt g.R.RootSource.breaks g.S.RelatedSet.breaks c.args.now.0 c.args.self.now.root c.args.self.now.related c.poll.new.self.root c.poll.new.self.related n) (sym b.0)
           (subst (λ (a : Asking g.row.R.Denot g.row.S.Denot g.row.B.Denot). IsBrokenAt g.R.RootSource.breaks g.S.RelatedSet.breaks c.args.now.0 a.root a.related c.poll.new.self.root c.poll.new.self.related c.in-Some.source) c.self.view_is b.1),
       λ w budget before mine world h.
-          next-is w _ _ _ _ _ _ _ world budget before mine _ c.args.now.0 h.kept (sym c.is_held.ensures ∙ c.if-is_held.false) ∙ (sym c.next_source.ensures.found ∙ (c.in-Some.is ∙ ap Some (sym b.0))),
+          next-is w _ _ _ _ _ _ _ _ world budget before mine _ c.args.now.0 h.kept (sym c.is_held.ensures ∙ c.if-is_held.false) ∙ (sym c.next_source.ensures.found ∙ (c.in-Some.is ∙ ap Some (sym b.0))),
     ))
     c.in_err-exchange.ensures.unnamed)
 
@@ -100,5 +100,5 @@ returns-in_err-exchange-clause-lost g c =
       subst (λ (a : Asking g.row.R.Denot g.row.S.Denot g.row.B.Denot). IsBrokenAt g.R.RootSource.loses g.S.RelatedSet.loses c.args.now.0 a.root a.related c.poll.new.self.root c.poll.new.self.related c.in-Some.source)
           c.self.view_is (c.in_err-exchange.ensures.lost e),
       λ w budget before mine world h.
-          next-is w _ _ _ _ _ _ _ world budget before mine _ c.args.now.0 h.kept (sym c.is_held.ensures ∙ c.if-is_held.false) ∙ (sym c.next_source.ensures.found ∙ c.in-Some.is),
+          next-is w _ _ _ _ _ _ _ _ world budget before mine _ c.args.now.0 h.kept (sym c.is_held.ensures ∙ c.if-is_held.false) ∙ (sym c.next_source.ensures.found ∙ c.in-Some.is),
     ))

@@ -1,10 +1,10 @@
 use Rattle.std.proofs.Common.{◌≡◌, refl, ◌<◌, ◌-◌, ◌+◌, ◌++◌, [], ◌∷◌, suc, not, length, sym, ap, subst, arith}
-use Rattle.kube_model.specs.World.{feed_of, is_watched}
+use Rattle.kube_model.specs.World.{feed_of, is_watched, priority_at}
 use Rattle.kube_model.specs.History.{dated_of}
 use Rattle.kube_model.specs.Fits.{IsFitting}
 use Rattle.kube_turn.specs.Views.{exchange_of}
 use Rattle.kube_watch.specs.Polls.{dated_now}
-use Rattle.kube_asks.specs.Sources.{is_stream}
+use Rattle.kube_asks.specs.Sources.{is_stream, with_priority}
 use Rattle.kube_asks.specs.Asking.{Asking, IsWorldOf, SourcesStand, of_source, IsPolledAt, IsBrokenAt}
 use Rattle.kube_asks.proofs.Bools.{ok2, ok3, suc-pred}
 use Rattle.kube_asks.proofs.Polled.{root-polled, related-polled}
@@ -17,15 +17,15 @@ returns-then-source-eq0-clause-made g c =
     ok3 c.poll_root.result
     (λ x next source stands w ds.
     subst (λ (a : Asking g.row.R.Denot g.row.S.Denot g.row.B.Denot).
-    IsWorldOf w (g.R.RootSource.kind a.root) g.R.Object.Resource.meta_of (g.R.RootSource.feed a.root) (g.S.RelatedSet.feeds a.related) g.B.Backoff.delay g.B.Backoff.delayed g.B.Backoff.restarted
+    IsWorldOf w (g.R.RootSource.kind a.root) g.R.Object.Resource.meta_of (g.R.RootSource.feed a.root) (g.S.RelatedSet.feeds a.related) a.priorities g.B.Backoff.delay g.B.Backoff.delayed g.B.Backoff.restarted
     → SourcesStand (g.R.RootSource.stands a.root) (g.S.RelatedSet.stands a.related) (length (g.S.RelatedSet.feeds a.related)) ds
-    → IsFitting w ds at (of_source c.args.source (exchange_of g.R.Object.Resource.type_of x)) × (is_stream x.call ≡ not (is_watched (feed_of w c.args.source)))
-    × SourcesStand (g.R.RootSource.stands c.poll_root.new.self) (g.S.RelatedSet.stands c.self.inside.related) (length (g.S.RelatedSet.feeds a.related)) (ds ++ dated_now at (of_source c.args.source (exchange_of g.R.Object.Resource.type_of x)) ∷ []))
+    → IsFitting w ds at (with_priority (priority_at a.priorities c.args.source) (of_source c.args.source (exchange_of g.R.Object.Resource.type_of x))) × (is_stream x.call ≡ not (is_watched (feed_of w c.args.source)))
+    × SourcesStand (g.R.RootSource.stands c.poll_root.new.self) (g.S.RelatedSet.stands c.self.inside.related) (length (g.S.RelatedSet.feeds a.related)) (ds ++ dated_now at (with_priority (priority_at a.priorities c.args.source) (of_source c.args.source (exchange_of g.R.Object.Resource.type_of x))) ∷ []))
     c.self.view_is
-    (λ world h. subst (λ s. IsFitting w ds at (of_source s (exchange_of g.R.Object.Resource.type_of x)) × (is_stream x.call ≡ not (is_watched (feed_of w s)))
-    × SourcesStand (g.R.RootSource.stands c.poll_root.new.self) (g.S.RelatedSet.stands c.self.inside.related) (length (g.S.RelatedSet.feeds c.self.inside.related)) (ds ++ dated_now at (of_source s (exchange_of g.R.Object.Resource.type_of x)) ∷ []))
+    (λ world h. subst (λ s. IsFitting w ds at (with_priority (priority_at c.self.inside.priorities.items s) (of_source s (exchange_of g.R.Object.Resource.type_of x))) × (is_stream x.call ≡ not (is_watched (feed_of w s)))
+    × SourcesStand (g.R.RootSource.stands c.poll_root.new.self) (g.S.RelatedSet.stands c.self.inside.related) (length (g.S.RelatedSet.feeds c.self.inside.related)) (ds ++ dated_now at (with_priority (priority_at c.self.inside.priorities.items s) (of_source s (exchange_of g.R.Object.Resource.type_of x))) ∷ []))
     (sym c.if-source-eq0.true)
-    (root-polled w _ _ _ _ _ _ _ world ds at (exchange_of g.R.Object.Resource.type_of x) _ _ _ _ h source next stands)))
+    (root-polled w _ _ _ _ _ _ _ _ world ds at (exchange_of g.R.Object.Resource.type_of x) _ _ _ _ h source next stands)))
     c.poll_root.ensures.next c.poll_root.ensures.source c.poll_root.ensures.stands
 
 pub returns-else-source-eq0-clause-made : goal.returns-else-source-eq0-clause-made
@@ -37,15 +37,15 @@ returns-else-source-eq0-clause-made g c =
     ok3 c.poll_at.result
     (λ x next stands _ w ds.
     subst (λ (a : Asking g.row.R.Denot g.row.S.Denot g.row.B.Denot).
-    IsWorldOf w (g.R.RootSource.kind a.root) g.R.Object.Resource.meta_of (g.R.RootSource.feed a.root) (g.S.RelatedSet.feeds a.related) g.B.Backoff.delay g.B.Backoff.delayed g.B.Backoff.restarted
+    IsWorldOf w (g.R.RootSource.kind a.root) g.R.Object.Resource.meta_of (g.R.RootSource.feed a.root) (g.S.RelatedSet.feeds a.related) a.priorities g.B.Backoff.delay g.B.Backoff.delayed g.B.Backoff.restarted
     → SourcesStand (g.R.RootSource.stands a.root) (g.S.RelatedSet.stands a.related) (length (g.S.RelatedSet.feeds a.related)) ds
-    → IsFitting w ds at (of_source c.args.source (exchange_of g.R.Object.Resource.type_of x)) × (is_stream x.call ≡ not (is_watched (feed_of w c.args.source)))
-    × SourcesStand (g.R.RootSource.stands c.self.inside.root) (g.S.RelatedSet.stands c.poll_at.new.self) (length (g.S.RelatedSet.feeds a.related)) (ds ++ dated_now at (of_source c.args.source (exchange_of g.R.Object.Resource.type_of x)) ∷ []))
+    → IsFitting w ds at (with_priority (priority_at a.priorities c.args.source) (of_source c.args.source (exchange_of g.R.Object.Resource.type_of x))) × (is_stream x.call ≡ not (is_watched (feed_of w c.args.source)))
+    × SourcesStand (g.R.RootSource.stands c.self.inside.root) (g.S.RelatedSet.stands c.poll_at.new.self) (length (g.S.RelatedSet.feeds a.related)) (ds ++ dated_now at (with_priority (priority_at a.priorities c.args.source) (of_source c.args.source (exchange_of g.R.Object.Resource.type_of x))) ∷ []))
     c.self.view_is
-    (λ world h. subst (λ s. IsFitting w ds at (of_source s (exchange_of g.R.Object.Resource.type_of x)) × (is_stream x.call ≡ not (is_watched (feed_of w s)))
-    × SourcesStand (g.R.RootSource.stands c.self.inside.root) (g.S.RelatedSet.stands c.poll_at.new.self) (length (g.S.RelatedSet.feeds c.self.inside.related)) (ds ++ dated_now at (of_source s (exchange_of g.R.Object.Resource.type_of x)) ∷ []))
+    (λ world h. subst (λ s. IsFitting w ds at (with_priority (priority_at c.self.inside.priorities.items s) (of_source s (exchange_of g.R.Object.Resource.type_of x))) × (is_stream x.call ≡ not (is_watched (feed_of w s)))
+    × SourcesStand (g.R.RootSource.stands c.self.inside.root) (g.S.RelatedSet.stands c.poll_at.new.self) (length (g.S.RelatedSet.feeds c.self.inside.related)) (ds ++ dated_now at (with_priority (priority_at c.self.inside.priorities.items s) (of_source s (exchange_of g.R.Object.Resource.type_of x))) ∷ []))
     is
-    (related-polled w _ _ _ _ _ _ _ world ds at (exchange_of g.R.Object.Resource.type_of x) _ _ _ _ place h (omega (arith, is, within)) next stands c.poll_at.ensures.others)))
+    (related-polled w _ _ _ _ _ _ _ _ world ds at (exchange_of g.R.Object.Resource.type_of x) _ _ _ _ place h (omega (arith, is, within)) next stands c.poll_at.ensures.others)))
     c.poll_at.ensures.next c.poll_at.ensures.stands c.poll_at.ensures.stands
 
 pub returns-then-source-eq0-clause-polled : goal.returns-then-source-eq0-clause-polled

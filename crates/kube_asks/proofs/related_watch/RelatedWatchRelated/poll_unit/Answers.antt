@@ -8,7 +8,7 @@ use Rattle.kube_model.specs.History.{Dated}
 use Rattle.kube_model.specs.Mapping.{IsMappedTo}
 use Rattle.kube_model.specs.Recorded.{raw_call}
 use Rattle.kube_model.specs.Shapes.{shape, dated_shapes}
-use Rattle.kube_turn.specs.Views.{message_of, exchange_of}
+use Rattle.kube_turn.specs.Views.{prioritized_of, exchange_of}
 use Rattle.kube_watch.specs.Agrees.{objects_of}
 use Rattle.kube_watch.proofs.Brings.{brought}
 use Rattle.kube_watch.specs.Calls.{IsAskedOnce, brings_raw, version_of}
@@ -46,7 +46,7 @@ returns-clause-next g c =
     (λ h. let shapes : List (Dated g.row.A-Value.Denot) = dated_shapes own in
     subst (IsRelatedNext (Watched (settings_in inside.watcher)) own c.args.now.0) (sym is)
     (next-too t meta own (settings_in inside.watcher) u.call u.answer (map arc_value u.items) u.error (flat_map objects_of (events_of u)) (e.objects shapes h.0)
-    (g.M.Mapper.answers inside.mapper) (map (message_of g.K.Resource.type_of) x.requests) mapped c.args.now.0 0 (e.owed shapes h.0) e.asks e.answered e.texts (e.idle shapes h.0) (e.fails shapes h.0))))
+    (g.M.Mapper.answers inside.mapper) (map (prioritized_of g.K.Resource.type_of) x.requests) mapped c.args.now.0 0 (e.owed shapes h.0) e.asks e.answered e.texts (e.idle shapes h.0) (e.fails shapes h.0))))
     c.map_unit-answer.ensures.mapped c.map_unit-answer.ensures.exchange
 
 pub returns-clause-stands : goal.returns-clause-stands
@@ -57,7 +57,7 @@ returns-clause-stands g c =
     (λ x mapped is none own y h same.
     let was : StandsFor (dated_shapes own) inside.watcher = subst (λ (a : MappedWatching g.row.A.Denot g.row.A-Value.Denot g.row.M.Denot). StandsFor (dated_shapes own) a.watcher) (sym c.self.view_is) h.0 in (
       subst (λ ds. StandsFor ds c.poll_unit.new.self) (sym (map-append (λ (d : Dated g.row.K.Denot). record { at = d.at; exchange = shape {V = g.row.A-Value.Denot} d.exchange }) own (dated_now c.args.now.0 y ∷ [])))
-          (e.stands (dated_shapes own) (shape y) was (ap (λ z. z.call) same ∙ ap (λ z. z.call) is) (ap (λ z. z.answer) same ∙ ap (λ z. z.answer) is)),
+          (e.stands (dated_shapes own) (shape y) was (ap (λ z. z.call) same.1 ∙ ap (λ z. z.call) is) (ap (λ z. z.answer) same.1 ∙ ap (λ z. z.answer) is)),
       none,
     ))
     c.map_unit-answer.ensures.mapped c.map_unit-answer.ensures.exchange (none-on c.map_unit-answer.result c.fault_in-self-inside.result c.fault_in-self-inside.ensures)
@@ -72,7 +72,7 @@ returns-clause-polls g c =
     let e = c.in_ok-unit.ensures in
     ok3-on c.map_unit-answer.result
     (λ x mapped is named own y h same.
-    let requests = map (message_of g.K.Resource.type_of) x.requests in
+    let requests = map (prioritized_of g.K.Resource.type_of) x.requests in
     let after : MappedWatching g.row.A.Denot g.row.A-Value.Denot g.row.M.Denot = record { watcher = c.poll_unit.new.self; kind = t; mapper = inside.mapper; fault = c.fault_in-self-inside.result } in
     subst (λ (a : MappedWatching g.row.A.Denot g.row.A-Value.Denot g.row.M.Denot). RelatedStands own a
     → IsMappedPoll api (IsMappedTo a.kind meta (g.M.Mapper.answers a.mapper)) (λ o. is_named (meta o)) own c.args.now.0 a y after)

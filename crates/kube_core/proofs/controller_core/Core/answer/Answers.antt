@@ -3,7 +3,7 @@ use Rattle.kube_history.specs.CoreEvents.{queue_of, running_of}
 use Rattle.kube_core.specs.Cores.{Parts, StandsFor, TellsNamed}
 use Rattle.kube_model.specs.Requests.{requested_at}
 use Rattle.kube_reflect.specs.Exchanged.{IsLeftBy}
-use Rattle.kube_turn.specs.Views.{exchange_of, message_of}
+use Rattle.kube_turn.specs.Views.{exchange_of, prioritized_of}
 use Rattle.kube_history.specs.CoreEvents.{root_answers}
 use Rattle.kube_history.specs.TurnCalls.{with_requests}
 use Rattle.std.proofs.Common.{◌++◌}
@@ -29,7 +29,7 @@ returns-clause-stands g c core es s may =
     let reserved =
     subst (λ p. Stands type_of core p qs rs) (sym (ap (λ p. p.pending) stored))
     (with-places type_of core c.self.inside.pending c.reserve_copies.new.self qs rs (ap (λ q. q.limit) same) (ap (λ q. q.schedule) same) (ap (λ q. q.running) same) z.pending) in
-    let messages = c.in_ok-requests.ensures.messages ∙ ap (map (message_of type_of)) c.as_slice.ensures in
+    let messages = c.in_ok-requests.ensures.requests ∙ ap (map (prioritized_of type_of)) c.as_slice.ensures in
     answered-core type_of meta core es _ c.request_now.new.self z c.args.now x m may
     (ap (λ p. p.writer.kind) rest ∙ c.in_ok-store.ensures.kind)
     (subst (λ k. IsLeftBy core.key (own ++ of_root x) k) (sym (ap (λ p. p.writer.kept) rest))

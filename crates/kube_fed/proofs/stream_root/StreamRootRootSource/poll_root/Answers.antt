@@ -25,7 +25,7 @@ pub returns-in-Ok-exchange-clause-stands : goal.returns-in-Ok-exchange-clause-st
 returns-in-Ok-exchange-clause-stands g c own y stands same =
     stands-too (Said g.St.EventStream.polls g.St.EventStream.told) arc_value own c.args.now.0 y c.self.inside.feeding c.ask.new.self (Ok c.in-Ok.next) c.in-Ok.ensures.asked
     (subst (λ (a : RootFeeding g.row.St.Denot). FedStands own a.feeding) (sym c.self.view_is) stands)
-    (came-so (stream_answer arc_value (Ok c.in-Ok.next)) (λ came p. ap (λ z. Some z.answer) same ∙ p.0.answer) c.in-Ok-exchange.ensures.streamed)
+    (came-so (stream_answer arc_value (Ok c.in-Ok.next)) (λ came p. ap (λ z. Some z.answer) same.1 ∙ p.0.answer) c.in-Ok-exchange.ensures.streamed)
 
 pub returns-in-Err-exchange-clause-unnamed : goal.returns-in-Err-exchange-clause-unnamed
 returns-in-Err-exchange-clause-unnamed g c h =

@@ -1,8 +1,9 @@
 use Rattle.std.proofs.Common.{◌++◌, not, length, ap, ◌∙◌, arith}
+use Rattle.kube_sched.proofs.Views.{parks-same}
 use Rattle.std.specs.List.{filter}
 use Rattle.kube_model.specs.Queue.{sorted_by}
 use Rattle.kube_sched.specs.Held.{is_due, comes_before}
-use Rattle.kube_sched.specs.Schedule.{Schedule}
+use Rattle.kube_sched.specs.Schedule.{Schedule, is_parked}
 use Rattle.kube_sched.proofs.Steps.{stands-settled}
 use Rattle.kube_sched.proofs.Counts.{frozen-stands}
 use Rattle.kube_sched.proofs.schedule.Scheduler.settle_counted.Goals as goal
@@ -35,3 +36,6 @@ returns-clause-cost g c events stands =
     let b = ap (λ (s : Schedule g.row.T.Denot). s.stale) c.self.view_is in
     let d = ap (λ (s : Schedule g.row.T.Denot). length s.waiting) c.self.view_is in
     omega arith
+
+pub returns-clause-parked : goal.returns-clause-parked
+returns-clause-parked g c m = parks-same g.T.PartialEq.eq c.self.inside.times c.settle.new.self m (c.settle.ensures.parked m) ∙ ap (λ (s : Schedule g.row.T.Denot). is_parked g.T.PartialEq.eq s m) c.self.view_is

@@ -45,3 +45,12 @@ returns-then-self-2-clause-prepared g c =
     c.if-self-2.true c.if-self.false
     (c.clear.ensures.debounce ∙ ap (λ (s : Stream g.row.T.Denot g.row.R.Denot). s.schedule.debounce) c.self.view_is)
     c.clear.ensures.stands
+
+pub invariant_of-self-in_default : goal.invariant_of-self-in_default
+invariant_of-self-in_default g c m = c.take_requests.ensures.parked m ∙ c.self.invariant m
+
+pub invariant_of-self-in-Filled : goal.invariant_of-self-in-Filled
+invariant_of-self-in-Filled g c m = c.take_requests.ensures.parked m ∙ c.self.invariant m
+
+pub invariant_of-self-in-Waits : goal.invariant_of-self-in-Waits
+invariant_of-self-in-Waits g c m = c.let_wait.ensures.parked m ∙ (c.take_requests.ensures.parked m ∙ c.self.invariant m)

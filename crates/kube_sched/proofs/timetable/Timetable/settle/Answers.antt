@@ -1,8 +1,8 @@
 use Rattle.std.proofs.Common.{◌≡◌, ◌+◌, ◌∙◌, length, subst, arith, if◌then◌else◌}
 use Rattle.std.specs.BinaryHeap.{heap_items}
-use Rattle.kube_sched.specs.Timetables.{waiting_of, scheduled_of}
+use Rattle.kube_sched.specs.Timetables.{ranks_of, waiting_of, scheduled_of}
 use Rattle.kube_sched.proofs.Numbers.{settled-waiting, settled-scheduled}
-use Rattle.kube_sched.proofs.Kept.{kept-few}
+use Rattle.kube_sched.proofs.Freezes.{few}
 use Rattle.kube_sched.proofs.timetable.Timetable.settle.Goals as goal
 
 pub returns-clause-waiting : goal.returns-clause-waiting
@@ -16,8 +16,10 @@ returns-clause-scheduled g c =
 
 pub returns-clause-cost : goal.returns-clause-cost
 returns-clause-cost g c =
-    let old = kept-few g.T.PartialEq.eq g.met.T.Eq.laws c.args.self.now c.requires.kept in
-    let new = kept-few g.T.PartialEq.eq g.met.T.Eq.laws c.settle_next.new.self c.settle_next.ensures.kept in
+    let t = c.args.self.now in
+    let u = c.settle_next.new.self in
+    let old = few g.T.PartialEq.eq g.met.T.Eq.laws t.table.entries.entries (heap_items t.heap) (ranks_of t) t.next c.requires.whole.0.parts in
+    let new = few g.T.PartialEq.eq g.met.T.Eq.laws u.table.entries.entries (heap_items u.heap) (ranks_of u) u.next c.settle_next.ensures.whole.0.parts in
     let held = c.settle_next.ensures.held in
     let held-before = c.loop-now.invariant.held in
     let step = c.settle_next.ensures.cost in
@@ -25,3 +27,6 @@ returns-clause-cost g c =
     let places : length (heap_items c.settle_next.new.self.heap) + 0 ≡ length (heap_items c.loop-now.self.heap) =
     subst (λ b. length (heap_items c.settle_next.new.self.heap) + (if b then 1 else 0) ≡ length (heap_items c.loop-now.self.heap)) c.loop-now-test.false c.settle_next.ensures.places in
     omega arith
+
+pub returns-clause-parked : goal.returns-clause-parked
+returns-clause-parked g c m = c.settle_next.ensures.parked m ∙ c.loop-now.invariant.parked m
