@@ -7,10 +7,10 @@ use Rattle.kube_model.specs.declared.call.Call.TheVariants.{Next}
 use Rattle.kube_model.specs.World.{Settings}
 use Rattle.kube_model.specs.Raw.{Raw, RawAnswer, GivesAdded, GivesBookmark}
 use Rattle.kube_server.specs.History.{Key, Change, IsHistory}
-use Rattle.kube_server.specs.Numbers.{number_at}
+use Rattle.kube_meta.specs.Numbers.{number_at}
 use Rattle.kube_server.specs.Honest.{Selection, ListTold, WatchTold, watch_told, selected_between, Follow}
 use Rattle.kube_server.specs.Readers.{IsByKey, HasToldAllBy, IsToldAll}
-use Rattle.kube_server.proofs.NumberLemmas.{number_at-decimal}
+use Rattle.kube_meta.proofs.NumberLemmas.{number_at-decimal}
 use Rattle.kube_server.proofs.TalkLemmas.{between}
 use Rattle.kube_honest.specs.States.{selection_by}
 use Rattle.kube_honest.proofs.Finds.{under}

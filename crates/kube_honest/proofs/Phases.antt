@@ -13,9 +13,9 @@ use Rattle.kube_model.specs.World.{Settings, start_by}
 use Rattle.kube_model.specs.Raw.{RawAnswer, GivesAdded, GivesBookmark}
 use Rattle.kube_model.specs.Recorded.{ends_initial_events}
 use Rattle.kube_server.specs.History.{Key, Change, IsHistory}
-use Rattle.kube_server.specs.Numbers.{number_at}
+use Rattle.kube_meta.specs.Numbers.{number_at}
 use Rattle.kube_server.specs.Honest.{Selection, ListTold, WatchTold, IsEnding, ending_mark, Follow, IsHonestInitial, IsHonestLater, IsHonestBy}
-use Rattle.kube_server.proofs.NumberLemmas.{number_at-decimal}
+use Rattle.kube_meta.proofs.NumberLemmas.{number_at-decimal}
 use Rattle.kube_honest.specs.States.{selection_by}
 use Rattle.kube_server.specs.Readers.{IsByKey}
 use Rattle.kube_honest.proofs.Finds.{under}

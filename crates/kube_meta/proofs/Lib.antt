@@ -5,3 +5,4 @@ pub mod Escapes
 pub mod Commas
 pub mod ReadBack
 pub mod ReferenceOrder
+pub mod NumberLemmas

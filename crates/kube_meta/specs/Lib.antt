@@ -9,3 +9,4 @@ pub mod Selectors
 pub mod Places
 pub mod Reading
 pub mod Writing
+pub mod Numbers

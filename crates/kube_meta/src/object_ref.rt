@@ -403,7 +403,9 @@ pub fn api_version(alloc: Global, group: &str, version: &str) -> Result<Text, No
 }
 
 /// A text of its own, where there is one.
-fn owned(alloc: Global, text: Option<&str>) -> Result<Option<Text>, NoMemory>
+///
+/// Errors: `NoMemory`.
+pub fn owned(alloc: Global, text: Option<&str>) -> Result<Option<Text>, NoMemory>
     ensures { IfOk result (λ t. t ≡ option_copied text.entry) }
 {
     match text {

@@ -1,47 +1,19 @@
 -- What words name, and the numbers that they are.
-use Rattle.std.proofs.Common.{◌≡◌, ◌≢◌, ℕ, zero, suc, ◌+◌, ◌<◌, ◌≤◌, ◌^◌, ◌⊎◌, inl, inr, Bool, true, false, not, List, [], ◌∷◌, length, get_or, Option, Some, None, Result, Ok, Err, refl, sym, ap, subst, ◌∙◌, arith}
-use Rattle.std.specs.Prelude.{codes, decimal, ◌==◌, ◌||◌, ◌&&◌}
+use Rattle.std.proofs.Common.{◌≡◌, ◌≢◌, ℕ, ◌<◌, ◌≤◌, ◌^◌, ◌⊎◌, inl, inr, Bool, true, false, List, [], ◌∷◌, length, get_or, Some, None, refl, sym, ap, subst, ◌∙◌, arith}
+use Rattle.std.specs.Prelude.{codes, decimal}
 use Rattle.std.specs.Str.{all_ascii_digits, bytes_eq}
-use Rattle.std.specs.Result.{OkIff, result_ok}
-use Rattle.std.specs.Str.Parse.{digits_value, ParsesUnsigned}
-use Rattle.std.proofs.lemmas.Bool.Decides.{nat_tests}
-use Rattle.std.proofs.lemmas.Str.Parse.{IsNumeralModel, numerals_by_value, tells_all_ascii_digits, parse_plain}
-use Rattle.std.proofs.lemmas.Fmt.{decimal-digits_value, decimal_digit, digits_value-decimal, first_decimal, parse-decimal}
-use Rattle.kube_run.specs.Commands.{IsCommand, IsNamed, IsNumber, IsWithin, NameNothing, most_objects, most_turns}
-use Rattle.kube_run.specs.declared.command.Command.{Command}
+use Rattle.std.specs.Str.Parse.{digits_value}
+use Rattle.std.proofs.lemmas.Str.Parse.{IsNumeralModel, numerals_by_value, tells_all_ascii_digits}
+use Rattle.std.proofs.lemmas.Fmt.{digits_value-decimal}
+use Rattle.kube_meta.specs.Numbers.{IsNumber}
+use Rattle.kube_run.specs.Commands.{IsCommand, IsWithin, NameNothing, most_objects, most_turns}
 use Rattle.kube_run.specs.declared.command.Command.TheVariants.{Run, Generate}
 
 own : IsNumeralModel (λ ds. all_ascii_digits ds ≡ true) (digits_value 10)
 own = numerals_by_value _ tells_all_ascii_digits
 
--- begins with a plus, or with a zero before another byte
-abbrev pub is_odd : List ℕ → Bool
-is_odd word = (get_or word 0 0 == 43) || not (length word == 1) && (get_or word 0 0 == 48)
-
-plain : (n : ℕ) → n < 2 ^ 64 → is_odd (decimal n) ≡ false
-plain zero small = rw (decimal_digit 0 (omega arith)) refl
-plain (suc n) small = let first : 48 < get_or (decimal (suc n)) 0 0 = first_decimal (suc n) (omega arith) small in grind (arith, nat_tests)
-
 true-or-false : (b : Bool) → b ≡ true → b ≡ false → ⊥
 true-or-false b e f = absurd (cc)
-
-pub odd-is-none : (word : List ℕ) → is_odd word ≡ true → IsNumber word None
-odd-is-none word odd n small e = true-or-false (is_odd (decimal n)) (subst (λ w. is_odd w ≡ true) e odd) (plain n small)
-
-no-plus : (word : List ℕ) → is_odd word ≡ false → get_or word 0 0 ≢ 43
-no-plus word e h = absurd (grind (arith, nat_tests))
-
-one-zero : (word : List ℕ) → is_odd word ≡ false → get_or word 0 0 ≡ 48 → length word ≡ 1
-one-zero word e h = grind (arith, nat_tests)
-
-pub number-is : {E : Type 0} (word : List ℕ) (r : Result ℕ E) → ParsesUnsigned 64 10 word r → is_odd word ≡ false → IsNumber word (result_ok r)
-number-is {E} word (Ok n) h e =
-    let p = parse_plain own {E = E} 64 word (Ok n) h (no-plus word e) in
-    let same : decimal (digits_value 10 word) ≡ word = decimal-digits_value own word p.0.0 p.0.1 (one-zero word e) p.0.2 in (
-      subst (λ m. m < 2 ^ 64) (sym p.1) p.0.2,
-      sym same ∙ ap decimal (sym p.1),
-    )
-number-is {E} word (Err x) h e = λ n small d. absurd (let z : Err x ≡ Ok n = parse-decimal 64 n word (Err x) small small d h in cc)
 
 same-decimal : (m n : ℕ) → m < 2 ^ 64 → n < 2 ^ 64 → decimal m ≡ decimal n → m ≡ n
 same-decimal m n a b e = sym (digits_value-decimal own m a) ∙ (ap (digits_value 10) e ∙ digits_value-decimal own n b)

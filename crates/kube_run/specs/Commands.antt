@@ -26,12 +26,7 @@ abbrev pub IsNamed : List (List ℕ) → Option Command → Type 0
 IsNamed words (Some c) = IsCommand words c
 IsNamed words None = NameNothing words
 
--- the number below 2^64 that a word is in decimal, if any
-abbrev pub IsNumber : List ℕ → Option ℕ → Type 0
-IsNumber word (Some n) = (n < 2 ^ 64) × (word ≡ decimal n)
-IsNumber word None = (n : ℕ) → n < 2 ^ 64 → word ≡ decimal n → ⊥
-
--- so of one from 1 up to a greatest
+-- the number from 1 up to a greatest one that a word is in decimal, if any
 abbrev pub IsWithin : ℕ → List ℕ → Option ℕ → Type 0
 IsWithin most word (Some n) = (0 < n) × (n ≤ most) × (word ≡ decimal n)
 IsWithin most word None = (n : ℕ) → 0 < n → n ≤ most → word ≡ decimal n → ⊥

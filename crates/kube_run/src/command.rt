@@ -1,7 +1,9 @@
 //! What the program's words name.
 
-ghost use Rattle.std.specs.Prelude.{◌≡◌, ◌==◌, ◌||◌, ◌&&◌, ◌∷◌, [], not, length, map, slice_index, string_bytes};
-ghost use Rattle.kube_run.specs.Commands.{IsNamed, IsNumber, IsWithin};
+ghost use Rattle.std.specs.Prelude.{◌∷◌, [], map, string_bytes};
+ghost use Rattle.kube_run.specs.Commands.{IsNamed, IsWithin};
+
+use kube_meta::number;
 
 /// The greatest number of objects of a generated input.
 pub const MOST_OBJECTS: u32 = 20_000;
@@ -73,24 +75,4 @@ fn number_within(word: &str, most: u32) -> Option<u32>
         return None;
     }
     Some(number as u32)
-}
-
-/// The number that a word is in decimal, without a sign and without a leading zero.
-fn number(word: &str) -> Option<u64>
-    ensures { IsNumber word.now result }
-{
-    if is_signed_or_padded(word.as_bytes()) {
-        return None;
-    }
-    word.parse::<u64>().ok()
-}
-
-/// Whether a word begins with a plus, or with a zero before another byte.
-fn is_signed_or_padded(bytes: &[u8]) -> bool
-    ensures { result ≡ ((slice_index bytes.now 0 == 43) || not (length bytes.now == 1) && (slice_index bytes.now 0 == 48)) }
-{
-    match bytes {
-        [b'+', ..] | [b'0', _, ..] => true,
-        _ => false,
-    }
 }

@@ -9,13 +9,13 @@ use Rattle.std.proofs.lemmas.Fmt.{decimal_injective, decimal_digit}
 use Rattle.kube_model.specs.Raw.{RawAnswer, GivesAdded, GivesModified, GivesDeleted, GivesBookmark}
 use Rattle.kube_model.specs.Plays.{Thing}
 use Rattle.kube_server.specs.History.{Change, Adds, Modifies, IsHistory}
-use Rattle.kube_server.specs.Numbers.{number_at}
+use Rattle.kube_meta.specs.Numbers.{number_at}
 use Rattle.kube_server.specs.Honest.{Selection, selected_at, selected_between, Follow, IsAfterBookmark, IsHonestLater, IsHonestInitial, IsWholeList, ending_mark}
 use Rattle.kube_server.specs.Readers.{TellEach}
 use Rattle.kube_server.specs.TalkRows.{meta_of_thing, a1, b2, a3, three_changes, each, IsHonestRow, page, whole_page, opens, tells, bookmark, ending}
 use Rattle.kube_server.proofs.TalkLemmas.{from_same}
 use Rattle.kube_server.proofs.ReaderLemmas.{Follow-within, Follow-tells}
-use Rattle.kube_server.proofs.NumberLemmas.{number_at-decimal}
+use Rattle.kube_meta.proofs.NumberLemmas.{number_at-decimal}
 
 -- no selectors
 abbrev unselected : Selection

@@ -8,7 +8,8 @@ use Rattle.kube_model.specs.declared.params.ListParams.{ListParams}
 use Rattle.kube_model.specs.declared.params.WatchParams.{WatchParams}
 use Rattle.kube_model.specs.Raw.{RawCall, ListAsked, WatchAsked, NextAsked, RawAnswer, Raw}
 use Rattle.kube_server.specs.History.{Change}
-use Rattle.kube_server.specs.Numbers.{NameSought, name_sought, number_at}
+use Rattle.kube_meta.specs.Numbers.{number_at}
+use Rattle.kube_server.specs.Numbers.{NameSought, name_sought}
 use Rattle.kube_server.specs.Honest.{list_after, list_told, WatchTold, watch_after, watch_told, watch_selection, just_opened, after_watch_answer, after_next_answer, IsHonest}
 use Rattle.kube_server.specs.Connections.{OpenWatch, Connection, selected_by, is_known, if_known, version_known, later_watch, opening, watched_by, opened_by, watched, opened, polled, poll_current, left_current, named_at, listed, after_list, after_watch, after_next, left_by, told, Act, Calls, Feeds, acted, fresh}
 use Rattle.kube_server.specs.Standing.{ListStands, WatchStands, IsWatching, Stands}

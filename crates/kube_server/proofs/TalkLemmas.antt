@@ -13,7 +13,7 @@ use Rattle.kube_meta.specs.Reading.{unless_empty}
 use Rattle.kube_meta.specs.declared.metadata.ObjectMeta.{ObjectMeta}
 use Rattle.kube_model.specs.Raw.{RawAnswer, Waits, Fails, GivesPage, Opens, GivesAdded, GivesModified, GivesDeleted, GivesBookmark, GivesError, Ends, Raw}
 use Rattle.kube_server.specs.History.{Key, key_of, key_cmp, same_key, State, object_at, objects_of, Change, Adds, Modifies, Removes, object_of, state_at, IsHistory}
-use Rattle.kube_server.specs.Numbers.{number_at}
+use Rattle.kube_meta.specs.Numbers.{number_at}
 use Rattle.kube_server.specs.Honest.{Selection, ListTold, list_told, WatchTold, watch_told, PutsAlone, RemovesAlone, selected_at, selected_between, Follow, FollowsVersion, IsBeforeBookmark, IsAfterBookmark, IsHonestLater, IsHonestInitial, IsHonestBy, IsHonestWatch, IsWholeList, IsHonestEnd, IsHonestList, IsHonestSoFar, IsHonestAfter, IsHonest}
 use Rattle.kube_server.specs.Readers.{after_event, after_events, objects_told, selected_in, IsByKey, TellEach, selected_state, AreState, TellBetween, TellsAfter, TellsSome, TellsAll}
 use Rattle.kube_server.proofs.HistoryLemmas.{AllKeyed}

@@ -7,7 +7,8 @@ use Rattle.kube_model.specs.declared.error.Status.{Status}
 use Rattle.kube_model.specs.declared.error.ApiError.TheVariants.{Api, Transport}
 use Rattle.kube_model.specs.Raw.{RawCall, ListAsked, WatchAsked, NextAsked, RawAnswer, Waits, Fails, GivesPage, Opens, GivesAdded, GivesModified, GivesDeleted, GivesBookmark, GivesError, Ends, Raw, is_fault}
 use Rattle.kube_server.specs.History.{Change, Adds, Modifies, Removes, object_of, state_at, objects_of}
-use Rattle.kube_server.specs.Numbers.{number_at, Token, token_text, token_at, NameSought, name_sought, has_name}
+use Rattle.kube_meta.specs.Numbers.{number_at}
+use Rattle.kube_server.specs.Numbers.{Token, token_text, token_at, NameSought, name_sought, has_name}
 use Rattle.kube_server.specs.Honest.{Selection, ending_mark}
 
 -- an open watch: what it gives first, and the revision after which it then gives the changes; without one it then ends

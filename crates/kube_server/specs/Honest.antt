@@ -9,7 +9,7 @@ use Rattle.kube_model.specs.declared.params.ListParams.{ListParams}
 use Rattle.kube_model.specs.declared.params.WatchParams.{WatchParams}
 use Rattle.kube_model.specs.Raw.{RawCall, ListAsked, WatchAsked, NextAsked, RawAnswer, GivesPage, Opens, GivesAdded, GivesModified, GivesDeleted, GivesBookmark, Raw}
 use Rattle.kube_server.specs.History.{Change, Adds, Modifies, Removes, object_of, state_at, objects_of}
-use Rattle.kube_server.specs.Numbers.{number_at}
+use Rattle.kube_meta.specs.Numbers.{number_at}
 
 -- a label selector and a field selector, where there are
 pub record Selection : Type 0 where

@@ -1,18 +1,9 @@
 -- Numbers, tokens and selectors as texts. (Kubernetes API concepts: resource versions, continue tokens, field selectors.)
-use Rattle.std.specs.Prelude.{ℕ, ◌==◌, ◌||◌, ◌&&◌, ◌^◌, Bool, true, not, List, ◌∷◌, ◌++◌, drop, length, slice_index, Option, Some, None, codes, decimal, if◌then◌else◌, nat_eq, nat_lt}
+use Rattle.std.specs.Prelude.{ℕ, ◌==◌, ◌||◌, Bool, true, List, ◌∷◌, ◌++◌, drop, Option, Some, None, codes, decimal, if◌then◌else◌, nat_eq}
 use Rattle.std.specs.List.{list_any, starts_with, before_first, after_first}
-use Rattle.std.specs.Str.Parse.{digits_value}
 use Rattle.kube_meta.specs.declared.metadata.ObjectMeta.{ObjectMeta}
 use Rattle.std.specs.Option.{option_eq}
-use Rattle.std.specs.Str.{bytes_eq, all_ascii_digits}
-
--- digits, with no zero before another
-abbrev pub is_decimal : List ℕ → Bool
-is_decimal text = (length text == 1 || not (slice_index text 0 == 48)) && nat_lt 0 (length text) && all_ascii_digits text
-
--- the number that a text names in decimal, below 2^64, without a sign and without a leading zero
-abbrev pub number_at : List ℕ → Option ℕ
-number_at text = if is_decimal text && nat_lt (digits_value 10 text) (2 ^ 64) then Some (digits_value 10 text) else None
+use Rattle.std.specs.Str.{bytes_eq}
 
 -- ---- tokens: a revision, a colon, and how many objects were given before
 

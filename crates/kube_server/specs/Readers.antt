@@ -5,7 +5,7 @@ use Rattle.kube_meta.specs.declared.metadata.ObjectMeta.{ObjectMeta}
 use Rattle.kube_meta.specs.Keys.{is_named}
 use Rattle.kube_model.specs.Raw.{RawAnswer, GivesAdded, GivesModified, GivesDeleted, GivesBookmark, Raw}
 use Rattle.kube_server.specs.History.{key_of, same_key, State, object_at, with_object, without_object, Change, state_at}
-use Rattle.kube_server.specs.Numbers.{number_at}
+use Rattle.kube_meta.specs.Numbers.{number_at}
 use Rattle.kube_server.specs.Honest.{Selection, PutsAlone, RemovesAlone, selected_between, IsEnding, FollowsVersion, IsAfterBookmark, WatchTold, watch_told}
 
 -- ---- reading

@@ -5,7 +5,8 @@ use Rattle.kube_meta.specs.declared.dynamic.DynamicObject.{DynamicObject}
 use Rattle.kube_meta.specs.declared.metadata.ObjectMeta.{ObjectMeta}
 use Rattle.kube_model.specs.Raw.{RawAnswer, GivesAdded, GivesError}
 use Rattle.kube_server.specs.History.{Change}
-use Rattle.kube_server.specs.Numbers.{number_at, Token, token_text, name_sought}
+use Rattle.kube_meta.specs.Numbers.{number_at}
+use Rattle.kube_server.specs.Numbers.{Token, token_text, name_sought}
 use Rattle.kube_server.specs.Honest.{Selection, ListTold, list_told, WatchTold, watch_told, selected_at, selected_between, Follow, IsHonest, IsHonestEnd}
 use Rattle.kube_server.specs.Connections.{OpenWatch, Connection, expired, selected_by, ending_bookmark}
 use Rattle.kube_server.specs.Indices.{IsNextIndex}

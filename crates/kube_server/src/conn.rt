@@ -7,7 +7,8 @@ ghost use Rattle.kube_model.specs.Raw.{grown, ListAsked, WatchAsked, NextAsked, 
 ghost use Rattle.kube_api.specs.Answers.{list_answer, watch_answer, next_answer, is_watch_fault};
 ghost use Rattle.kube_api.specs.Ready.{IsReady, IsNotReady};
 ghost use Rattle.kube_server.specs.History.{Change, state_at, objects_of, IsLater};
-ghost use Rattle.kube_server.specs.Numbers.{name_sought, number_at};
+ghost use Rattle.kube_meta.specs.Numbers.{number_at};
+ghost use Rattle.kube_server.specs.Numbers.{name_sought};
 ghost use Rattle.kube_server.specs.Tokens.{token_of};
 ghost use Rattle.kube_server.specs.Honest.{IsHonest};
 ghost use Rattle.kube_server.specs.Connections.{fresh, selected_by, token_asked, version_known, named_at, last_page, page_within, page_of, listed, after_list, watched, opening, opened, after_watch, poll_current, left_current, polled, after_next, IsMove};

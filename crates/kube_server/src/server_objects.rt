@@ -17,6 +17,7 @@ use crate::object_told::ObjectTold;
 use crate::server::Server;
 use kube_api::copies::copy_patch;
 use kube_api::{DeleteAnswer, ObjectApi, Patch, PatchAnswer, PatchRefusal, Status};
+use kube_meta::object_ref::owned;
 use kube_meta::text::copy_option;
 use kube_meta::{DynamicObject, Extra, Moment, NoMemory, ObjectRef, Polled, Text};
 use std::alloc::Global;
@@ -32,16 +33,6 @@ pub struct ServerObjects<'a> {
     pub server: &'a mut Server,
     pub namespace: Option<Text>,
     told: Vec<ObjectTold>,
-}
-
-/// The text of its own, where there is one.
-fn owned(alloc: Global, text: Option<&str>) -> Result<Option<Text>, NoMemory>
-    ensures { IfOk result (λ t. t ≡ option_copied text.entry) }
-{
-    match text {
-        Some(text) => Ok(Some(Text::new(alloc, text)?)),
-        None => Ok(None),
-    }
 }
 
 /// The status of a removal.

@@ -1,10 +1,11 @@
 //! Numbers and tokens as texts.
 
-ghost use Rattle.std.specs.Prelude.{◌≡◌, ◌==◌, ◌||◌, ◌&&◌, not, IfOk, length, decimal, slice_index, option_map};
-ghost use Rattle.kube_server.specs.Numbers.{number_at, token_at, token_text, both_numbers as token_parts};
+ghost use Rattle.std.specs.Prelude.{◌≡◌, IfOk, decimal, option_map};
+ghost use Rattle.kube_meta.specs.Numbers.{number_at};
+ghost use Rattle.kube_server.specs.Numbers.{token_at, token_text, both_numbers as token_parts};
 ghost use Rattle.kube_server.specs.Tokens.{token_of};
 
-use kube_meta::{NoMemory, Text};
+use kube_meta::{NoMemory, Text, number};
 use std::alloc::Global;
 
 /// A number in decimal.
@@ -14,26 +15,6 @@ pub(crate) fn decimal(alloc: Global, number: u64) -> Result<Text, NoMemory>
     ensures { IfOk result (λ t. t ≡ decimal number) }
 {
     Ok(Text::from(format!(in alloc; "{number}")?))
-}
-
-/// The number that a text is: in decimal, without a sign and without a leading zero.
-pub(crate) fn number(text: &str) -> Option<u64>
-    ensures { result ≡ number_at text.now }
-{
-    if is_signed_or_padded(text.as_bytes()) {
-        return None;
-    }
-    text.parse::<u64>().ok()
-}
-
-/// Whether a text begins with a plus, or with a zero before another byte.
-fn is_signed_or_padded(bytes: &[u8]) -> bool
-    ensures { result ≡ ((slice_index bytes.now 0 == 43) || not (length bytes.now == 1) && (slice_index bytes.now 0 == 48)) }
-{
-    match bytes {
-        [b'+', ..] | [b'0', _, ..] => true,
-        _ => false,
-    }
 }
 
 /// Where a list goes on: at a revision, behind so many objects.
