@@ -5,10 +5,8 @@ ghost use Rattle.kube_meta.specs.Numbers.{number_at, IsNumber};
 
 /// The number below 2^64 that a text is: in decimal, without a sign and without a leading zero.
 pub fn number(text: &str) -> Option<u64>
-    ensures {
-        value { result ≡ number_at text.now }
-        decimal { IsNumber text.now result }
-    }
+    ensures value { result ≡ number_at text.now }
+    ensures decimal { IsNumber text.now result }
 {
     if is_signed_or_padded(text.as_bytes()) {
         return None;
