@@ -2,19 +2,23 @@
 """A stand-in of the Kubernetes API server, for trials on one machine: objects in memory, lists and watches as the API has them.
 
     tests/e2e/api_server.py [--port 8001] [--state FILE] [--log 10000] [--resource GROUP/VERSION/PLURAL/KIND ..]
-    kubectl --server http://127.0.0.1:8001 get configmaps           # get, apply --validate=false, delete, patch, label, get --watch
+    kubectl --server http://127.0.0.1:8001 get configmaps           # get, apply, delete, patch, label, annotate, create -f, get --watch
 
 It listens on 127.0.0.1 alone, without TLS and without users. What it has: discovery; paged lists (`limit`, `continue`) of one state; watches
 from a resource version, with label and field selectors, bookmarks and initial events (`sendInitialEvents`); status 410 where a version or a
-token is older than the log; create, update, patches (JSON Patch, merge patch, and strategic merge as a merge patch); finalizers and
-deletion timestamps; generations. What it hasn't: schemas, defaults, other resources than configmaps, secrets, pods, services, namespaces,
-deployments, replicasets and those of --resource, subresources but status, dry runs, admission, users, protobuf (which `kubectl create` sends).
+token is older than the log; create, update, patches (JSON Patch, merge patch; strategic merge and server-side apply as a merge patch);
+finalizers and deletion timestamps; generations. What it hasn't: schemas (its OpenAPI documents are empty, so kubectl validates nothing),
+defaults, other resources than configmaps, secrets, pods, services, namespaces, deployments, replicasets and those of --resource,
+subresources but status, dry runs, admission, users, protobuf bodies.
 
-With --state the objects are kept in a file, and a new start reads them without the log, as a server that lost it. For trials:
+With --state the objects are kept in a file when it ends by SIGTERM or SIGINT, and a new start reads them without the log, as a server that
+lost it: then, and after `compact`, what is older is answered 410. For trials, each by POST:
 
-    curl -X POST 'http://127.0.0.1:8001/trial/cut'            cuts each open watch off
-    curl -X POST 'http://127.0.0.1:8001/trial/compact'        forgets the log: what is older than now is answered 410
-    curl 'http://127.0.0.1:8001/trial/state'                  all objects, with the newest resource version"""
+    /trial/cut                 cuts each open watch off, in the middle of its answer; with ?end=1 each ends as after its timeout
+    /trial/compact             forgets the log, with a change of something else in it: who watches gets an ERROR event of code 410; with
+                               ?as=status each watch is cut off, and who watches from where it was is answered by status 410
+    /trial/state               all objects, with the newest resource version; how many watches were opened, how many are open, and how many
+                               410 were told (also by GET)"""
 import argparse
 import base64
 import copy
@@ -141,7 +145,8 @@ class Store:
         self.kept, self.log_length = kept, log_length
         self.objects, self.log, self.snapshots = {}, [], {}
         self.revision = self.compacted = 1
-        self.cuts = 0
+        self.cuts = self.opened = self.watching = self.gone = 0
+        self.is_cut_clean = self.is_gone_by_status = False
         if kept and os.path.exists(kept):
             with open(kept) as f:
                 state = json.load(f)
@@ -155,27 +160,38 @@ class Store:
             os.replace(f'{self.kept}.new', self.kept)
 
     def change(self, kind, key, item):
-        """Logs a change; the item has the new version. It is called under the lock."""
+        """Logs a change with what was there before it; the item has the new version. It is called under the lock."""
         self.revision += 1
         item['metadata']['resourceVersion'] = str(self.revision)
+        before = self.objects.get(key)
         if kind == 'DELETED':
             del self.objects[key]
         else:
             self.objects[key] = item
-        self.log.append((self.revision, kind, key, copy.deepcopy(item)))
+        self.log.append((self.revision, key, before, None if kind == 'DELETED' else item, item))
         if len(self.log) > self.log_length:
             self.compacted = self.log[len(self.log) // 2][0]
             self.log = [it for it in self.log if it[0] > self.compacted]
         self.lock.notify_all()
 
-    def compact(self):
+    def compact(self, by_status):
         with self.lock:
-            self.compacted, self.log, self.snapshots = self.revision, [], {}
+            self.revision += 1
+            self.compacted, self.log, self.snapshots, self.is_gone_by_status = self.revision, [], {}, by_status
+            if by_status:
+                self.cut(False)
+            self.lock.notify_all()
 
-    def cut(self):
+    def cut(self, clean):
         with self.lock:
             self.cuts += 1
+            self.is_cut_clean = clean
             self.lock.notify_all()
+
+    def gone_at(self, version):
+        """The refusal of a version that is too old."""
+        self.gone += 1
+        return Refused(410, 'Expired', f'too old resource version: {version} ({self.compacted})')
 
     def get(self, key):
         with self.lock:
@@ -214,6 +230,13 @@ class Store:
             self.change('DELETED' if is_gone else 'MODIFIED', key, item)
             return copy.deepcopy(item)
 
+    def apply(self, key, item):
+        """Merges an object into the one that is there, or creates it (Kubernetes API concept "server-side apply", without its owners of fields)."""
+        with self.lock:
+            if key in self.objects:
+                return False, self.update(key, lambda old: merged(old, item))
+            return True, self.create(key, item)
+
     def delete(self, key):
         """Deletes an object, or marks it where it has finalizers; whether it is gone, and it."""
         with self.lock:
@@ -248,6 +271,7 @@ class Store:
 
 class Handler(BaseHTTPRequestHandler):
     protocol_version = 'HTTP/1.1'
+    disable_nagle_algorithm = True  # headers and body are written one after the other, and would wait for each other
     store = resources = None
 
     def log_message(self, *_):
@@ -260,6 +284,13 @@ class Handler(BaseHTTPRequestHandler):
         self.send_header('Content-Length', str(len(body)))
         self.end_headers()
         self.wfile.write(body)
+
+    def answer_empty(self, kind):
+        """A message of no bytes, which in protobuf is the one with nothing in it."""
+        self.send_response(200)
+        self.send_header('Content-Type', kind)
+        self.send_header('Content-Length', '0')
+        self.end_headers()
 
     def body(self):
         read = self.rfile.read(int(self.headers.get('Content-Length') or 0))
@@ -287,6 +318,10 @@ class Handler(BaseHTTPRequestHandler):
             return self.trial(parts[1:])
         if parts == ['version']:
             return self.answer({'major': '1', 'minor': '32', 'gitVersion': 'v1.32.0', 'platform': 'linux/amd64'})
+        if parts == ['openapi', 'v3']:
+            return self.answer({'paths': {}})
+        if parts == ['openapi', 'v2'] or parts[:1] == ['swagger-2.0.0.pb-v1']:
+            return self.answer_empty('application/com.github.proto-openapi.spec.v2.v1.0+protobuf')
         if parts == ['api']:
             return self.answer({'kind': 'APIVersions', 'versions': ['v1']})
         if parts == ['apis']:
@@ -334,7 +369,7 @@ class Handler(BaseHTTPRequestHandler):
         of_kind = lambda key: key[:2] == (group, self.plural) and (not namespace or key[2] == namespace)
         wanted = lambda key, item: of_kind(key) and labels_match(labels, item['metadata'].get('labels') or {}) and fields_match(fields, item)
         if self.query.get('watch') in ('1', 'true'):
-            return self.watch(wanted, of_kind)
+            return self.watch(wanted)
         items, version, token, left = self.store.page(wanted, int(self.query.get('limit') or 0), self.query.get('continue'))
         meta = {'resourceVersion': version}
         if token:
@@ -354,6 +389,10 @@ class Handler(BaseHTTPRequestHandler):
         given, kind = self.body(), (self.headers.get('Content-Type') or '').partition(';')[0]
         if self.command == 'PUT':
             return self.answer(self.store.update(key, lambda old: given))
+        if kind == 'application/apply-patch+yaml':
+            given.setdefault('metadata', {}).update({'name': key[3], **({'namespace': key[2]} if key[2] else {})})
+            is_new, item = self.store.apply(key, given)
+            return self.answer(item, 201 if is_new else 200)
         if kind == 'application/json-patch+json':
             return self.answer(self.store.update(key, lambda old: patched(old, given)))
         return self.answer(self.store.update(key, lambda old: merged(old, given)))
@@ -371,69 +410,87 @@ class Handler(BaseHTTPRequestHandler):
 
     def begin_watch(self, wanted):
         """From which version a watch tells changes, and what it tells first."""
-        version = self.query.get('resourceVersion') or ''
-        with self.store.lock:
-            first = [copy.deepcopy(item) for key, item in sorted(self.store.objects.items()) if wanted(key, item)]
+        version, store = self.query.get('resourceVersion') or '', self.store
+        with store.lock:
+            first = [item for key, item in sorted(store.objects.items()) if wanted(key, item)]
             if self.query.get('sendInitialEvents') == 'true' or version in ('', '0'):
-                return self.store.revision, first
+                return store.revision, first
+            if int(version) < store.compacted and store.is_gone_by_status:
+                raise store.gone_at(version)
             return int(version), []
 
-    def watch(self, wanted, of_kind):
+    def news(self, told, cuts, end):
+        """The changes since a version, after up to 5 seconds where there are none; none of one that is cut off; a refusal where the log has them no more."""
+        store = self.store
+        with store.lock:
+            if told >= store.compacted and store.cuts == cuts and not (store.log and store.log[-1][0] > told):
+                store.lock.wait(min(5, max(0.05, (end - datetime.datetime.now()).total_seconds())))
+            if store.cuts != cuts:
+                return []
+            if told < store.compacted:
+                raise store.gone_at(told)
+            return [it for it in store.log if it[0] > told]
+
+    def count_watch(self, change):
+        with self.store.lock:
+            self.store.opened += max(0, change)
+            self.store.watching += change
+
+    def watch(self, wanted):
+        cuts = self.store.cuts
+        told, first = self.begin_watch(wanted)
+        self.count_watch(1)
+        try:
+            self.tell_watch(wanted, told, first, cuts)
+        finally:
+            self.count_watch(-1)
+
+    def tell_watch(self, wanted, told, first, cuts):
+        store = self.store
         self.send_response(200)
         self.send_header('Content-Type', 'application/json')
         self.send_header('Transfer-Encoding', 'chunked')
         self.end_headers()
         self.close_connection = True
-        store = self.store
-        told, first = self.begin_watch(wanted)
-        cuts = store.cuts
         end = datetime.datetime.now() + datetime.timedelta(seconds=int(self.query.get('timeoutSeconds') or 3600))
         has_bookmarks = self.query.get('allowWatchBookmarks') in ('1', 'true')
         for item in first:
             self.write_line({'type': 'ADDED', 'object': item})
         if self.query.get('sendInitialEvents') == 'true' and has_bookmarks:
             self.bookmark(told, {'k8s.io/initial-events-end': 'true'})
-        seen = {(it['metadata'].get('namespace') or '', it['metadata']['name']) for it in first}
         while datetime.datetime.now() < end and store.cuts == cuts:
-            with store.lock:
-                if told < store.compacted:
-                    news = None
-                else:
-                    if not any(it[0] > told for it in store.log[-1:]):
-                        store.lock.wait(min(5, max(0.05, (end - datetime.datetime.now()).total_seconds())))
-                    news = [it for it in store.log if it[0] > told] if told >= store.compacted else None
-            if news is None:
-                status = Refused(410, 'Expired', f'too old resource version: {told} ({store.compacted})').status
-                return self.write_line({'type': 'ERROR', 'object': status})
-            for told, kind, key, item in news:
-                self.tell(wanted, of_kind, seen, kind, key, item)
+            try:
+                news = self.news(told, cuts, end)
+            except Refused as refused:
+                self.write_line({'type': 'ERROR', 'object': refused.status})
+                break
+            if store.cuts != cuts:
+                break
+            for told, key, before, after, item in news:
+                self.tell(wanted, key, before, after, item)
             if has_bookmarks and not news:
                 self.bookmark(told)
-        self.wfile.write(b'0\r\n\r\n')
+        if store.cuts == cuts or store.is_cut_clean:
+            self.wfile.write(b'0\r\n\r\n')
 
-    def tell(self, wanted, of_kind, seen, kind, key, item):
-        """A change, as one who watches a selection sees it: what leaves it counts as deleted."""
-        if not of_kind(key):
-            return
-        has, is_known = wanted(key, item) and kind != 'DELETED', key[2:] in seen
-        if has:
-            seen.add(key[2:])
-            self.write_line({'type': 'MODIFIED' if kind == 'MODIFIED' else 'ADDED', 'object': item})
-        elif is_known or kind == 'DELETED' and wanted(key, item) or kind == 'MODIFIED':
-            seen.discard(key[2:])
-            self.write_line({'type': 'DELETED', 'object': item})
+    def tell(self, wanted, key, before, after, item):
+        """A change, as one who watches a selection sees it: what comes into it is added, and what leaves it deleted."""
+        was, has = before is not None and wanted(key, before), after is not None and wanted(key, after)
+        if was or has:
+            self.write_line({'type': 'MODIFIED' if was and has else 'ADDED' if has else 'DELETED', 'object': item})
 
     # ---- Trials ----
 
     def trial(self, parts):
+        store = self.store
         if parts == ['cut']:
-            self.store.cut()
+            store.cut('end' in self.query)
         elif parts == ['compact']:
-            self.store.compact()
+            store.compact(self.query.get('as') == 'status')
         elif parts != ['state']:
             raise Refused(404, 'NotFound', 'no such trial')
-        with self.store.lock:
-            return self.answer({'revision': self.store.revision, 'objects': [item for _, item in sorted(self.store.objects.items())]})
+        with store.lock:
+            return self.answer({'revision': store.revision, 'opened': store.opened, 'watching': store.watching, 'gone': store.gone, 'objects': [item for _, item in sorted(store.objects.items())]})
 
 
 def main():
