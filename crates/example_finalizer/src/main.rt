@@ -1,147 +1,63 @@
-//! Volumes that are wiped before they go. The operator is run anew each second: it lists the volumes, reconciles each
-//! by a finalizer, and shuts down.
+//! Volumes that are wiped before they go. The operator watches them, and does what the finalizer of each asks for; a mounted
+//! volume is not wiped, and comes again a second later.
 #![tactic(auto)]
 
-use anyhow::{Result, bail};
-use kube_control::{
-    Action, Controller, DefaultBackoff, Finish, Handed, NoRelated, Recorder, Shutdown, Turn,
-    WatchRoot,
-};
-use kube_final::{Event, Finalizer, finalizer};
-use kube_meta::{
-    ApiResource, DynamicObject as Volume, List, Moment, ObjectRef, Polled, Text, read_object,
-};
-use kube_server::{Conn, Server};
-use kube_watch::Config;
-use serde_json::Value;
+use anyhow::{Error, Result, anyhow, bail};
+use kube_runtime::api::{ApiResource, DynamicObject as Volume, Moment, ObjectApi, Polled};
+use kube_runtime::controller::{Action, Controller, Driver, Reconcile};
+use kube_runtime::finalizer::{Event, Finalizer};
+use kube_runtime::server::{Conn, Server};
+use kube_runtime::watcher::Config;
 use std::alloc::Global;
 use std::sync::Arc;
-use thiserror::Error;
 
 const SECOND: u64 = 1_000_000_000;
 
-/// Until when the logs are mounted.
-const MOUNTED: Moment = Moment(3 * SECOND);
+#[derive(Drop)]
+struct Wiper;
 
-#[derive(Debug, Drop, Error)]
-enum WipeFault {
-    #[error("the volume is mounted")]
-    Mounted,
-}
-
-type Fault = finalizer::Error<WipeFault>;
-
-fn kind(alloc: Global) -> Result<Arc<ApiResource>> {
-    let resource = ApiResource {
-        group: Text::new(alloc, "example.dev")?,
-        version: Text::new(alloc, "v1")?,
-        api_version: Text::new(alloc, "example.dev/v1")?,
-        kind: Text::new(alloc, "Volume")?,
-        plural: Text::new(alloc, "volumes")?,
-    };
-    Ok(Arc::new(alloc, resource)?)
-}
-
-/// A server that holds the logs.
-fn server(alloc: Global) -> Result<Server> {
-    let logs = Value::from_str(alloc, r#"{"metadata":{"name":"logs"}}"#)?;
-    let mut server = Server::new(alloc, kind(alloc)?);
-    server.put(alloc, read_object(alloc, logs)?)?;
-    Ok(server)
-}
-
-/// Does what a volume owes.
-fn work(rt: &impl Print, owed: &Event<Volume>, now: Moment) -> Result<Result<Action, WipeFault>> {
-    match owed {
-        Event::Apply(_) => println!(rt; "  the volume is formatted")?,
-        Event::Cleanup(_) if now < MOUNTED => return Ok(Err(WipeFault::Mounted)),
-        Event::Cleanup(_) => println!(rt; "  the volume is wiped")?,
-    }
-    Ok(Ok(Action::await_change()))
-}
-
-/// Reconciles a volume: does what it owes, and then adds the finalizer or takes it away.
-fn reconcile(
-    rt: &impl Print,
-    alloc: Global,
-    server: &mut Server,
-    handed: &Handed<Volume>,
-    now: Moment,
-) -> Result<Finish<Volume, Fault>> {
-    let mut guard = Finalizer::new(alloc, "example.dev/wipe", handed.object.clone()?)?;
-    let branch = match guard.event()? {
-        Some(owed) => Some(work(rt, &owed, now)?),
-        None => None,
-    };
-    let mut objects = server.objects_in(alloc, None)?;
-    let Polled::Ready(outcome) = guard.poll(alloc, &mut objects, branch, now)? else {
-        bail!("the server is always ready");
-    };
-    let reference = handed.reference.copy(alloc)?;
-    Ok(Finish { reference, outcome })
-}
-
-/// Takes a turn, in which the API may be asked three times, and prints what it came to.
-fn take_turn(
-    rt: &impl Print,
-    alloc: Global,
-    volumes: &mut Controller<WatchRoot<Conn>, NoRelated, DefaultBackoff>,
-    finishes: List<Finish<Volume, Fault>>,
-    shutdown: Shutdown,
-    at: Moment,
-) -> Result<Recorder<Volume>> {
-    let turn = Turn {
-        at,
-        budget: List::from(vec![in alloc; 3]?),
-        finishes,
-        reload: false,
-        on: List::new(alloc),
-        shutdown,
-        show: false,
-    };
-    let (mut recorder, turns) = (Recorder::new(alloc), vec![in alloc; turn]?);
-    let policy = |_: Arc<Volume>, _: &Fault, _: Arc<()>| Action::await_change();
-    let trace = volumes.run(alloc, &mut recorder, &policy, Arc::new(alloc, ())?, turns)?;
-    for record in Vec::from(trace.records) {
-        for result in record.into_results(alloc)? {
-            match result {
-                Ok((volume, action)) => println!(rt; "  {volume}: {action:?}")?,
-                Err(error) => println!(rt; "  {error}")?,
-            }
+impl Reconcile<Volume, Server, Error> for Wiper {
+    fn reconcile(
+        &mut self,
+        alloc: Global,
+        volume: Arc<Volume>,
+        volumes: &mut Server,
+        now: Moment,
+    ) -> Result<Action> {
+        let mut guard = Finalizer::new(alloc, "example.dev/wipe", volume)?;
+        let branch = match guard.event()? {
+            Some(Event::Cleanup(_)) if now.0 < 4 * SECOND => Some(Err(anyhow!("it is mounted"))),
+            owed => owed.map(|_| Ok(Action::await_change())),
+        };
+        match guard.poll(alloc, &mut volumes.objects_in(alloc, None)?, branch, now)? {
+            Polled::Ready(outcome) => Ok(outcome?),
+            Polled::NotReady => bail!("the server is always ready"),
         }
     }
-    Ok(recorder)
-}
 
-/// Runs the operator once.
-fn operate(rt: &impl Print, alloc: Global, server: &mut Server, now: Moment) -> Result<()> {
-    let conn = Conn::new(alloc, server)?;
-    let mut volumes = Controller::new_with(alloc, conn, Config::default(), kind(alloc)?)?;
-    let recorder = take_turn(rt, alloc, &mut volumes, List::new(alloc), Shutdown::No, now)?;
-    let mut finishes = List::new(alloc);
-    for handed in recorder.hand_overs() {
-        finishes.push(reconcile(rt, alloc, server, handed, now)?)?;
+    fn error_policy(&self, _volume: &Arc<Volume>, _fault: &Error) -> Action {
+        Action::requeue(SECOND)
     }
-    take_turn(rt, alloc, &mut volumes, finishes, Shutdown::Graceful, now)?;
-    Ok(())
 }
 
 fn main(rt: HostRuntime) -> Result<()> {
     let alloc = rt.alloc();
-    let mut server = server(alloc)?;
-    let logs = ObjectRef::new_with(alloc, "logs", kind(alloc)?)?;
-    for second in 0..5 {
-        println!(rt; "{second} s")?;
+    let volume = ApiResource::shared(alloc, "example.dev", "v1", "Volume", "volumes")?;
+    let mut volumes = Server::new(alloc, volume.clone()?);
+    volumes.put(alloc, Volume::new(alloc, "logs", &volume)?)?;
+    let conn = Conn::new(alloc, &volumes)?;
+    let controller = Controller::new_with(alloc, conn, Config::default(), volume)?;
+    let mut driver: Driver<Conn, _, _, _, Error> = Driver::new(alloc, controller, Wiper);
+    for second in 0..7 {
         let now = Moment(second * SECOND);
         if second == 2 {
-            server.request_delete(alloc, &logs, now)?;
+            let _gone = volumes.objects_in(alloc, None)?.delete(alloc, "logs", now)?;
         }
-        operate(&rt, alloc, &mut server, now)?;
-        for volume in server.objects(alloc)? {
-            let meta = &volume.metadata;
+        *driver.root_api() = Conn::new(alloc, &volumes)?;
+        if let Some(step) = driver.step(alloc, &mut volumes, now)? {
             println!(rt;
-                "  held, with {:?}, deleted {:?}",
-                meta.finalizers, meta.deletion_timestamp
+                "{second} s: {step}, {} held",
+                volumes.objects(alloc)?.len()
             )?;
         }
     }

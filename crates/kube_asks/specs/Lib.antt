@@ -8,3 +8,4 @@ pub mod Roots
 pub mod Mapped
 pub mod Determined
 pub mod Lending
+pub mod Waking

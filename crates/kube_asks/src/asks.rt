@@ -14,9 +14,12 @@ ghost use Rattle.kube_turn.specs.Views.{exchange_of, prioritized_of};
 ghost use Rattle.kube_asks.specs.Sources.{is_stream, with_priority};
 ghost use Rattle.kube_asks.specs.Kept.{is_marked, with_mark, may_ask_by, is_quiet_by, has_budget_by, stop_by, noted, spent_at, pause_noted, marked_where, is_stream_end as ended, is_root_queue, total, asked_where, reset_where};
 ghost use Rattle.kube_asks.specs.Asking.{AskStands, IsNextAsked, IsWorldOf, Asking, asking_at_first, asking_begun, with_asked, SourcesStand, of_source, with_pause, with_marks, set_at, with_priority_of, IsPolledAt, IsPolledWith, IsPlacePolledWith, IsBrokenAt, IfUnnamed};
+ghost use Rattle.kube_asks.specs.Waking.{end_of, pause_end};
 
+use crate::related_watch::RelatedWatch;
 use crate::root::RootSource;
 use crate::set::RelatedSet;
+use crate::sets::{Beside, One};
 use crate::watch_root::WatchRoot;
 use kube_api::ApiMode;
 use kube_backoff::Backoff;
@@ -349,6 +352,17 @@ impl<R: RootSource, S: RelatedSet<R::Object>, B: Backoff> Asks<R, S, B> {
         ensures { result ≡ (self.now.kept.pause.given_up || nat_lt now.0 self.now.kept.pause.over_at) }
     {
         self.given_up || now < self.over_at
+    }
+
+    /// When the pause ends that holds the asks now, where one does.
+    fn end_of_pause(&self, now: Moment) -> Option<Moment>
+        ensures { option_map (λ m. m.0) result ≡ end_of now.0 self.now.kept.pause }
+    {
+        if !self.given_up && now < self.over_at {
+            Some(self.over_at)
+        } else {
+            None
+        }
     }
 
     /// Asks the backoff, after an error.
@@ -705,6 +719,14 @@ impl<R: RootSource, S: RelatedSet<R::Object>, B: Backoff> Asks<R, S, B> {
         self.begin_turn(budget)
     }
 
+    /// How many sources there are: the root and the related ones.
+    pub fn sources(&self) -> u32
+        requires { length (S.feeds self.now.related) + 1 < 2 ^ 32 }
+        ensures { result ≡ length (S.feeds self.now.related) + 1 }
+    {
+        self.count()
+    }
+
     /// Whether the backoff has given up, or the end of a queue counts as that: then nothing is asked any more.
     pub fn given_up(&self) -> bool
         ensures { (w : World R.Object B) (budget : List ℕ) (before mine : List (Dated R.Object))
@@ -712,6 +734,16 @@ impl<R: RootSource, S: RelatedSet<R::Object>, B: Backoff> Asks<R, S, B> {
             → result ≡ gave_up w (before ++ mine) }
     {
         self.has_given_up()
+    }
+
+    /// When the pause ends that holds the asks at a moment: from then on sources are asked again. None where no pause does, and
+    /// where asking was given up.
+    pub fn paused_until(&self, now: Moment) -> Option<Moment>
+        ensures { (w : World R.Object B) (budget : List ℕ) (before mine : List (Dated R.Object))
+            → AskStands w (R.stands self.now.root) (S.stands self.now.related) (length (S.feeds self.now.related)) budget before mine self.now.kept
+            → option_map (λ m. m.0) result ≡ pause_end w now.0 (before ++ mine) }
+    {
+        self.end_of_pause(now)
     }
 
     /// Whether an ask answered a fault: then every further one answers `Spent`.
@@ -788,5 +820,20 @@ impl<A: ApiMode, S, B> Asks<WatchRoot<A>, S, B> {
         ensures value { result.now ≡ api_of self.old.root.watcher }
     {
         self.root.api_mut()
+    }
+}
+
+impl<R, S, A: ApiMode, M, B> Asks<R, Beside<S, One<RelatedWatch<A, M>>>, B> {
+    ghost use Rattle.std.specs.Borrow.{sem};
+    ghost use Rattle.kube_watch.specs.Stands.{api_of};
+    ghost use Rattle.kube_asks.specs.Lending.{LendsLastApi};
+
+    /// The API of the last related source. All else is as before.
+    pub fn last_api(&mut self) -> &mut A
+        ensures* lends { sem 𝓛 (LendsLastApi A.row M.row A.Value.row A.Value.DynamicType.row A.ApiMode A.Value.Resource A.Value.DynamicType.Hash R.row S.row B.row self.entry result) }
+        ensures value { result.now ≡ api_of self.old.related.rest.0.watcher }
+    {
+        let last = &mut self.related.rest;
+        last.0.api_mut()
     }
 }

@@ -69,6 +69,23 @@ impl<A: ApiMode, M> RelatedWatch<A, M> {
     }
 }
 
+impl<A: ApiMode, M> RelatedWatch<A, M> {
+    ghost use Rattle.std.specs.Borrow.{sem};
+    ghost use Rattle.std.specs.Prelude.{List};
+    ghost use Rattle.kube_model.specs.History.{Dated};
+    ghost use Rattle.kube_watch.specs.Stands.{StandsFor, api_of};
+    ghost use Rattle.kube_asks.specs.Lending.{LendsRelatedApi, with_mapped_api};
+
+    /// The API. What the source stands for is as before.
+    pub fn api_mut(&mut self) -> &mut A
+        ensures* lends { sem 𝓛 (LendsRelatedApi A.row M.row A.Value.row A.Value.DynamicType.row A.ApiMode A.Value.Resource A.Value.DynamicType.Hash self.entry result) }
+        ensures value { result.now ≡ api_of self.old.watcher }
+        ensures stands { (own : List (Dated A.Value)) (api : A) → StandsFor own self.old.watcher → StandsFor own (with_mapped_api self.old api).watcher }
+    {
+        self.watcher.api_mut()
+    }
+}
+
 impl<K: Resource, A: ApiMode, M: Mapper<A::Value, K>> Related<K> for RelatedWatch<A, M> {
     ghost use Rattle.std.specs.Prelude.{Some};
     ghost use Rattle.kube_meta.specs.Keys.{is_named};

@@ -10,3 +10,5 @@ pub mod Stops
 pub mod Determined
 pub mod OneTrace
 pub mod OneWay
+pub mod Lending
+pub mod Waking

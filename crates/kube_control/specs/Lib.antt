@@ -5,3 +5,5 @@ pub mod Determined
 pub mod Errors
 pub mod Histories
 pub mod Runs
+pub mod Lending
+pub mod Waking

@@ -5,11 +5,13 @@ use kube_core::Core;
 use kube_meta::{Moment, Resource};
 use std::marker::Model;
 
+pub mod apis;
 pub mod build;
 pub mod related;
 pub mod run;
 pub mod streams;
 mod turns;
+pub mod waking;
 
 /// A controller: a root whose objects it reconciles, a set of related sources whose objects are mapped to these, and a
 /// backoff. It goes turn by turn.

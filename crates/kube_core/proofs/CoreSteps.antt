@@ -117,7 +117,7 @@ module _ {K D : Type 0} (type_of : D → ObjectType) (meta : K → ObjectMeta) (
 
     -- What a take replies.
 
-    ready-so : (not c.is_shut && c.writer.kept.is_ready) ≡ (is_ready (root_answers es) && not (was_shut es))
+    pub ready-so : (not c.is_shut && c.writer.kept.is_ready) ≡ (is_ready (root_answers es) && not (was_shut es))
     ready-so = ap (λ b. not b && c.writer.kept.is_ready) s.shut ∙ (ap (λ b. not (was_shut es) && b) s.stored.ready ∙ and-turned (not (was_shut es)) (is_ready (root_answers es)))
 
     pub next-none : (not c.is_shut && c.writer.kept.is_ready) ≡ false → next_taken core es ≡ None

@@ -8,3 +8,4 @@ pub mod Requesting
 pub mod StableSorts
 pub mod StoredSteps
 pub mod TakenSteps
+pub mod Waking

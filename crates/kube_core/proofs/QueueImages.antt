@@ -35,7 +35,7 @@ module _ {A B : Type 0} (f : A → B) where
       go None = refl
       go (Some n) = refl
 
-  messages-image : (es : List (QueueEvent A)) → filter_map requested_message (events_image f es) ≡ map f (filter_map requested_message es)
+  pub messages-image : (es : List (QueueEvent A)) → filter_map requested_message (events_image f es) ≡ map f (filter_map requested_message es)
   messages-image [] = refl
   messages-image (Requested q ∷ es) = ap (λ ms. f q.message ∷ ms) (messages-image es)
   messages-image (Settled now ∷ es) = messages-image es
@@ -112,7 +112,7 @@ module _ {A B : Type 0} (f : A → B) where
     any-image x [] = refl
     any-image x (y ∷ ys) = ap (λ b. b || list_any (λ z. same z (f x)) (map f ys)) (keeps y x) ∙ ap (λ b. own y x || b) (any-image x ys)
 
-    distinct-image : (xs : List A) → distinct same (map f xs) ≡ map f (distinct own xs)
+    pub distinct-image : (xs : List A) → distinct same (map f xs) ≡ map f (distinct own xs)
     distinct-image [] = refl
     distinct-image (x ∷ xs) =
         ap (λ b. cond b (distinct same (map f xs)) (f x ∷ distinct same (map f xs))) (any-image x xs)

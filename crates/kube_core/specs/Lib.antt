@@ -2,3 +2,4 @@
 pub mod Images
 pub mod Cores
 pub mod Pendings
+pub mod Waking

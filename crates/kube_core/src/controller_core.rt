@@ -21,6 +21,7 @@ ghost use Rattle.kube_history.specs.TurnCalls.{with_requests};
 ghost use Rattle.kube_turn.specs.Views.{exchange_of, prioritized_of, taken_of};
 ghost use Rattle.kube_core.specs.Pendings.{Stands, handed_over};
 ghost use Rattle.kube_core.specs.Cores.{HasSameHandles, IsOfType, StandsFor, TellsNamed, of_root, with_room};
+ghost use Rattle.kube_core.specs.Waking.{core_wakes, core_with_stale};
 
 use crate::pending::Pending;
 use crate::requests::{bulk_requests, request_each, requeue};
@@ -326,6 +327,23 @@ impl<K: Resource> Core<K> {
         let taken = take_next(alloc, &mut self.pending, self.writer.cache())?;
         self.clock = now;
         Ok(taken)
+    }
+
+    /// The earliest moment at which a settle and a take would find something, where nothing else comes before them; none
+    /// where only an answer or a finish can bring something, and after shutdown. It takes no memory.
+    ///
+    /// It is the clock where something waits that could be taken at once. A moment before the clock counts as the clock.
+    pub fn wakes_at(&mut self) -> Option<Moment>
+        ensures moment { (core : CoreWorld K) (es : List (CoreEvent K)) → StandsFor K.type_of K.meta_of core es self.old
+            → option_map (λ m. m.0) result ≡ core_wakes core es }
+        ensures stands { (core : CoreWorld K) (es : List (CoreEvent K)) → StandsFor K.type_of K.meta_of core es self.old
+            → StandsFor K.type_of K.meta_of core es self.new }
+        ensures rest { self.new ≡ core_with_stale self.old self.new.pending.schedule.stale }
+    {
+        if !self.may_take() {
+            return None;
+        }
+        self.pending.take_due(self.clock)
     }
 
     /// Asks for the shutdown: nothing is requested or taken from now on. It takes no memory.

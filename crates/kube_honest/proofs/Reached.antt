@@ -5,7 +5,7 @@ use Rattle.kube_meta.specs.declared.metadata.ObjectMeta.{ObjectMeta}
 use Rattle.kube_model.specs.Raw.{Raw, RawCall, ListAsked, WatchAsked, NextAsked, Waits}
 use Rattle.kube_server.specs.History.{Change, IsLater}
 use Rattle.kube_server.specs.Honest.{IsHonest}
-use Rattle.kube_server.specs.Connections.{Connection, Act, Calls, acted, fresh, left_by, polled, selected_by, IsMove}
+use Rattle.kube_server.specs.Connections.{Connection, Act, Calls, Feeds, acted, fresh, left_by, polled, selected_by, IsMove}
 use Rattle.kube_server.specs.Readers.{IsToldAll}
 use Rattle.kube_server.specs.Standing.{Stands}
 use Rattle.kube_server.proofs.HonestLemmas.{IsHonest-more}
@@ -62,3 +62,14 @@ pub reached-all : {V : Type 0} (meta : V → ObjectMeta) (changes : List (Change
 reached-all meta changes compacted acts c history by small whole waits =
     let short : length c.changes < 2 ^ 64 = subst (λ hs. length hs < 2 ^ 64) (sym whole) small in
     subst (λ hs. IsToldAll meta (selected_by meta) hs c.talk) whole (told-all meta c (reached-stands meta changes compacted acts c by short) waits)
+-- so does a feed
+pub reached-fed : {V : Type 0} (meta : V → ObjectMeta) (changes : List (Change V)) (compacted : ℕ) (c d : Connection V)
+    → IsReached meta changes compacted c → IsLater c.changes d.changes c.compacted d.compacted → d ≡ record c { changes = d.changes; compacted = d.compacted } → IsReached meta changes compacted d
+reached-fed {V} meta changes compacted c d r later fed =
+    let feeds : Act V = Feeds later.more d.compacted in
+    record {
+      acts = r.acts ++ feeds ∷ [];
+      by = fed
+          ∙ (ap (λ cs. record c { changes = cs; compacted = d.compacted }) later.goes_on
+          ∙ (ap (λ x. acted meta x feeds) r.by ∙ sym (fold-append (acted meta) (fresh changes compacted) r.acts (feeds ∷ []))));
+    }

@@ -92,3 +92,13 @@ pub fn connected_controllers_store_states<S: RelatedSet<DynamicObject>, B: Backo
         → owed (Watched settings) (exchanges_of 0 (exchanges h)) ≡ Next → polled meta_of (api_of c.asks.root.watcher) ≡ Waits
         → IsStateAt w.key meta_of (selected_by meta_of) history (selection_by settings) (length history) (store_of w.key (exchanges_of 0 (exchanges h))) }
 {}
+
+/// A connection that a controller owns may be fed, as `Controller::root_api` lends it and `Conn::feed` feeds it: it stays one that
+/// was made by calls and copies of the log, and has told what it had told. So its talk is honest to its new log
+/// (kube_server's law `talks_are_honest`), and what the controller stores over it is a state of that log's history, as before.
+pub fn fed_connections_stay_honest()
+    ensures { (c d : Connection DynamicObject) (changes : List (Change DynamicObject)) (compacted : ℕ) (acts : List (Act DynamicObject))
+        → c ≡ fold (acted meta_of) (fresh changes compacted) acts
+        → IsLater c.changes d.changes c.compacted d.compacted → d ≡ record c { changes = d.changes; compacted = d.compacted }
+        → (d.talk ≡ c.talk) × ((more : List (Act DynamicObject)) × (d ≡ fold (acted meta_of) (fresh changes compacted) more)) }
+{}

@@ -10,3 +10,4 @@ pub mod Places
 pub mod Reading
 pub mod Writing
 pub mod Numbers
+pub mod Daily

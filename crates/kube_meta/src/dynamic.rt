@@ -48,6 +48,27 @@ impl ApiResource {
     }
 }
 
+impl ApiResource {
+    ghost use Rattle.kube_meta.specs.Reference.{api_version as joined_version};
+    ghost use Rattle.std.specs.Arc.{arc_value};
+
+    /// The same, to be shared: what is known of the type of dynamic objects.
+    ///
+    /// Errors: `NoMemory`.
+    pub fn shared(
+        alloc: Global,
+        group: &str,
+        version: &str,
+        kind: &str,
+        plural: &str,
+    ) -> Result<Arc<ApiResource>, NoMemory>
+        ensures { IfOk result (λ a. arc_value a ≡ record { group = group.now; version = version.now; api_version = joined_version group.now version.now; kind = kind.now; plural = plural.now }) }
+    {
+        let resource = ApiResource::new(alloc, group, version, kind, plural)?;
+        Ok(Arc::new(alloc, resource)?)
+    }
+}
+
 impl TypeInfo for Arc<ApiResource> {
     fn share(&self, _alloc: Global) -> Result<Arc<ApiResource>, NoMemory> {
         Ok(self.clone()?)
@@ -67,6 +88,59 @@ pub struct DynamicObject {
 impl DynamicObject {
     ghost use Rattle.kube_meta.specs.Reading.{seen_object};
     ghost use Rattle.kube_meta.specs.Resources.{bare_object};
+    ghost use Rattle.kube_meta.specs.Daily.{in_namespace, named_object};
+
+    /// An object of this name and type, in no namespace, of which nothing else is there (`kube::core::DynamicObject::new`).
+    ///
+    /// Errors: `NoMemory`.
+    pub fn new(alloc: Global, name: &str, resource: &ApiResource) -> Result<DynamicObject, NoMemory>
+        ensures { IfOk result (λ o. o ≡ named_object name.now resource.now) }
+    {
+        let types = TypeMeta {
+            api_version: resource.api_version.copy(alloc)?,
+            kind: resource.kind.copy(alloc)?,
+        };
+        let metadata = ObjectMeta {
+            name: Some(Text::new(alloc, name)?),
+            ..ObjectMeta::empty()
+        };
+        Ok(DynamicObject {
+            types: Some(types),
+            metadata,
+            content: Value::Null,
+        })
+    }
+
+    /// The same in this namespace (`kube::core::DynamicObject::within`).
+    ///
+    /// Errors: `NoMemory`; the object is dropped.
+    pub fn within(self, alloc: Global, namespace: &str) -> Result<DynamicObject, NoMemory>
+        ensures { IfOk result (λ o. o ≡ in_namespace namespace.now self) }
+    {
+        let namespace = Some(Text::new(alloc, namespace)?);
+        let DynamicObject {
+            types,
+            metadata,
+            content,
+        } = self;
+        let metadata = ObjectMeta {
+            namespace,
+            ..metadata
+        };
+        Ok(DynamicObject {
+            types,
+            metadata,
+            content,
+        })
+    }
+
+    /// The same with these members beside its types and metadata (`kube::core::DynamicObject::data`). A value that is no object
+    /// counts as empty.
+    pub fn data(self, content: Value) -> DynamicObject
+        ensures { result ≡ record self { content = content } }
+    {
+        DynamicObject { content, ..self }
+    }
 
     /// An object of which the metadata alone is there.
     pub fn bare(metadata: ObjectMeta) -> DynamicObject

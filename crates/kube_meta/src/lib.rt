@@ -3,6 +3,7 @@
 
 pub mod action;
 pub mod dynamic;
+pub mod from_text;
 pub mod laws;
 pub mod list;
 pub mod memory;
@@ -14,6 +15,7 @@ pub mod object_ref;
 pub mod poll;
 pub mod reading;
 pub mod resource;
+pub mod resource_ext;
 pub mod selector;
 pub mod text;
 pub mod text_map;
@@ -22,6 +24,7 @@ pub mod writing;
 
 pub use action::Action;
 pub use dynamic::{ApiResource, DynamicObject};
+pub use from_text::TextFault;
 pub use list::List;
 pub use memory::NoMemory;
 pub use metadata::{ObjectMeta, OwnerReference, PartialObjectMeta, TypeMeta};
@@ -32,6 +35,7 @@ pub use object_ref::{Extra, Lookup, ObjectRef, ObjectReference, RefError, api_ve
 pub use poll::{Next, Polled};
 pub use reading::read_object;
 pub use resource::{Resource, TypeInfo};
+pub use resource_ext::ResourceExt;
 pub use selector::{Expression, Selector};
 pub use text::Text;
 pub use text_map::TextMap;

@@ -1,5 +1,6 @@
 //! Values from outside, and each public call once.
 
+mod daily;
 mod objects;
 mod references;
 mod selectors;

@@ -3,6 +3,7 @@
 
 mod asks;
 pub mod counting;
+mod due;
 pub mod future_hash_map;
 mod held;
 pub mod hold;

@@ -51,6 +51,8 @@ impl<T: Eq + Hash> Model for Scheduler<T> {
 
 impl<T: Eq + Hash + Drop> Scheduler<T> {
     ghost use Rattle.kube_sched.specs.Schedule.{NoneParked, ParkedFail, ParksFailing, ParksSame, Stands, is_parked, passes_unparked, with_request, with_settle, with_take, IsFirst, waiting_messages, held_len, frozen_by, sets_anew};
+    ghost use Rattle.std.specs.Prelude.{option_map};
+    ghost use Rattle.kube_sched.specs.Due.{first_due};
 
     /// A scheduler that holds nothing. A message is held for `debounce` nanoseconds longer than asked.
     pub fn new(alloc: Global, debounce: u64) -> Scheduler<T>
@@ -234,6 +236,19 @@ impl<T: Eq + Hash + Drop> Scheduler<T> {
         ensures held { held_len self.new ≡ held_len self.old }
     {
         self.times.settle(now, steps);
+    }
+
+    /// The time at which the first message is due that doesn't wait yet; none where each waits. It takes no memory.
+    ///
+    /// What is held stays. Places of the heap that were left by entries that were set anew are dropped where they stand before
+    /// it: so `stale` may fall, and all such looks together take no longer than the requests that left these places.
+    pub fn first_due(&mut self) -> Option<Moment>
+        ensures due { (events : List (QueueEvent T)) → Stands T.eq self.old events → option_map (λ m. m.0) result ≡ first_due T.eq self.old.debounce events }
+        ensures stands { (events : List (QueueEvent T)) → Stands T.eq self.old events → Stands T.eq self.new events }
+        ensures stale { self.new.stale ≤ self.old.stale }
+        ensures rest { self.new ≡ record self.old { stale = self.new.stale } }
+    {
+        self.times.first_time()
     }
 
     /// Takes the first waiting message that passes: of those with the greatest priority the first that was due. It looks at those

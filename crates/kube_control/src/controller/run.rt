@@ -1,6 +1,6 @@
 //! Runs of a controller over turns.
 
-ghost use Rattle.std.specs.Prelude.{◌≡◌, ◌<◌, ◌+◌, ◌^◌, ◌++◌, [], Err, List, true, false, IfErr, IfOk, IsErrAnd, OnOk, length, map, take};
+ghost use Rattle.std.specs.Prelude.{◌≡◌, ◌<◌, ◌≤◌, ◌+◌, ◌^◌, ◌++◌, [], Err, List, true, false, IfErr, IfOk, IsErrAnd, OnOk, length, map, take};
 ghost use Rattle.std.specs.Arc.{arc_value};
 ghost use Rattle.std.specs.List.{AllByRecursion};
 ghost use Rattle.kube_model.specs.World.{World, priority_of};
@@ -62,6 +62,12 @@ impl<A: ApiMode, S: RelatedSet<A::Value>, B: Backoff> Controller<WatchRoot<A>, S
         requires related { S.can_poll self.old.asks.related }
         requires few { length turns.items < 2 ^ 32 }
         ensures related { S.can_poll self.new.asks.related }
+
+        // Its sources are fed as before: so there are as many, and it may run again.
+        ensures feeds { S.feeds self.new.asks.related ≡ S.feeds self.old.asks.related }
+
+        // There is a record for each turn at most.
+        ensures short { IfOk result (λ r. length r.records ≤ length turns.items) }
 
         // The answer is the one trace of the turns, with what the error policy answered, and the controller stands for the
         // history with it.

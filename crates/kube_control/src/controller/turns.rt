@@ -184,6 +184,7 @@ where
     requires none { records.old.items ≡ [] }
     ensures short { length records.new.items ≤ length turns.items }
     ensures related { S.can_poll controller.new.asks.related }
+    ensures feeds { S.feeds controller.new.asks.related ≡ S.feeds controller.old.asks.related }
     ensures handles { HasSameHandles controller.old.core.writer controller.new.core.writer }
     ensures spent { controller.new.is_spent ≡ controller.old.is_spent }
     ensures ran { OnOk result ((w : World R.Object B) (h : List (Step R.Object)) → IsWatching R.RootSource S.RelatedSet B.Backoff R.Object.Resource w h controller.old

@@ -26,6 +26,9 @@ returns-in-Ok-clause-trace g c =
     let ran = c.in-Ok.ensures.ran w h k in
     (ran.traced, stands-is _ g.S.RelatedSet g.B.Backoff g.A.Value.Resource w (h ++ steps (turns_of g.A.Value.Resource.type_of c.args.turns.items) (map unread (records_of g.A.Value.Resource.type_of c.take_turns.new.records.items))) c.take_turns.new.controller ran.watching))
 
+pub returns-in-Ok-clause-short : goal.returns-in-Ok-clause-short
+returns-in-Ok-clause-short g c = rw c.trace_of-in-Ok.ensures c.take_turns.ensures.short
+
 pub returns-in-Ok-clause-named : goal.returns-in-Ok-clause-named
 returns-in-Ok-clause-named g c =
     rw c.trace_of-in-Ok.ensures (λ w h s.

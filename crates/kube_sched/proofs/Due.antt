@@ -1,0 +1,152 @@
+-- The first message that is due.
+use Rattle.std.proofs.Common.{◌≡◌, ℕ, ◌<◌, ◌≤◌, min, Bool, true, false, List, [], ◌∷◌, ◌++◌, map, length, Option, Some, None, refl, sym, ap, subst, ◌∙◌, arith, inl, inr, ◌⊎◌, Contains}
+use Rattle.std.specs.Prelude.{nat_eq, slice_get}
+use Rattle.std.specs.List.{AllByRecursion, fold, list_any}
+use Rattle.std.specs.Cmp.{IsEquivalence}
+use Rattle.std.specs.Ordering.{is_lt}
+use Rattle.std.specs.declared.cmp.Reverse.{Reverse}
+use Rattle.std.specs.BinaryHeap.{heap_items}
+use Rattle.std.proofs.lemmas.Bool.{false≢true}
+use Rattle.std.proofs.lemmas.List.{map-append}
+use Rattle.std.proofs.lemmas.List.Elements.{All-contains, All-from_recursion, Contains-append_left, Contains-push}
+use Rattle.kube_model.specs.Queue.{QueueEvent, Entry as PlainEntry}
+use Rattle.kube_sched.specs.declared.held.Held.{Held}
+use Rattle.kube_sched.specs.declared.timetable.Place.{Place}
+use Rattle.kube_sched.specs.declared.timetable.Timetable.{Timetable}
+use Rattle.kube_sched.specs.Due.{IsTopOf, first_due, times_of}
+use Rattle.kube_sched.specs.Entries.{scheduled}
+use Rattle.kube_sched.specs.Least.{least}
+use Rattle.kube_sched.specs.Schedule.{Schedule, Stands, held_of}
+use Rattle.kube_sched.specs.Tables.{Row, at, held_in, if_comes, place_of, place_order, number_of}
+use Rattle.kube_sched.specs.Timetables.{rows_of, scheduled_of, IsKept}
+use Rattle.kube_sched.proofs.Rows.{some-is}
+use Rattle.kube_sched.proofs.Indexing.{none-at}
+use Rattle.kube_sched.proofs.Timetables.{comes-row, numbered, order-least, part, scheduled-part}
+use Rattle.kube_sched.proofs.Kept.{kept-few}
+
+-- Least numbers.
+
+least-from : (m : ℕ) (ns : List ℕ) → AllByRecursion (λ n. m ≤ n) ns → fold min m ns ≡ m
+least-from m [] h = refl
+least-from m (n ∷ ns) h =
+    let l = h.0 in
+    let e : min m n ≡ m = omega (arith, l) in
+    ap (λ k. fold min k ns) e ∙ least-from m ns h.1
+
+least-among : (m a : ℕ) (xs ys : List ℕ) → m ≤ a → AllByRecursion (λ n. m ≤ n) xs → AllByRecursion (λ n. m ≤ n) ys → fold min a (xs ++ m ∷ ys) ≡ m
+least-among m a [] ys l h k =
+    let e : min a m ≡ m = omega (arith, l) in
+    ap (λ j. fold min j ys) e ∙ least-from m ys k
+least-among m a (x ∷ xs) ys l h k = let j = h.0 in least-among m (min a x) xs ys (omega (arith, l, j)) h.1 k
+
+-- a number is the least where the others are not below it
+pub least-part : (m : ℕ) (xs ys : List ℕ) → AllByRecursion (λ n. m ≤ n) xs → AllByRecursion (λ n. m ≤ n) ys → least (xs ++ m ∷ ys) ≡ Some m
+least-part m [] ys h k = ap Some (least-from m ys k)
+least-part m (x ∷ xs) ys h k = ap Some (least-among m x xs ys h.0 h.1 k)
+
+fold-below : (m a : ℕ) (ns : List ℕ) → m < fold min a ns → (m < a) × AllByRecursion (λ n. m < n) ns
+fold-below m a [] h = (h, tt)
+fold-below m a (n ∷ ns) h =
+    let r = fold-below m (min a n) ns h in
+    let l = r.0 in
+    (omega (arith, l), (omega (arith, l), r.1))
+
+-- what is below the least of numbers is below each
+pub below-least : (m k : ℕ) (ns : List ℕ) → least ns ≡ Some k → m < k → AllByRecursion (λ n. m < n) ns
+below-least m k [] e l = tt
+below-least m k (n ∷ ns) e l =
+    let r = fold-below m n ns (subst (λ j. m < j) (sym (some-is e)) l) in
+    (r.0, r.1)
+
+-- and where there is no least there are none
+pub no-least : (ns : List ℕ) → least ns ≡ None → (m : ℕ) → AllByRecursion (λ n. m < n) ns
+no-least [] e m = tt
+no-least (n ∷ ns) e m = absurd (cc)
+
+module _ {M : Type 0} where
+  empty : (hs : List (Held M)) → length hs ≡ 0 → hs ≡ []
+  empty [] e = refl
+  empty (h ∷ hs) e = absurd (omega (arith, e))
+
+  all-times : (m : ℕ) (hs : List (Held M)) → AllByRecursion (λ h. m ≤ h.time.0) hs → AllByRecursion (λ n. m ≤ n) (times_of hs)
+  all-times m [] h = tt
+  all-times m (x ∷ hs) h = (h.0, all-times m hs h.1)
+
+  times-held : (es : List (PlainEntry M)) → times_of (map held_of es) ≡ map (λ e. e.time) es
+  times-held [] = refl
+  times-held (e ∷ es) = ap (λ ns. e.time ∷ ns) (times-held es)
+
+  -- of what a scheduler stands for
+  pub stands-first : (same : M → M → Bool) (s : Schedule M) (events : List (QueueEvent M)) → Stands same s events → least (times_of s.scheduled) ≡ first_due same s.debounce events
+  stands-first same s events h = ap (λ hs. least (times_of hs)) h.comes ∙ ap least (times-held (scheduled same s.debounce events))
+
+module _ {M : Type 0} (same : M → M → Bool) (equiv : IsEquivalence same) (t : Timetable M) (k : IsKept same t) where
+  -- where the heap is empty nothing is scheduled
+  pub none-first : heap_items t.heap ≡ [] → least (times_of (scheduled_of t)) ≡ None
+  none-first e =
+      let f = kept-few same equiv t k in
+      let l = ap length e in
+      ap (λ hs. least (times_of hs)) (empty (scheduled_of t) (omega (arith, f, l)))
+
+  module _ (p : Reverse Place) (rest : List (Reverse Place)) (there : heap_items t.heap ≡ p ∷ rest) (listed : list_any (nat_eq p.0.number) t.table.numbers.keys ≡ true)
+      (first : AllByRecursion (λ q. is_lt (place_order p q) ≡ false) (heap_items t.heap)) where
+    on-heap : Contains (heap_items t.heap) p
+    on-heap = subst (λ hs. Contains hs p) (sym there) (Contains-append_left (p ∷ []) rest p (Contains-push [] p))
+
+    row : (r : Row M) × (at (rows_of t) p.0.number ≡ Some r)
+    row = go (at (rows_of t) p.0.number) refl
+      where
+        go : (o : Option (Row M)) → at (rows_of t) p.0.number ≡ o → (r : Row M) × (at (rows_of t) p.0.number ≡ Some r)
+        go None e = absurd (false≢true (sym (none-at (rows_of t) p.0.number e) ∙ (ap (list_any (nat_eq p.0.number)) (sym k.parts.indexed.numbered) ∙ listed)))
+        go (Some r) e = (r, e)
+
+    here : at (rows_of t) row.0.1.number ≡ Some row.0
+    here = ap (at (rows_of t)) (sym (numbered same equiv (rows_of t) t.table.numbers.keys (heap_items t.heap) t.waiting.items t.next k.parts p.0.number row.0 row.1)) ∙ row.1
+
+    live : (p ≡ place_of row.0.1) × (row.0.1.is_waiting ≡ false)
+    live = k.parts.live p row.0 on-heap row.1
+
+    time-is : p.0.time ≡ row.0.1.time.0
+    time-is = ap (λ (q : Reverse Place). q.0.time) live.0
+
+    -- each message that is scheduled has its place on the heap, which is not before the first one
+    later : (n : ℕ) (x : Held M) → if_comes (at (rows_of t) n) ≡ Some x → row.0.1.time.0 ≤ x.time.0
+    later n x g =
+        let c = comes-row (at (rows_of t) n) x g in
+        let place = k.parts.placed n c.row c.there c.free in
+        let test = All-contains (λ q. is_lt (place_order p q) ≡ false) (heap_items t.heap) (place_of c.row.1) (All-from_recursion (λ q. is_lt (place_order p q) ≡ false) (heap_items t.heap) first) place in
+        let its : x.time.0 ≡ c.row.1.time.0 = ap (λ (y : Held M). y.time.0) c.is in
+        let own = time-is in
+        elim (order-least p (place_of c.row.1) test) as (λ _. row.0.1.time.0 ≤ x.time.0) [ inl l ↦ omega (arith, l, its, own) | inr e ↦ (let b = e.0 in omega (arith, b, its, own)) ]
+
+    pub is-first : least (times_of (scheduled_of t)) ≡ Some p.0.time
+    is-first =
+        let r = row.0 in
+        let q = part same equiv (rows_of t) t.table.numbers.keys (heap_items t.heap) t.waiting.items t.next k.parts r here live.1 in
+        let split = scheduled-part same equiv (rows_of t) t.table.numbers.keys (heap_items t.heap) t.waiting.items t.next k.parts r here live.1 in
+        let before = all-times r.1.time.0 q.before (q.first (λ x. r.1.time.0 ≤ x.time.0) (λ n x l g. later n x g)) in
+        let behind = all-times r.1.time.0 q.behind (q.last (λ x. r.1.time.0 ≤ x.time.0) (λ n x l g. later n x g)) in
+        ap (λ hs. least (times_of hs)) split
+        ∙ (ap least (map-append (λ (h : Held M). h.time.0) q.before (held_in r ∷ q.behind))
+        ∙ (least-part r.1.time.0 (times_of q.before) (times_of q.behind) before behind ∙ ap Some (sym time-is)))
+
+  abbrev pub o' : Option Place → Option (Reverse Place)
+  o' None = None
+  o' (Some p) = Some (record { 0 = p })
+
+  abbrev pub time-of : Option Place → Option ℕ
+  time-of None = None
+  time-of (Some p) = Some p.time
+
+  -- whatever is on top of the heap
+  pub first-is : (o : Option Place) (hs : List (Reverse Place)) → heap_items t.heap ≡ hs → IsTopOf t.table.numbers.keys hs → slice_get hs 0 ≡ o' o
+      → ((p : Place) → o ≡ Some p → AllByRecursion (λ q. is_lt (place_order (record { 0 = p }) q) ≡ false) (heap_items t.heap)) → least (times_of (scheduled_of t)) ≡ time-of o
+  first-is o [] e top is first = none-first e ∙ none o is
+    where
+      none : (o : Option Place) → slice_get {X = Reverse Place} [] 0 ≡ o' o → None ≡ time-of o
+      none None is = refl
+      none (Some p) is = absurd (cc)
+  first-is None (p ∷ rest) e top is first = absurd (cc)
+  first-is (Some q) (p ∷ rest) e top is first =
+      let same-place : p ≡ record { 0 = q } = some-is is in
+      is-first p rest e top (subst (λ y. AllByRecursion (λ z. is_lt (place_order y z) ≡ false) (heap_items t.heap)) (sym same-place) (first q refl)) ∙ ap (λ (y : Reverse Place). Some y.0.time) same-place
