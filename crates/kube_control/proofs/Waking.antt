@@ -32,10 +32,10 @@ use Rattle.kube_history.specs.CoreEvents.{CoreEvent, clock_of, first_of, next_ca
 use Rattle.kube_history.specs.Agrees.{Agrees}
 use Rattle.kube_history.specs.TurnEvents.{was_over}
 use Rattle.kube_history.proofs.TurnParts.{none-made, valid-is}
-use Rattle.kube_sched.specs.Due.{first_due}
+use Rattle.kube_sched.specs.FirstDue.{first_due}
 use Rattle.kube_sched.specs.Entries.{scheduled}
 use Rattle.kube_sched.specs.Least.{least}
-use Rattle.kube_sched.proofs.Due.{below-least, no-least}
+use Rattle.kube_sched.proofs.FirstDue.{below-least, no-least}
 use Rattle.kube_sched.proofs.Numbers.{filter-none}
 use Rattle.kube_sched.proofs.Settles.{frozen_now, is_due_at, is_earlier_entry, waiting-settled}
 use Rattle.kube_core.specs.Waking.{core_wakes, take_due}

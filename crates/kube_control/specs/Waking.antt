@@ -11,9 +11,8 @@ use Rattle.kube_model.specs.Takes.{running}
 use Rattle.kube_model.specs.Traces.{last_moment}
 use Rattle.kube_history.specs.CoreWorld.{core_world}
 use Rattle.kube_history.specs.TurnEvents.{was_over}
-use Rattle.kube_core.specs.Waking.{core_with_stale, take_due}
+use Rattle.kube_core.specs.Waking.{take_due}
 use Rattle.kube_asks.specs.Waking.{pause_end}
-use Rattle.kube_control.specs.Controllers.{Controlling}
 
 -- the earlier of two moments, either of which may be none
 abbrev pub earlier_of : Option ℕ → Option ℕ → Option ℕ
@@ -45,7 +44,3 @@ TellNothing xs = AllByRecursion (λ x. is_not_ready x.answer ≡ true) xs
 abbrev pub IsBefore : ℕ → Option ℕ → Type 0
 IsBefore at None = Unit {0}
 IsBefore at (Some moment) = at < moment
-
--- the same, with so many stale places in its schedule
-abbrev pub controller_with_stale : {R S B O D : Type 0} → Controlling R S B O D → ℕ → Controlling R S B O D
-controller_with_stale c stale = record c { core = core_with_stale c.core stale }

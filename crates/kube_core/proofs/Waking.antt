@@ -1,27 +1,25 @@
 -- From when on a take could find something.
 use Rattle.std.proofs.Common.{◌≡◌, ℕ, Bool, true, false, not, ◌&&◌, List, [], ◌∷◌, map, length, Option, Some, None, option_map, is_some, cond, if◌then◌else◌, refl, sym, ap, subst, ◌∙◌}
 use Rattle.std.specs.List.{filter_map, cons_option}
-use Rattle.std.proofs.lemmas.List.{length-map}
 use Rattle.kube_meta.specs.declared.metadata.ObjectMeta.{ObjectMeta}
 use Rattle.kube_meta.specs.Reference.{ObjectType}
-use Rattle.kube_model.specs.History.{Message, same_message}
+use Rattle.kube_model.specs.History.{Message, Prioritized, same_message}
 use Rattle.kube_model.specs.Queue.{QueueEvent, Entry, entry, distinct, requested_message, insert_by, sorted_by}
 use Rattle.kube_model.specs.Takes.{Running, has_room}
-use Rattle.kube_reflect.specs.Exchanged.{IsLeftBy}
-use Rattle.kube_sched.specs.Due.{first_due}
+use Rattle.kube_sched.specs.FirstDue.{first_due}
 use Rattle.kube_sched.specs.Entries.{unfrozen, is_set_before, scheduled}
 use Rattle.kube_sched.specs.Least.{least}
-use Rattle.kube_sched.specs.Schedule.{Stands as Scheduled}
+use Rattle.kube_sched.specs.Schedule.{Schedule, Stands as Scheduled}
 use Rattle.kube_history.specs.CoreWorld.{CoreWorld}
 use Rattle.kube_history.specs.CoreEvents.{CoreEvent, clock_of, next_candidate, queue_of, root_answers, running_of, was_shut}
 use Rattle.kube_turn.specs.declared.request.ReconcileRequest.{ReconcileRequest}
-use Rattle.kube_turn.specs.Views.{message_of, running_of as run_of, same_request}
+use Rattle.kube_turn.specs.Views.{message_of, same_request}
 use Rattle.kube_core.specs.Images.{events_image, entry_image}
-use Rattle.kube_core.specs.Pendings.{Parts as Pending, FirstIs, Stands}
-use Rattle.kube_core.specs.Cores.{Parts, IsOfType, StandsFor}
+use Rattle.kube_core.specs.Pendings.{Parts as Pending, FirstIs, Stands, without_looks}
+use Rattle.kube_core.specs.Cores.{Parts, StandsFor}
 use Rattle.kube_core.specs.Waking.{take_due, core_wakes}
 use Rattle.kube_core.proofs.QueueImages.{distinct-image, entry-image, messages-image}
-use Rattle.kube_core.proofs.PendingSteps.{first-candidate}
+use Rattle.kube_core.proofs.PendingSteps.{first-message}
 use Rattle.kube_core.proofs.CoreSteps.{ready-so}
 
 -- The entries of a queue in one form are those of it in another.
@@ -84,31 +82,37 @@ module _ {K D : Type 0} (type_of : D → ObjectType) (core : CoreWorld K) (p : P
       ∙ due-image (message_of type_of) (same_request type_of) same_message (λ x y. refl) p.schedule.debounce s.events)
 
   room-is : has_room core.limit (length rs) 0 ≡ has_room p.limit (length p.running) 0
-  room-is = ap (λ l. has_room l (length rs) 0) s.limit ∙ ap (λ n. has_room p.limit n 0) (ap length s.running ∙ length-map p.running (run_of type_of))
+  room-is = ap (λ l. has_room l (length rs) 0) s.limit ∙ ap (λ n. has_room p.limit n 0) s.count
 
   pub due-full : has_room p.limit (length p.running) 0 ≡ false → None ≡ take_due core now qs rs
   due-full full =
       ap (λ b. if b then (if is_some (next_candidate core qs rs) then Some now else first_due same_message core.debounce qs) else None) (sym (room-is ∙ full))
 
-  module _ (room : has_room p.limit (length p.running) 0 ≡ true) (o : Option (ReconcileRequest K D)) (first : FirstIs type_of p.schedule p.running o) where
-    roomy : (if is_some o then Some now else first_due same_message core.debounce qs) ≡ take_due core now qs rs
+  module _ (room : has_room p.limit (length p.running) 0 ≡ true) (t : Schedule (ReconcileRequest K D)) (e : p.schedule ≡ without_looks t) (first : FirstIs type_of t p.running t.head) where
+    roomy : (if is_some t.head then Some now else first_due same_message core.debounce qs) ≡ take_due core now qs rs
     roomy =
-        ap (λ b. if b then Some now else first_due same_message core.debounce qs) (some-image o ∙ ap is_some (first-candidate type_of core p o qs rs room first s))
+        ap (λ b. if b then Some now else first_due same_message core.debounce qs)
+        (some-image (message_of type_of) t.head ∙ (ap is_some (first-message type_of core p qs rs s t t.head e first room) ∙ sym (some-image (λ (q : Prioritized). q.message) (next_candidate core qs rs))))
         ∙ ap (λ b. if b then (if is_some (next_candidate core qs rs) then Some now else first_due same_message core.debounce qs) else None) (sym (room-is ∙ room))
       where
-        some-image : (u : Option (ReconcileRequest K D)) → is_some u ≡ is_some (option_map (message_of type_of) u)
-        some-image None = refl
-        some-image (Some q) = refl
+        some-image : {A B : Type 0} (f : A → B) (u : Option A) → is_some u ≡ is_some (option_map f u)
+        some-image f None = refl
+        some-image f (Some q) = refl
 
     -- a candidate waits
-    pub due-now : is_some o ≡ true → Some now ≡ take_due core now qs rs
-    due-now e = ap (λ b. if b then Some now else first_due same_message core.debounce qs) (sym e) ∙ roomy
+    pub due-now : is_some t.head ≡ true → Some now ≡ take_due core now qs rs
+    due-now h = ap (λ b. if b then Some now else first_due same_message core.debounce qs) (sym h) ∙ roomy
 
     -- none does
-    pub due-later : is_some o ≡ false → (d : Option ℕ) → ((es : List (QueueEvent (ReconcileRequest K D))) → Scheduled (same_request type_of) p.schedule es → d ≡ first_due (same_request type_of) p.schedule.debounce es)
+    pub due-later : is_some t.head ≡ false → (d : Option ℕ) → ((es : List (QueueEvent (ReconcileRequest K D))) → Scheduled (same_request type_of) t es → d ≡ first_due (same_request type_of) t.debounce es)
         → d ≡ take_due core now qs rs
-    due-later e d h =
-        h s.events s.scheduled ∙ (sym due-is ∙ (ap (λ b. if b then Some now else first_due same_message core.debounce qs) (sym e) ∙ roomy))
+    due-later h d due =
+        due s.events (looked s.events (subst (λ z. Scheduled (same_request type_of) z s.events) e s.scheduled))
+        ∙ (ap (λ (z : Schedule (ReconcileRequest K D)). first_due (same_request type_of) z.debounce s.events) (sym e)
+        ∙ (sym due-is ∙ (ap (λ b. if b then Some now else first_due same_message core.debounce qs) (sym h) ∙ roomy)))
+      where
+        looked : (es : List (QueueEvent (ReconcileRequest K D))) → Scheduled (same_request type_of) (without_looks t) es → Scheduled (same_request type_of) t es
+        looked es k = record { waits = k.waits; comes = k.comes }
 
 -- What decides.
 
@@ -121,15 +125,3 @@ module _ {K D : Type 0} (type_of : D → ObjectType) (meta : K → ObjectMeta) (
   wakes-due o d h =
       h ∙ (ap (λ n. take_due core n (queue_of core es) (running_of es)) s.clock
       ∙ ap (λ b. if b then take_due core (clock_of es) (queue_of core es) (running_of es) else None) (sym (sym (ready-so type_of meta core es c c' s) ∙ o)))
-
-  -- with other places it stands for the same
-  pub stands-on : c'.writer ≡ c.writer → c'.initial ≡ c.initial → c'.clock ≡ c.clock → c'.is_shut ≡ c.is_shut → Stands type_of core c'.pending (queue_of core es) (running_of es) → StandsFor type_of meta core es c'
-  stands-on w i t h p = record {
-    world = subst (λ z. IsOfType z meta core) (ap (λ z. z.kind) (sym w)) s.world;
-    legal = s.legal;
-    stored = subst (λ z. IsLeftBy core.key (root_answers es) z) (ap (λ z. z.kept) (sym w)) s.stored;
-    pending = p;
-    initial = i ∙ s.initial;
-    clock = ap (λ z. z.0) t ∙ s.clock;
-    shut = h ∙ s.shut;
-  }

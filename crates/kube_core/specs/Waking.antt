@@ -6,9 +6,7 @@ use Rattle.kube_model.specs.Store.{is_ready}
 use Rattle.kube_model.specs.Takes.{Running, has_room}
 use Rattle.kube_history.specs.CoreWorld.{CoreWorld}
 use Rattle.kube_history.specs.CoreEvents.{CoreEvent, clock_of, next_candidate, queue_of, root_answers, running_of, was_shut}
-use Rattle.kube_sched.specs.Due.{first_due}
-use Rattle.kube_core.specs.Cores.{Parts}
-use Rattle.kube_core.specs.Pendings.{Parts as Pending}
+use Rattle.kube_sched.specs.FirstDue.{first_due}
 
 module _ {O : Type 0} (core : CoreWorld O) where
   -- from when on a take finds something, where nothing is requested and nothing ends until then: now where a candidate waits, else when the first entry is due that isn't frozen; never where as many run as may
@@ -20,10 +18,3 @@ module _ {O : Type 0} (core : CoreWorld O) where
   -- the same after these events, where no other comes until then: never before the root's first list is whole, and after shutdown
   abbrev pub core_wakes : List (CoreEvent O) → Option ℕ
   core_wakes es = if is_ready (root_answers es) && not (was_shut es) then take_due (clock_of es) (queue_of core es) (running_of es) else None
-
--- the same, with so many stale places
-abbrev pub with_stale : {K D : Type 0} → Pending K D → ℕ → Pending K D
-with_stale p stale = record p { schedule = record p.schedule { stale = stale } }
-
-abbrev pub core_with_stale : {K D : Type 0} → Parts K D → ℕ → Parts K D
-core_with_stale c stale = record c { pending = with_stale c.pending stale }

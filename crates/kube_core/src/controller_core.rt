@@ -21,7 +21,7 @@ ghost use Rattle.kube_history.specs.TurnCalls.{with_requests};
 ghost use Rattle.kube_turn.specs.Views.{exchange_of, prioritized_of, taken_of};
 ghost use Rattle.kube_core.specs.Pendings.{Stands, handed_over};
 ghost use Rattle.kube_core.specs.Cores.{HasSameHandles, IsOfType, StandsFor, TellsNamed, of_root, with_room};
-ghost use Rattle.kube_core.specs.Waking.{core_wakes, core_with_stale};
+ghost use Rattle.kube_core.specs.Waking.{core_wakes};
 
 use crate::pending::Pending;
 use crate::requests::{bulk_requests, request_each, requeue};
@@ -336,9 +336,7 @@ impl<K: Resource> Core<K> {
     pub fn wakes_at(&mut self) -> Option<Moment>
         ensures moment { (core : CoreWorld K) (es : List (CoreEvent K)) → StandsFor K.type_of K.meta_of core es self.old
             → option_map (λ m. m.0) result ≡ core_wakes core es }
-        ensures stands { (core : CoreWorld K) (es : List (CoreEvent K)) → StandsFor K.type_of K.meta_of core es self.old
-            → StandsFor K.type_of K.meta_of core es self.new }
-        ensures rest { self.new ≡ core_with_stale self.old self.new.pending.schedule.stale }
+        ensures same { self.new ≡ self.old }
     {
         if !self.may_take() {
             return None;

@@ -18,7 +18,7 @@ ghost use Rattle.kube_history.specs.CoreEvents.{next_candidate};
 ghost use Rattle.kube_history.specs.TurnCalls.{with_requests};
 ghost use Rattle.kube_turn.specs.Views.{message_of, prioritized_of, running_of};
 ghost use Rattle.kube_core.specs.Pendings.{FirstIs, ParkedRun, Stands, handed_over, is_idle, place_of, without_looks};
-ghost use Rattle.kube_core.specs.Waking.{take_due, with_stale};
+ghost use Rattle.kube_core.specs.Waking.{take_due};
 
 use crate::requests::{copy_requests, scheduled_at, with_priority};
 use indexmap::IndexMap;
@@ -180,19 +180,16 @@ impl<K: Resource> Pending<K> {
     /// From when on there is something to take, where nothing is requested and nothing ends until then: `now` where there is
     /// already, else when the first message is due; none where as many run as may. It takes no memory.
     ///
-    /// It looks at the messages that wait for references that run, as a take does, and at what the scheduler's `first_due`
-    /// looks at.
+    /// It looks at what a take and the scheduler's `first_due` look at.
     pub fn take_due(&mut self, now: Moment) -> Option<Moment>
         ensures due { (core : CoreWorld K) (qs : List (QueueEvent Message)) (rs : List (Running K)) → Stands K.type_of core self.old qs rs
             → option_map (λ m. m.0) result ≡ take_due core now.0 qs rs }
-        ensures stands { (core : CoreWorld K) (qs : List (QueueEvent Message)) (rs : List (Running K)) → Stands K.type_of core self.old qs rs
-            → Stands K.type_of core self.new qs rs }
-        ensures rest { self.new ≡ with_stale self.old self.new.schedule.stale }
+        ensures same { self.new ≡ self.old }
     {
         if !self.has_room() {
             return None;
         }
-        if first_idle(&self.schedule, &self.running).is_some() {
+        if look_idle(&mut self.schedule, &self.running) {
             return Some(now);
         }
         self.schedule.first_due()

@@ -30,4 +30,4 @@ pub mod Nothing
 pub mod Rooms
 pub mod Views
 pub mod Anew
-pub mod Due
+pub mod FirstDue

@@ -7,7 +7,7 @@ pub mod Timetables
 pub mod Entries
 pub mod Schedule
 pub mod Least
-pub mod Due
+pub mod FirstDue
 pub mod Polls
 pub mod Futures
 pub mod Runs

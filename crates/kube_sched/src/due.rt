@@ -4,10 +4,10 @@ ghost use Rattle.std.specs.Prelude.{◌≡◌, ◌+◌, ◌≤◌, ◌∷◌, []
 ghost use Rattle.std.specs.BinaryHeap.{heap_items, heap_len, heap_capacity, IsHeap};
 ghost use Rattle.std.specs.List.{AllByRecursion, list_any};
 ghost use Rattle.std.specs.Ordering.{is_lt};
-ghost use Rattle.kube_sched.specs.Due.{IsTopOf, times_of};
+ghost use Rattle.kube_sched.specs.FirstDue.{IsTopOf, times_of};
 ghost use Rattle.kube_sched.specs.Least.{least};
 ghost use Rattle.kube_sched.specs.Tables.{place_order};
-ghost use Rattle.kube_sched.specs.Timetables.{waiting_of, scheduled_of, stale_of, IsKept};
+ghost use Rattle.kube_sched.specs.Timetables.{scheduled_of, stale_of, IsWhole};
 
 use crate::timetable::{Place, Timetable};
 use indexmap::IndexSet;
@@ -49,13 +49,11 @@ fn first_place(heap: &BinaryHeap<Reverse<Place>>) -> Option<Place>
 
 impl<T: Eq + Hash + Drop> Timetable<T> {
     /// Drops the first place of the heap where no entry has it. Whether it did.
-    fn drop_stale(&mut self) -> bool
-        requires kept { IsKept T.eq self.old }
-        ensures kept { IsKept T.eq self.new }
-        ensures waiting { waiting_of self.new ≡ waiting_of self.old }
-        ensures scheduled { scheduled_of self.new ≡ scheduled_of self.old }
+    fn drop_first_stale(&mut self) -> bool
+        requires whole { IsWhole T.eq self.old }
+        ensures whole { IsWhole T.eq self.new }
+        ensures rest { self.new ≡ record self.old { heap = self.new.heap } }
         ensures stale { stale_of self.new ≤ stale_of self.old }
-        ensures spare { self.new.spare ≡ self.old.spare }
         ensures places { length (heap_items self.new.heap) + (if result then 1 else 0) ≡ length (heap_items self.old.heap) }
         ensures top { result ≡ false → IsTopOf self.new.table.numbers.keys (heap_items self.new.heap) }
     {
@@ -68,15 +66,13 @@ impl<T: Eq + Hash + Drop> Timetable<T> {
     /// The earliest time of a message that doesn't wait; none where each waits. Places before it that entries left which
     /// were set anew are dropped, so all such looks together take no longer than what made these places.
     pub fn first_time(&mut self) -> Option<Moment>
-        requires kept { IsKept T.eq self.old }
-        ensures kept { IsKept T.eq self.new }
-        ensures waiting { waiting_of self.new ≡ waiting_of self.old }
-        ensures scheduled { scheduled_of self.new ≡ scheduled_of self.old }
+        requires whole { IsWhole T.eq self.old }
+        ensures whole { IsWhole T.eq self.new }
+        ensures rest { self.new ≡ record self.old { heap = self.new.heap } }
         ensures stale { stale_of self.new ≤ stale_of self.old }
-        ensures spare { self.new.spare ≡ self.old.spare }
         ensures first { option_map (λ m. m.0) result ≡ least (times_of (scheduled_of self.old)) }
     {
-        while self.drop_stale() {}
+        while self.drop_first_stale() {}
         match first_place(&self.heap) {
             Some(first) => Some(Moment(first.time)),
             None => None,

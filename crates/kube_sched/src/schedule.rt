@@ -52,7 +52,7 @@ impl<T: Eq + Hash> Model for Scheduler<T> {
 impl<T: Eq + Hash + Drop> Scheduler<T> {
     ghost use Rattle.kube_sched.specs.Schedule.{NoneParked, ParkedFail, ParksFailing, ParksSame, Stands, is_parked, passes_unparked, with_request, with_settle, with_take, IsFirst, waiting_messages, held_len, frozen_by, sets_anew};
     ghost use Rattle.std.specs.Prelude.{option_map};
-    ghost use Rattle.kube_sched.specs.Due.{first_due};
+    ghost use Rattle.kube_sched.specs.FirstDue.{first_due};
 
     /// A scheduler that holds nothing. A message is held for `debounce` nanoseconds longer than asked.
     pub fn new(alloc: Global, debounce: u64) -> Scheduler<T>

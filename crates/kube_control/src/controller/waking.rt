@@ -6,7 +6,7 @@ ghost use Rattle.kube_model.specs.History.{Step, Turn, exchanges};
 ghost use Rattle.kube_model.specs.Pause.{is_paused};
 ghost use Rattle.kube_model.specs.Traces.{IsRecord, Made, has_ended, last_moment};
 ghost use Rattle.kube_control.specs.Controllers.{StandsFor};
-ghost use Rattle.kube_control.specs.Waking.{IsBefore, IsUntold, TellNothing, controller_with_stale, earlier_of, wakes_after};
+ghost use Rattle.kube_control.specs.Waking.{IsBefore, IsUntold, TellNothing, earlier_of, wakes_after};
 
 use crate::controller::Controller;
 use kube_api::ApiMode;
@@ -32,8 +32,8 @@ impl<A: ApiMode, S: RelatedSet<A::Value>, B: Backoff> Controller<WatchRoot<A>, S
     /// answer or a finish can bring anything: so where as many run as may, before the root's first list is whole, and from a
     /// shutdown on. A source may answer at any time, and is heard only in a turn.
     ///
-    /// It takes no memory. It looks at the messages that wait for references that run, as a turn does that takes nothing, and drops
-    /// places of the schedule that entries left which were set anew.
+    /// It takes no memory. It looks at what a turn looks at that takes nothing, and drops places of the schedule that entries left
+    /// which were set anew.
     pub fn wakes_at(&mut self) -> Option<Moment>
         ensures moment { (w : World A.Value B) (h : List (Step A.Value)) → StandsFor ⟦<WatchRoot<A> as RootSource>⟧ S.RelatedSet B.Backoff A.Value.Resource w h self.old
             → option_map (λ m. m.0) result ≡ wakes_after w h }
@@ -43,9 +43,7 @@ impl<A: ApiMode, S: RelatedSet<A::Value>, B: Backoff> Controller<WatchRoot<A>, S
         ensures nothing_before { (w : World A.Value B) (h : List (Step A.Value)) → StandsFor ⟦<WatchRoot<A> as RootSource>⟧ S.RelatedSet B.Backoff A.Value.Resource w h self.old
             → (policies : ℕ → A.Value → Option ℕ) (t : Turn) (m : Made A.Value) → IsRecord w policies h t m → IsUntold t → TellNothing m.0.exchanges → IsBefore t.at (option_map (λ m. m.0) result)
             → (m.0.taken ≡ []) × (is_paused w (last_moment h) (exchanges h) ≡ true → m.0.exchanges ≡ []) }
-        ensures stands { (w : World A.Value B) (h : List (Step A.Value)) → StandsFor ⟦<WatchRoot<A> as RootSource>⟧ S.RelatedSet B.Backoff A.Value.Resource w h self.old
-            → StandsFor ⟦<WatchRoot<A> as RootSource>⟧ S.RelatedSet B.Backoff A.Value.Resource w h self.new }
-        ensures rest { self.new ≡ controller_with_stale self.old self.new.core.pending.schedule.stale }
+        ensures same { self.new ≡ self.old }
     {
         if self.core.is_shut() {
             return None;

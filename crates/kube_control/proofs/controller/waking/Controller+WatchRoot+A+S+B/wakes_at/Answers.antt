@@ -41,27 +41,3 @@ returns-clause-nothing_before g c w h s policies t m k untold quiet before =
     StandsFor _ g.S.RelatedSet g.B.Backoff g.A.Value.Resource w h x) (sym c.self.view_is) s in
     nothing-before w (settings_in c.self.inside.asks.root.watcher) (ap (λ fs. unwrap_or (slice_get fs 0) Streamed) z.parts.world.fed_so) policies h t m k untold quiet
     (subst (IsBefore t.at) (returns-clause-moment g c w h s) before)
-
-pub returns-clause-stands : goal.returns-clause-stands
-returns-clause-stands g c w h s =
-    let z = subst (λ (x : Controlling (RootWatching g.row.A.Denot g.row.A-Value.Denot) g.row.S.Denot g.row.B.Denot g.row.A-Value.Denot g.row.A-Value-DynamicType.Denot).
-    StandsFor _ g.S.RelatedSet g.B.Backoff g.A.Value.Resource w h x) (sym c.self.view_is) s in
-    record {
-      parts =
-          record {
-            world = z.parts.world;
-            events = z.parts.events;
-            core_stands = c.wakes_at-due.ensures.stands (core_world w) z.parts.events z.parts.core_stands;
-            agrees = z.parts.agrees;
-            budget = z.parts.budget;
-            before = z.parts.before;
-            mine = z.parts.mine;
-            joined = z.parts.joined;
-            asks_stand = z.parts.asks_stand;
-            unspent = z.parts.unspent;
-          };
-      last = z.last;
-      ended = z.ended;
-      of_trace = z.of_trace;
-      unspent = z.unspent;
-    }
