@@ -30,10 +30,10 @@ one-less m (z ∷ ws) e = go (same_message m z.entry.message) e (one-less m ws) 
     go true k rest s = omega (arith, s)
     go false k rest s = let l = rest k in omega (arith, l)
 
-module _ {O : Type 0} where
-  abbrev message_in : Option Prioritized → Option Message
-  message_in o = option_map (λ q. q.message) o
+abbrev message_in : Option Prioritized → Option Message
+message_in o = option_map (λ q. q.message) o
 
+module _ {O : Type 0} where
   -- the message of the first candidate waits
   first-waits : (rs : List (Running O)) (ws : List (Frozen Message)) (m : Message) → message_in (option_map prioritized (first_of (candidates rs ws))) ≡ Some m → list_any (λ z. same_message m z.entry.message) ws ≡ true
   first-waits rs [] m e = absurd (cc)
