@@ -1,5 +1,5 @@
 -- The first message that is due.
-use Rattle.std.proofs.Common.{◌≡◌, ℕ, zero, suc, ◌<◌, ◌≤◌, min, Bool, true, false, List, [], ◌∷◌, ◌++◌, map, length, Option, Some, None, ◌||◌, refl, sym, ap, subst, ◌∙◌, arith, inl, inr, ◌⊎◌, Contains}
+use Rattle.std.proofs.Common.{◌≡◌, ℕ, zero, suc, ◌<◌, ◌≤◌, min, Bool, true, false, List, [], ◌∷◌, ◌++◌, map, length, Option, Some, None, option_map, ◌||◌, refl, sym, ap, subst, ◌∙◌, arith, inl, inr, ◌⊎◌, Contains}
 use Rattle.std.specs.Prelude.{nat_eq, slice_get}
 use Rattle.std.specs.List.{AllByRecursion, fold, list_any}
 use Rattle.std.specs.Cmp.{IsEquivalence}
@@ -93,6 +93,13 @@ module _ {M : Type 0} where
       go true e h f = (r, contains-head r rows, eqb-true n r.1.number e)
       go false e h f = let x = f h in (x.0, contains-tail r x.0 rows x.1, x.2)
 
+-- the place as it stands on a heap, and its time
+abbrev pub on_top : Option Place → Option (Reverse Place)
+on_top o = option_map (λ (p : Place). record { 0 = p }) o
+
+abbrev pub time-of : Option Place → Option ℕ
+time-of o = option_map (λ (p : Place). p.time) o
+
 module _ {M : Type 0} (same : M → M → Bool) (equiv : IsEquivalence same) (t : Timetable M) (k : IsKept same t) where
   -- where the heap is empty nothing is scheduled
   pub none-first : heap_items t.heap ≡ [] → least (times_of (scheduled_of t)) ≡ None
@@ -137,20 +144,12 @@ module _ {M : Type 0} (same : M → M → Bool) (equiv : IsEquivalence same) (t 
         ∙ (ap least (map-append (λ (h : Held M). h.time.0) parts.before (held_in r ∷ parts.behind))
         ∙ (least-part r.1.time.0 (times_of parts.before) (times_of parts.behind) (all-times r.1.time.0 parts.before all.0) (all-times r.1.time.0 parts.behind all.1.1) ∙ ap Some (sym time-is)))
 
-  abbrev pub o' : Option Place → Option (Reverse Place)
-  o' None = None
-  o' (Some p) = Some (record { 0 = p })
-
-  abbrev pub time-of : Option Place → Option ℕ
-  time-of None = None
-  time-of (Some p) = Some p.time
-
   -- whatever is on top of the heap
-  pub first-is : (o : Option Place) (hs : List (Reverse Place)) → heap_items t.heap ≡ hs → IsTopOf t.table.numbers.keys hs → slice_get hs 0 ≡ o' o
+  pub first-is : (o : Option Place) (hs : List (Reverse Place)) → heap_items t.heap ≡ hs → IsTopOf t.table.numbers.keys hs → slice_get hs 0 ≡ on_top o
       → ((p : Place) → o ≡ Some p → AllByRecursion (λ q. is_lt (place_order (record { 0 = p }) q) ≡ false) (heap_items t.heap)) → least (times_of (scheduled_of t)) ≡ time-of o
   first-is o [] e top is first = none-first e ∙ none o is
     where
-      none : (o : Option Place) → slice_get {X = Reverse Place} [] 0 ≡ o' o → None ≡ time-of o
+      none : (o : Option Place) → slice_get {X = Reverse Place} [] 0 ≡ on_top o → None ≡ time-of o
       none None is = refl
       none (Some p) is = absurd (cc)
   first-is None (p ∷ rest) e top is first = absurd (cc)
