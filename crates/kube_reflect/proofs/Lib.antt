@@ -1,6 +1,10 @@
 -- lemmas that the proofs cite
 pub mod Reading
 pub mod Putting
+pub mod Apart
+pub mod Chained
+pub mod Tabled
+pub mod Taking
 pub mod Lagging
 pub mod Living
 pub mod Staying
@@ -17,12 +21,6 @@ pub mod InitialExchanges
 pub mod LaterExchanges
 pub mod Exchanging
 pub mod Naming
-pub mod Indexing
-pub mod Ordering
-pub mod Halving
-pub mod Indexed
-pub mod Searched
-pub mod Sorting
 pub mod Fronts
 pub mod Publishing
 pub mod Adding

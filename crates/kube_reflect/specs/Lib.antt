@@ -2,6 +2,8 @@
 pub mod Views
 pub mod Reads
 pub mod Indexes
+pub mod Tables
+pub mod Takes
 pub mod Cached
 pub mod Relists
 pub mod Exchanged

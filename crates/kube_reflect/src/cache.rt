@@ -1,20 +1,23 @@
 //! The stored objects (kube-runtime's `Store`, where it is read by the one that writes it).
 
-ghost use Rattle.std.specs.Prelude.{◌≡◌, ◌↔◌, ◌<◌, [], IfOk, OnOk, OnErr, IsTrue, length, map, option_copied};
-ghost use Rattle.std.specs.List.{filter, find};
+ghost use Rattle.std.specs.Prelude.{◌≡◌, ◌↔◌, ◌<◌, [], true, false, IfOk, OnOk, OnErr, IsErrOf, IsTrue, length, map, option_copied};
+ghost use Rattle.std.specs.List.{filter};
 ghost use Rattle.std.specs.Option.{option_map};
 ghost use Rattle.std.specs.Arc.{arc_value};
 ghost use Rattle.std.specs.Fn.{FnReturnsAt};
-ghost use Rattle.kube_meta.specs.Keys.{reference_of};
-ghost use Rattle.kube_meta.specs.Reference.{same_reference};
+ghost use Rattle.kube_meta.specs.Keys.{reference_of, key_of, is_named};
 ghost use Rattle.kube_reflect.specs.Reads.{object_at, objects, IsFirst, IsFiltered, is_selected};
-ghost use Rattle.kube_reflect.specs.Cached.{put_under, drop_under};
-ghost use Rattle.kube_reflect.specs.Indexes.{references, sought, IsIndex, IsLookUp, AreTwoLookUps};
-ghost use Rattle.kube_reflect.specs.Views.{stored_of, all_stored};
+ghost use Rattle.kube_reflect.specs.Cached.{keyed, put_under, drop_under};
+ghost use Rattle.kube_reflect.specs.Indexes.{IsLookUp, AreTwoLookUps};
+ghost use Rattle.kube_reflect.specs.Tables.{listed, sought_of, IsKept};
+ghost use Rattle.kube_model.specs.Store.{stored_under};
 
-use crate::places::look_up;
+use crate::key::{share, shared_key};
+use crate::sought::Sought;
 use crate::steps::Steps;
-use crate::stored::{Stored, again, put, put_stored, remove};
+use crate::store::WriteError;
+use crate::stored::Stored;
+use crate::table::Table;
 use kube_meta::{NoMemory, ObjectRef, Resource, Selector, TextMap};
 use std::alloc::Global;
 use std::collections::VecDeque;
@@ -27,21 +30,19 @@ use std::sync::ledger::{Blank, Ledger};
 /// Contracts see it as the list of pairs of a reference and an object.
 #[derive(Drop)]
 pub struct Cache<K: Resource> {
-    items: Vec<Stored<K>>,
-    places: Vec<usize>,
+    table: Table<K>,
 }
 
 impl<K: Resource> Model for Cache<K> {
     ghost use Rattle.std.specs.Prelude.{List};
     ghost use Rattle.kube_meta.specs.Reference.{Reference};
-    ghost use Rattle.kube_reflect.specs.Views.{all_stored};
-    ghost use Rattle.kube_reflect.specs.Indexes.{references, IsIndex};
+    ghost use Rattle.kube_reflect.specs.Tables.{listed, IsKept};
 
     ghost Value = { List (Reference × K) };
 
-    ghost view = { λ c. all_stored K.type_of c.items.items };
+    ghost view = { λ c. listed K.type_of c.table };
 
-    ghost invariant = { λ c. IsIndex (references (all_stored K.type_of c.items.items)) c.places.items };
+    ghost invariant = { λ c. IsKept K.type_of c.table };
 }
 
 /// Whether an object passes.
@@ -52,22 +53,24 @@ fn lets_pass<K, P: Fn(&K) -> bool>(p: &P, object: &K) -> bool
     p(object)
 }
 
-/// The object under a reference, `within` its namespace or without it. A step is one place of the index that is looked at.
+/// The object under a reference. A step is one look into the chains of the table.
 fn find_by<'a, K: Resource, L: Ledger>(
-    items: &'a [Stored<K>],
-    places: &[usize],
-    reference: &ObjectRef<K>,
-    within: bool,
+    table: &'a Table<K>,
+    sought: &Sought<'_, K>,
     steps: &mut Steps<L>,
 ) -> Option<&'a Arc<K>>
-    requires index { IsIndex (references (all_stored K.type_of items.now)) places.now }
-    ensures found { option_map arc_value (option_copied result)
-        ≡ option_map (λ s. arc_value s.object) (find (λ s. same_reference (reference_of K.type_of (arc_value s.reference)) (sought within (reference_of K.type_of reference.now))) items.now) }
-    ensures cost { IsLookUp (length items.now) steps.old steps.new }
+    requires kept { IsKept K.type_of table.now }
+    ensures found { option_map arc_value (option_copied result) ≡ option_map (λ p. p.1) (stored_under (λ p. p.0) (listed K.type_of table.now) (sought_of K.type_of sought.now)) }
+    ensures cost { IsLookUp (length (listed K.type_of table.now)) steps.old steps.new }
 {
-    match look_up(items, places, reference, within, steps) {
-        Ok(position) => Some(&items[places[position]].object),
-        Err(_) => None,
+    if table.len == 0 {
+        return None;
+    }
+    steps.tick();
+    let place = table.position(sought, sought.hash())?;
+    match &table.slots[place].stored {
+        Some(stored) => Some(&stored.object),
+        None => None,
     }
 }
 
@@ -88,45 +91,83 @@ impl<K: Resource> Cache<K> {
         ensures { result ≡ [] }
     {
         Cache {
-            items: Vec::new(alloc),
-            places: Vec::new(alloc),
+            table: Table::new(alloc),
         }
     }
 
-    // These items, whose places are sorted.
-    pub(crate) fn indexed(items: Vec<Stored<K>>, places: Vec<usize>) -> Cache<K>
-        requires { IsIndex (references (all_stored K.type_of items.items)) places.items }
-        ensures { result ≡ all_stored K.type_of items.items }
+    // What a table has.
+    pub(crate) fn of(table: Table<K>) -> Cache<K>
+        requires { IsKept K.type_of table }
+        ensures { result ≡ listed K.type_of table }
     {
-        Cache { items, places }
+        Cache { table }
     }
 
-    // Puts an object in the place of the one under an equal reference, or last.
-    pub(crate) fn put(
+    // The table.
+    pub(crate) fn open(self) -> Table<K>
+        ensures kept { IsKept K.type_of result }
+        ensures same { listed K.type_of result ≡ self }
+    {
+        let Cache { table } = self;
+        table
+    }
+
+    // Puts an object in the place of the one under an equal reference, or last. Its reference is made only where none is there.
+    pub(crate) fn apply(
         &mut self,
         alloc: Global,
-        reference: ObjectRef<K>,
-        object: Arc<K>,
-    ) -> Result<(), NoMemory>
-        ensures ok { OnOk result (self.new ≡ put_under self.old (reference_of K.type_of reference, arc_value object)) }
+        dyntype: &K::DynamicType,
+        object: &Arc<K>,
+    ) -> Result<(), WriteError>
+        ensures applied { OnOk result (self.new ≡ put_under self.old (keyed (λ o. key_of (K.type_of dyntype.now) (K.meta_of o)) (arc_value object.now))) }
+        ensures named { OnOk result (is_named (K.meta_of (arc_value object.now)) ≡ true) }
+        ensures unnamed { IsErrOf result WriteError.Unnamed → is_named (K.meta_of (arc_value object.now)) ≡ false }
         ensures err { OnErr result (self.new ≡ self.old) }
     {
-        put(alloc, &mut self.items, &mut self.places, reference, object)
-    }
-
-    // Puts an item in the place of the one under an equal reference, or last.
-    pub(crate) fn put_stored(&mut self, stored: Stored<K>) -> Result<(), NoMemory>
-        ensures ok { OnOk result (self.new ≡ put_under self.old (stored_of K.type_of stored)) }
-        ensures err { OnErr result (self.new ≡ self.old) }
-    {
-        put_stored(&mut self.items, &mut self.places, stored)
+        let meta = object.meta();
+        let Some(name) = &meta.name else {
+            return Err(WriteError::Unnamed);
+        };
+        let sought = Sought {
+            dyntype,
+            name,
+            namespace: &meta.namespace,
+        };
+        let hash = sought.hash();
+        let shared = share(object)?;
+        match self.table.position(&sought, hash) {
+            Some(place) => self.table.write(place, shared),
+            None => {
+                let reference = shared_key(alloc, dyntype, &**object)?;
+                self.table.reserve(alloc, 1)?;
+                let stored = Stored {
+                    reference,
+                    object: shared,
+                };
+                self.table.push(hash, stored);
+            }
+        }
+        Ok(())
     }
 
     // Drops the object under an equal reference.
-    pub(crate) fn remove(&mut self, reference: ObjectRef<K>)
-        ensures { (object : K) → self.new ≡ drop_under self.old (reference_of K.type_of reference, object) }
+    pub(crate) fn delete(&mut self, dyntype: &K::DynamicType, object: &K) -> Result<(), WriteError>
+        ensures deleted { OnOk result (self.new ≡ drop_under self.old (keyed (λ o. key_of (K.type_of dyntype.now) (K.meta_of o)) object.now)) }
+        ensures named { OnOk result (is_named (K.meta_of object.now) ≡ true) }
+        ensures unnamed { IsErrOf result WriteError.Unnamed → is_named (K.meta_of object.now) ≡ false }
+        ensures err { OnErr result (self.new ≡ self.old) }
     {
-        remove(&mut self.items, &mut self.places, &reference);
+        let meta = object.meta();
+        let Some(name) = &meta.name else {
+            return Err(WriteError::Unnamed);
+        };
+        let sought = Sought {
+            dyntype,
+            name,
+            namespace: &meta.namespace,
+        };
+        self.table.remove(&sought);
+        Ok(())
     }
 
     // The references, in order.
@@ -134,7 +175,10 @@ impl<K: Resource> Cache<K> {
         ensures { IfOk result (λ v. map (reference_of K.type_of) v.items ≡ map (λ p. p.0) self.now) }
     {
         let mut keys = VecDeque::new(alloc);
-        for stored in &self.items {
+        for slot in &self.table.slots {
+            let Some(stored) = &slot.stored else {
+                continue;
+            };
             keys.push_back(stored.reference.copy(alloc)?)?;
         }
         Ok(keys)
@@ -156,8 +200,7 @@ impl<K: Resource> Cache<K> {
         ensures { IfOk result (λ c. c ≡ self.now) }
     {
         Ok(Cache {
-            items: again(alloc, &self.items)?,
-            places: self.places.clone()?,
+            table: self.table.copy(alloc)?,
         })
     }
 
@@ -179,7 +222,10 @@ impl<K: Resource> Cache<K> {
         self.get_counted(key, &mut steps)
     }
 
-    /// The same in counted steps: a step is one place of the sorted index that is looked at.
+    /// The same in counted steps: a step is one look for a reference, and none where nothing is stored.
+    ///
+    /// A look is at those alone whose hashes leave one remainder, by a number that is at least that of what is stored: on
+    /// average at most one of them. No clause says how many these are.
     pub fn get_counted<L: Ledger>(
         &self,
         key: &ObjectRef<K>,
@@ -188,9 +234,18 @@ impl<K: Resource> Cache<K> {
         ensures found { option_map arc_value (option_copied result) ≡ object_at self.now (reference_of K.type_of key.now) }
         ensures cost { AreTwoLookUps (length self.now) steps.old steps.new }
     {
-        match find_by(&self.items, &self.places, key, true, steps) {
+        let sought = Sought::of(key);
+        match find_by(&self.table, &sought, steps) {
             Some(object) => Some(object),
-            None => find_by(&self.items, &self.places, key, false, steps),
+            None => {
+                let none = None;
+                let without = Sought {
+                    dyntype: sought.dyntype,
+                    name: sought.name,
+                    namespace: &none,
+                };
+                find_by(&self.table, &without, steps)
+            }
         }
     }
 
@@ -199,7 +254,10 @@ impl<K: Resource> Cache<K> {
         requires { P.IsAlwaysCallable p }
         ensures { IsFirst (FnReturnsAt P.Fn p) (objects self.now) (option_map arc_value (option_copied result)) }
     {
-        for stored in &self.items {
+        for slot in &self.table.slots {
+            let Some(stored) = &slot.stored else {
+                continue;
+            };
             if lets_pass(&p, &*stored.object) {
                 return Some(&stored.object);
             }
@@ -216,7 +274,10 @@ impl<K: Resource> Cache<K> {
         ensures { IfOk result (λ v. map arc_value v.items ≡ objects self.now) }
     {
         let mut objects = Vec::new(alloc);
-        for stored in &self.items {
+        for slot in &self.table.slots {
+            let Some(stored) = &slot.stored else {
+                continue;
+            };
             objects.push(Arc::try_clone(&stored.object)?)?;
         }
         Ok(objects)
@@ -236,7 +297,10 @@ impl<K: Resource> Cache<K> {
         ensures { IfOk result (λ v. IsFiltered (FnReturnsAt P.Fn p) (objects self.now) (map arc_value v.items)) }
     {
         let mut objects = Vec::new(alloc);
-        for stored in &self.items {
+        for slot in &self.table.slots {
+            let Some(stored) = &slot.stored else {
+                continue;
+            };
             if lets_pass(&p, &*stored.object) {
                 objects.push(Arc::try_clone(&stored.object)?)?;
             }
@@ -258,7 +322,10 @@ impl<K: Resource> Cache<K> {
     {
         let none = TextMap::new(alloc);
         let mut objects = Vec::new(alloc);
-        for stored in &self.items {
+        for slot in &self.table.slots {
+            let Some(stored) = &slot.stored else {
+                continue;
+            };
             if is_selected(selector, &*stored.object, &none) {
                 objects.push(Arc::try_clone(&stored.object)?)?;
             }
@@ -270,13 +337,13 @@ impl<K: Resource> Cache<K> {
     pub fn len(&self) -> usize
         ensures { result ≡ length self.now }
     {
-        self.items.len()
+        self.table.len
     }
 
     /// Whether none is stored.
     pub fn is_empty(&self) -> bool
         ensures { IsTrue result ↔ (self.now ≡ []) }
     {
-        self.items.is_empty()
+        self.table.len == 0
     }
 }

@@ -1,6 +1,6 @@
 //! What a writer keeps: what its events made, and, for contracts, these events.
 
-ghost use Rattle.std.specs.Prelude.{◌≡◌, [], ◌∷◌, map, true, false, IfOk, OnOk, OnErr, IsErrOf};
+ghost use Rattle.std.specs.Prelude.{◌≡◌, [], ◌∷◌, ◌++◌, map, true, false, IfOk, OnOk, OnErr, IsErrOf};
 ghost use Rattle.std.specs.List.{fold, list_all};
 ghost use Rattle.std.specs.Arc.{arc_value};
 ghost use Rattle.kube_meta.specs.Keys.{reference_of, key_of, is_named};
@@ -10,7 +10,8 @@ ghost use Rattle.kube_reflect.specs.Published.{IsMade, keeping_with};
 
 use crate::cache::Cache;
 use crate::history::{History, no_events, one_more};
-use crate::made::{Made, key};
+use crate::key::key;
+use crate::made::Made;
 use crate::store::WriteError;
 use kube_meta::{NoMemory, ObjectRef, Resource};
 use kube_watch::Event;
@@ -40,26 +41,15 @@ impl<K: Resource> Model for Keeper<K> {
     ghost invariant = { λ k. IsMade K.meta_of (record { kind = K.type_of k.dyntype; kept = k.made; events = k.history.log }) };
 }
 
-/// What these events make of what others have made, with the events of both.
-fn apply_each<K: Resource>(
-    alloc: Global,
-    dyntype: &K::DynamicType,
-    made: Made<K>,
-    history: History<K>,
-    events: &[Event<Arc<K>>],
-) -> Result<(Made<K>, History<K>), WriteError>
-    ensures made { IfOk result (λ p. record { kind = K.type_of dyntype.now; kept = p.0; events = p.1.log }
-        ≡ fold (keeping_with arc_value K.meta_of) (record { kind = K.type_of dyntype.now; kept = made; events = history.log }) events.now) }
-    ensures named { OnOk result (list_all (λ e. has_name K.meta_of (event_map arc_value e)) events.now ≡ true) }
-    ensures unnamed { IsErrOf result WriteError.Unnamed → list_all (λ e. has_name K.meta_of (event_map arc_value e)) events.now ≡ false }
+/// These events behind others.
+fn many_more<K>(history: &History<K>, events: &[Event<Arc<K>>]) -> History<K>
+    ensures { result.log ≡ history.now.log ++ map (event_map arc_value) events.now }
 {
-    let mut made = made;
-    let mut history = history;
+    let mut longer = history.again();
     for event in events {
-        made.apply(alloc, dyntype, event)?;
-        history = one_more(&history, event);
+        longer = one_more(&longer, event);
     }
-    Ok((made, history))
+    longer
 }
 
 impl<K: Resource> Keeper<K> {
@@ -135,7 +125,7 @@ impl<K: Resource> Keeper<K> {
         Ok(())
     }
 
-    // Applies all of these events, or none. What they make takes its memory beside what is kept.
+    // Applies all of these events, or none.
     pub(crate) fn apply_all(
         &mut self,
         alloc: Global,
@@ -146,11 +136,8 @@ impl<K: Resource> Keeper<K> {
         ensures unnamed { IsErrOf result WriteError.Unnamed → list_all (λ e. has_name K.meta_of (event_map arc_value e)) events.now ≡ false }
         ensures err { OnErr result (self.new ≡ self.old) }
     {
-        let made = self.made.copy(alloc)?;
-        let history = self.history.again();
-        let (made, history) = apply_each(alloc, &self.dyntype, made, history, events)?;
-        self.made = made;
-        self.history = history;
+        self.made.apply_all(alloc, &self.dyntype, events)?;
+        self.history = many_more(&self.history, events);
         Ok(())
     }
 }

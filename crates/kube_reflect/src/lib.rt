@@ -2,7 +2,6 @@
 //! `reflector`).
 #![tactic(auto)]
 
-mod buffer;
 pub mod cache;
 mod copies;
 pub mod delayed_init;
@@ -10,18 +9,21 @@ pub mod dispatcher;
 mod held;
 mod history;
 mod keeper;
+mod key;
 mod lags;
 pub mod laws;
 pub mod laws_of_exchanges;
 mod made;
-mod places;
 pub mod reader;
 pub mod reflecting;
 pub mod reflector;
 mod ring;
+mod sought;
 pub mod steps;
 pub mod store;
 mod stored;
+mod table;
+mod tables;
 
 pub use cache::Cache;
 pub use delayed_init::{DelayedInit, InitDropped, InitNote, Initializer};

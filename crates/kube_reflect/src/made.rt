@@ -1,25 +1,28 @@
 //! What the events of a watcher make: the stored objects, the list under way, and whether a list was complete.
 
-ghost use Rattle.std.specs.Prelude.{◌≡◌, true, false, IfOk, OnOk, OnErr, IsErrOf};
+ghost use Rattle.std.specs.Prelude.{◌≡◌, true, false, map, IfOk, OnOk, OnErr, IsErrOf};
+ghost use Rattle.std.specs.List.{fold, list_all};
 ghost use Rattle.std.specs.Arc.{arc_value};
-ghost use Rattle.kube_meta.specs.Keys.{reference_of, key_of, is_named};
+ghost use Rattle.kube_meta.specs.Keys.{key_of};
 ghost use Rattle.kube_watch.specs.Events.{event_map};
 ghost use Rattle.kube_reflect.specs.Cached.{nothing, applied, has_name};
+ghost use Rattle.kube_reflect.specs.Takes.{kept_of, AreKept};
 
-use crate::buffer::Buffer;
 use crate::cache::Cache;
 use crate::store::WriteError;
-use kube_meta::{NoMemory, ObjectRef, RefError, Resource, TypeInfo};
+use crate::tables::{Tables, needed, steps_of};
+use kube_meta::{NoMemory, Resource};
 use kube_watch::Event;
 use std::alloc::Global;
 use std::marker::Model;
+use std::mem::replace;
 use std::sync::Arc;
 
 /// What the events of a watcher make.
 #[derive(Drop)]
 pub(crate) struct Made<K: Resource> {
     cache: Cache<K>,
-    buffer: Buffer<K>,
+    buffer: Cache<K>,
     is_ready: bool,
 }
 
@@ -31,31 +34,6 @@ impl<K: Resource> Model for Made<K> {
     ghost view = { λ m. record { cache = m.cache; buffer = m.buffer; is_ready = m.is_ready } };
 }
 
-/// The same object.
-fn share<K: Drop>(object: &Arc<K>) -> Result<Arc<K>, NoMemory>
-    ensures { IfOk result (λ a. arc_value a ≡ arc_value object.now) }
-{
-    Ok(Arc::try_clone(object)?)
-}
-
-/// The reference of an object of a type.
-pub(crate) fn key<K: Resource>(
-    alloc: Global,
-    dyntype: &K::DynamicType,
-    object: &K,
-) -> Result<ObjectRef<K>, WriteError>
-    ensures named { IfOk result (λ r. is_named (K.meta_of object.now) ≡ true) }
-    ensures reference { IfOk result (λ r. reference_of K.type_of r ≡ key_of (K.type_of dyntype.now) (K.meta_of object.now)) }
-    ensures unnamed { IsErrOf result WriteError.Unnamed → is_named (K.meta_of object.now) ≡ false }
-{
-    let dyntype = dyntype.share(alloc)?;
-    match ObjectRef::from_obj_with(alloc, object, dyntype) {
-        Ok(reference) => Ok(reference),
-        Err(RefError::Unnamed) => Err(WriteError::Unnamed),
-        Err(RefError::NoMemory) => Err(WriteError::NoMemory),
-    }
-}
-
 impl<K: Resource> Made<K> {
     // What no event made.
     pub(crate) fn new(alloc: Global) -> Made<K>
@@ -63,7 +41,7 @@ impl<K: Resource> Made<K> {
     {
         Made {
             cache: Cache::new(alloc),
-            buffer: Buffer::new(alloc),
+            buffer: Cache::new(alloc),
             is_ready: false,
         }
     }
@@ -106,26 +84,72 @@ impl<K: Resource> Made<K> {
         ensures err { OnErr result (self.new ≡ self.old) }
     {
         match event {
-            Event::Apply(object) => {
-                let key = key(alloc, dyntype, &**object)?;
-                let object = share(object)?;
-                self.cache.put(alloc, key, object)?;
+            Event::Apply(object) => self.cache.apply(alloc, dyntype, object),
+            Event::Delete(object) => self.cache.delete(dyntype, &**object),
+            Event::Init => {
+                self.buffer = Cache::new(alloc);
+                Ok(())
             }
-            Event::Delete(object) => {
-                let key = key(alloc, dyntype, &**object)?;
-                self.cache.remove(key);
-            }
-            Event::Init => self.buffer = Buffer::new(alloc),
-            Event::InitApply(object) => {
-                let key = key(alloc, dyntype, &**object)?;
-                let object = share(object)?;
-                self.buffer.put(alloc, key, object)?;
-            }
+            Event::InitApply(object) => self.buffer.apply(alloc, dyntype, object),
             Event::InitDone => {
-                self.cache = self.buffer.take(alloc)?;
+                self.cache = replace(&mut self.buffer, Cache::new(alloc));
                 self.is_ready = true;
+                Ok(())
             }
         }
+    }
+
+    // The tables, which leave nothing.
+    fn open(&mut self, alloc: Global) -> Tables<K>
+        ensures kept { AreKept K.type_of result }
+        ensures same { kept_of K.type_of result ≡ self.old }
+    {
+        Tables {
+            cache: replace(&mut self.cache, Cache::new(alloc)).open(),
+            buffer: replace(&mut self.buffer, Cache::new(alloc)).open(),
+            is_ready: self.is_ready,
+        }
+    }
+
+    // What these tables have.
+    fn close(&mut self, alloc: Global, tables: Tables<K>)
+        requires { AreKept K.type_of tables }
+        ensures { self.new ≡ kept_of K.type_of tables }
+    {
+        let Tables {
+            cache,
+            buffer,
+            is_ready,
+        } = tables;
+        self.cache = Cache::of(cache);
+        self.buffer = if buffer.len == 0 {
+            Cache::new(alloc)
+        } else {
+            Cache::of(buffer)
+        };
+        self.is_ready = is_ready;
+    }
+
+    // Applies all of these events to objects of a type, or none.
+    pub(crate) fn apply_all(
+        &mut self,
+        alloc: Global,
+        dyntype: &K::DynamicType,
+        events: &[Event<Arc<K>>],
+    ) -> Result<(), WriteError>
+        ensures applied { OnOk result (self.new ≡ fold (applied (λ o. key_of (K.type_of dyntype.now) (K.meta_of o))) self.old (map (event_map arc_value) events.now)) }
+        ensures named { OnOk result (list_all (λ e. has_name K.meta_of (event_map arc_value e)) events.now ≡ true) }
+        ensures unnamed { IsErrOf result WriteError.Unnamed → list_all (λ e. has_name K.meta_of (event_map arc_value e)) events.now ≡ false }
+        ensures err { OnErr result (self.new ≡ self.old) }
+    {
+        let steps = steps_of(alloc, dyntype, events)?;
+        let mut tables = self.open(alloc);
+        let reserved = tables.reserve(alloc, needed(events));
+        if reserved.is_ok() {
+            tables.take_all(alloc, steps);
+        }
+        self.close(alloc, tables);
+        reserved?;
         Ok(())
     }
 }

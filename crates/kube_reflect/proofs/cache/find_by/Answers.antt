@@ -1,35 +1,31 @@
-use Rattle.std.proofs.Common.{◌∙◌, sym, ap, Some, get_or}
+use Rattle.std.proofs.Common.{◌≡◌, ◌∙◌, Some, None, refl, sym, ap}
+use Rattle.std.specs.Prelude.{slice_get}
 use Rattle.std.specs.Option.{option_map}
-use Rattle.std.specs.Arc.{arc_value}
-use Rattle.kube_meta.specs.Keys.{reference_of}
-use Rattle.kube_reflect.specs.declared.stored.Stored.{Stored}
-use Rattle.kube_reflect.specs.Indexes.{sought}
-use Rattle.kube_reflect.specs.Views.{stored_of}
-use Rattle.kube_reflect.proofs.Indexed.{find_at, find_none, at-item}
-use Rattle.kube_reflect.proofs.Searched.{place_in, is_there, none_before, nowhere}
+use Rattle.std.proofs.lemmas.Option.{slice_get_read, slice_get_within}
+use Rattle.kube_reflect.specs.declared.table.Slot.{Slot}
+use Rattle.kube_reflect.specs.Tables.{sought_of, ref_of}
+use Rattle.kube_reflect.proofs.Chained.{one}
+use Rattle.kube_reflect.proofs.Tabled.{found-at}
 use Rattle.kube_reflect.proofs.cache.find_by.Goals as goal
 
-pub returns-in-Ok-clause-found : goal.returns-in-Ok-clause-found
-returns-in-Ok-clause-found g c =
-    let seen = stored_of g.K.Resource.type_of in
-    let items = c.args.items.now in
-    let places = c.args.places.now in
-    let r = sought c.args.within (reference_of g.K.Resource.type_of c.args.reference.now) in
-    let k = c.in-Ok.position in
-    let p = get_or places k 0 in
-    let x = c.index-items-places.result in
-    let found = c.in-Ok.ensures.searched in
-    let within = place_in seen items places c.requires.index r k found in
-    ap (λ (y : Stored g.row.K.Denot g.row.K-DynamicType.Denot). Some (arc_value y.object)) (sym c.index-items-places.is)
-    ∙ sym (ap (option_map (λ (y : Stored g.row.K.Denot g.row.K-DynamicType.Denot). arc_value y.object))
-    (find_at seen items p x r within c.index-items-places.is
-    (sym (at-item seen items p x within c.index-items-places.is) ∙ is_there seen items places c.requires.index r k found)
-    (none_before seen items places c.requires.index r k found)))
+pub returns-in-Some-clause-found : goal.returns-in-Some-clause-found
+returns-in-Some-clause-found g c =
+    let type_of = g.K.Resource.type_of in
+    let slots = c.args.table.now.slots.items in
+    let at = c.in_ok-place.ensures in
+    let place = c.in_ok-place.place in
+    let x = c.index.result.now in
+    let s = c.in-Some.stored in
+    let here : slice_get slots place ≡ Some x = slice_get_read slots _ place x refl (slice_get_within slots place at.slot at.there) c.index.ensures in
+    let same = one at.item s (sym at.is ∙ (ap (λ (z : Slot g.row.K.Denot g.row.K-DynamicType.Denot). z.stored) (one at.slot x (sym at.there ∙ here)) ∙ c.in-Some.is)) in
+    sym (ap (option_map (λ p. p.1)) (found-at type_of slots place x s (sought_of type_of c.args.sought.now) here c.in-Some.is (ap (ref_of type_of) (sym same) ∙ at.under) c.requires.kept.apart))
 
-pub returns-in-Err-clause-found : goal.returns-in-Err-clause-found
-returns-in-Err-clause-found g c =
-    let seen = stored_of g.K.Resource.type_of in
-    let items = c.args.items.now in
-    let r = sought c.args.within (reference_of g.K.Resource.type_of c.args.reference.now) in
-    sym (ap (option_map (λ (y : Stored g.row.K.Denot g.row.K-DynamicType.Denot). arc_value y.object))
-    (find_none seen items r (nowhere seen items c.args.places.now c.requires.index r c.in-Err.field-0 c.in-Err.ensures.searched)))
+pub returns-in-None-clause-found : goal.returns-in-None-clause-found
+returns-in-None-clause-found g c =
+    let slots = c.args.table.now.slots.items in
+    let at = c.in_ok-place.ensures in
+    let place = c.in_ok-place.place in
+    let x = c.index.result.now in
+    let here : slice_get slots place ≡ Some x = slice_get_read slots _ place x refl (slice_get_within slots place at.slot at.there) c.index.ensures in
+    let no : None ≡ Some at.item = sym c.in-None.is ∙ (ap (λ (z : Slot g.row.K.Denot g.row.K-DynamicType.Denot). z.stored) (one x at.slot (sym here ∙ at.there)) ∙ at.is) in
+    cc
