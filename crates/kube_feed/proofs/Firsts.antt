@@ -114,18 +114,17 @@ module _ {R S B C O D : Type 0} (root : root_source.Ghosts R O D) (related : rel
       unspent
 
 module _ {R S T U B O D : Type 0} (root : root_source.Ghosts R O D) (related : related_set.Ghosts S O D) (more : related_set.Ghosts T O D) (wider : related_set.Ghosts U O D) (delays : backoff.Ghosts B) (object : resource.Ghosts O D) where
-  -- and with the sources t after the others, once the sources r and u are asked anew, with these priorities
-  pub added : (v w : World O B) (a : Asking R S B) (p : Parts O D) (r : R) (t : T) (u : U) (made a' : Asking R U B) (sets : List (Option ℕ)) (start : B) → a' ≡ record made { priorities = sets }
-      → PartsStand root related delays object v [] a p
+  -- and with the sources t after the others, once the sources r and u are asked anew
+  pub added : (v w : World O B) (a : Asking R S B) (p : Parts O D) (r : R) (t : T) (u : U) (a' : Asking R U B) (start : B) → PartsStand root related delays object v [] a p
       → r ≡ a.root → start ≡ a.kept.pause.backoff → a'.root ≡ r → a'.related ≡ u → a'.is_spent ≡ false
       → wider.feeds u ≡ related.feeds a.related ++ more.feeds t
       → ((place : ℕ) (own : List (Dated O)) → Either (nat_lt place (length (related.feeds a.related))) (related.stands a.related place own) (more.stands t (place - length (related.feeds a.related)) own) → wider.stands u place own)
       → ((place : ℕ) → place < length (more.feeds t) → more.stands t place [])
       → IsWorldOfAsks root wider delays object w a' → w.backoff ≡ v.backoff → w.limit ≡ v.limit → w.debounce ≡ v.debounce
       → ((ps : List (Option ℕ)) → IsWorldOf w (root.kind r) object.meta_of (root.feed r) (wider.feeds u) ps delays.delay delays.delayed delays.restarted → w.backoff ≡ start
-      → SourcesStand (root.stands r) (wider.stands u) (length (wider.feeds u)) [] → AsksStand root wider delays object w [] [] [] made)
+      → SourcesStand (root.stands r) (wider.stands u) (length (wider.feeds u)) [] → AsksStand root wider delays object w [] [] [] a')
       → PartsStand root wider delays object w [] a' p
-  added v w a p r t u made a' sets start prioritized k of-root begins same-root same-related unspent feeds stands fresh is backoff limit debounce asked =
+  added v w a p r t u a' start k of-root begins same-root same-related unspent feeds stands fresh is backoff limit debounce asked =
       let own = subst (λ x. IsWorldOf w (root.kind x) object.meta_of (root.feed x) (wider.feeds u) a'.priorities delays.delay delays.delayed delays.restarted) same-root
       (subst (λ x. IsWorldOf w (root.kind a'.root) object.meta_of (root.feed a'.root) (wider.feeds x) a'.priorities delays.delay delays.delayed delays.restarted) same-related is) in
       let sources = subst (SourcesStand (root.stands a.root) (related.stands a.related) (length (related.feeds a.related))) k.joined k.asks_stand.sources in
@@ -136,11 +135,11 @@ module _ {R S T U B O D : Type 0} (root : root_source.Ghosts R O D) (related : r
       (ap (λ x. is_watched (root.feed x)) (same-root ∙ of-root) ∙ root-fed root related delays object v a k.world k.is_fed)
       (alike-names root related wider v w (k.world.named ∙ sym own.named) k.names)
       (waits-alike object v w p.pending limit debounce k.waits) k.ready k.shut
-      (subst (λ x. AsksStand root wider delays object w [] [] [] x) (sym prioritized) (asked a'.priorities own (backoff ∙ (first ∙ sym begins)) (record {
+      (asked a'.priorities own (backoff ∙ (first ∙ sym begins)) (record {
         root = subst (λ x. root.stands x []) (sym of-root) sources.root;
         related = λ place below.
             stands place [] (either-of (nat_lt place n) (related.stands a.related place []) (more.stands t (place - n) [])
             (λ e. sources.related place (ltb-true place n e))
             (λ e. let above = ltb-false place n e in fresh (place - n) (omega (arith, above, below, long))));
-      })))
+      }))
       unspent
