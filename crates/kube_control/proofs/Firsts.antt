@@ -128,17 +128,18 @@ either-of true P Q f g = f refl
 either-of false P Q f g = g refl
 
 module _ {R S T U B O D : Type 0} (root : root_source.Ghosts R O D) (related : related_set.Ghosts S O D) (more : related_set.Ghosts T O D) (wider : related_set.Ghosts U O D) (delays : backoff.Ghosts B) (object : resource.Ghosts O D) where
-  -- and with the sources t after the others, once the sources r and u are asked anew
-  pub added : (v w : World O B) (a : Asking R S B) (core : Parts O D) (r : R) (t : T) (u : U) (a' : Asking R U B) (start : B) → PartsStand root related delays object v [] a core
+  -- and with the sources t after the others, once the sources r and u are asked anew, with these priorities
+  pub added : (v w : World O B) (a : Asking R S B) (core : Parts O D) (r : R) (t : T) (u : U) (made a' : Asking R U B) (sets : List (Option ℕ)) (start : B) → a' ≡ record made { priorities = sets }
+      → PartsStand root related delays object v [] a core
       → r ≡ a.root → start ≡ a.kept.pause.backoff → a'.root ≡ r → a'.related ≡ u → a'.is_spent ≡ false
       → wider.feeds u ≡ related.feeds a.related ++ more.feeds t
       → ((place : ℕ) (own : List (Dated O)) → Either (nat_lt place (length (related.feeds a.related))) (related.stands a.related place own) (more.stands t (place - length (related.feeds a.related)) own) → wider.stands u place own)
       → ((place : ℕ) → place < length (more.feeds t) → more.stands t place [])
       → IsWorldOfAsks root wider delays object w a' → w.backoff ≡ v.backoff → w.limit ≡ v.limit → w.debounce ≡ v.debounce
       → ((ps : List (Option ℕ)) → IsWorldOf w (root.kind r) object.meta_of (root.feed r) (wider.feeds u) ps delays.delay delays.delayed delays.restarted → w.backoff ≡ start
-      → SourcesStand (root.stands r) (wider.stands u) (length (wider.feeds u)) [] → AsksStand root wider delays object w [] [] [] a')
+      → SourcesStand (root.stands r) (wider.stands u) (length (wider.feeds u)) [] → AsksStand root wider delays object w [] [] [] made)
       → PartsStand root wider delays object w [] a' core
-  added v w a core r t u a' start p of-root begins same-root same-related unspent feeds stands fresh is backoff limit debounce asked =
+  added v w a core r t u made a' sets start prioritized p of-root begins same-root same-related unspent feeds stands fresh is backoff limit debounce asked =
       let own = subst (λ x. IsWorldOf w (root.kind x) object.meta_of (root.feed x) (wider.feeds u) a'.priorities delays.delay delays.delayed delays.restarted) same-root
       (subst (λ x. IsWorldOf w (root.kind a'.root) object.meta_of (root.feed a'.root) (wider.feeds x) a'.priorities delays.delay delays.delayed delays.restarted) same-related is) in
       let key : v.key ≡ w.key = p.world.key ∙ (ap (λ x o. key_of (root.kind x) (object.meta_of o)) (sym of-root) ∙ sym own.key) in
@@ -148,13 +149,13 @@ module _ {R S T U B O D : Type 0} (root : root_source.Ghosts R O D) (related : r
       let long : length (wider.feeds u) ≡ n + length (more.feeds t) = ap length feeds ∙ length-append (related.feeds a.related) (more.feeds t) in
       parts-first root wider delays object w a' core [] [] [] refl is
       (decides-alike object v w p.events core key (p.world.named ∙ sym own.named) (p.world.version ∙ sym own.version) limit debounce p.agrees p.core_stands)
-      (asked a'.priorities own (backoff ∙ (first ∙ sym begins)) (record {
+      (subst (λ x. AsksStand root wider delays object w [] [] [] x) (sym prioritized) (asked a'.priorities own (backoff ∙ (first ∙ sym begins)) (record {
         root = subst (λ x. root.stands x []) (sym of-root) sources.root;
         related = λ place below.
             stands place [] (either-of (nat_lt place n) (related.stands a.related place []) (more.stands t (place - n) [])
             (λ e. sources.related place (ltb-true place n e))
             (λ e. let above = ltb-false place n e in fresh (place - n) (omega (arith, above, below, long))));
-      }))
+      })))
       unspent
 
 module _ {R S B O D : Type 0} (root : root_source.Ghosts R O D) (related : related_set.Ghosts S O D) (delays : backoff.Ghosts B) (object : resource.Ghosts O D) where

@@ -30,7 +30,7 @@ use Rattle.kube_history.specs.TurnCalls.{with_requests}
 use Rattle.kube_turn.specs.declared.request.ReconcileRequest.{ReconcileRequest}
 use Rattle.kube_turn.specs.Views.{message_of, prioritized_of, same_request}
 use Rattle.kube_core.specs.Images.{event_image, events_image, entry_image, frozen_image}
-use Rattle.kube_core.specs.Pendings.{FirstIs, Parts, ParkedRun, Stands, TakenFrom, handed_in, handed_over, is_idle, without_looks}
+use Rattle.kube_core.specs.Pendings.{FirstIs, Parts, ParkedRun, Stands, TakenFrom, handed_in, is_idle, without_looks}
 use Rattle.kube_core.proofs.Firsts.{find-map}
 use Rattle.kube_core.proofs.QueueImages.{waiting-image, entry-image}
 use Rattle.kube_core.proofs.RunningSteps.{entries-last, handed-filter, handed-last, handed-there, is_there, kept-others, keep-all, length-filter, once-filter, once-more, put-last, put-there, runs-handed}

@@ -1,5 +1,5 @@
 -- What waits and what runs, and what it stands for. K is the type of objects, D that of their dynamic types.
-use Rattle.std.specs.Prelude.{◌≡◌, ◌≤◌, ℕ, Bool, true, false, not, List, [], length, map, Option, None, is_some}
+use Rattle.std.specs.Prelude.{◌≡◌, ◌≤◌, ℕ, Bool, true, false, not, List, [], length, Option, None, is_some}
 use Rattle.std.specs.Option.{option_map}
 use Rattle.std.specs.List.{find, position_from}
 use Rattle.std.specs.Map.{lookup}
@@ -16,7 +16,7 @@ use Rattle.kube_sched.specs.Schedule.{Schedule, Stands as Scheduled, with_take, 
 use Rattle.kube_history.specs.CoreWorld.{CoreWorld}
 use Rattle.kube_history.specs.Running.{RunOnce}
 use Rattle.kube_turn.specs.declared.request.ReconcileRequest.{ReconcileRequest}
-use Rattle.kube_turn.specs.Views.{message_of, running_of, same_request}
+use Rattle.kube_turn.specs.Views.{message_of, same_request}
 use Rattle.kube_core.specs.Images.{events_image}
 
 -- the schedule, the references that run with the objects that were handed over, in no said order, and how many may run

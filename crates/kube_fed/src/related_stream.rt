@@ -1,6 +1,6 @@
 //! Related sources that are fed by a stream.
 
-ghost use Rattle.std.specs.Prelude.{◌≡◌, ◌++◌, ◌∷◌, [], true, false, IfOk, IsErrOf, IsTrue, OnOk, map, None, Ok};
+ghost use Rattle.std.specs.Prelude.{◌≡◌, ◌∷◌, [], true, false, IfOk, IsErrOf, IsTrue, OnOk, map, None, Ok};
 ghost use Rattle.std.specs.Arc.{arc_value};
 ghost use Rattle.kube_meta.specs.Keys.{reference_of, is_named};
 ghost use Rattle.kube_meta.specs.Resources.{resource_type};

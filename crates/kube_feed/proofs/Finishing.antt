@@ -73,7 +73,7 @@ ended-is type_of false at g ok e = go g.action
   where
     go : (a : Option ℕ) → action_requests at (reference_of type_of g.reference) ok a ≡ requests_of_action at (finished_of type_of g) a ++ []
     go None = refl
-    go (Some nanos) = ap (λ reason. record { message = record { reference = reference_of type_of g.reference; reason = reason }; run_at = plus at nanos } ∷ []) (ap retry_of e ∙ retry-is g.outcome)
+    go (Some nanos) = ap (λ reason. record { message = record { reference = reference_of type_of g.reference; reason = reason }; run_at = plus at nanos; priority = 0 } ∷ []) (ap retry_of e ∙ retry-is g.outcome)
 
 pub finish-none : (qs : List (QueueEvent Message)) (closed : Bool) (at : ℕ) → with_requests qs at (finish_requests closed at []) ≡ qs
 finish-none qs true at = append-nil qs

@@ -143,3 +143,17 @@ module _ {R S T U B O D : Type 0} (root : root_source.Ghosts R O D) (related : r
             (λ e. let above = ltb-false place n e in fresh (place - n) (omega (arith, above, below, long))));
       }))
       unspent
+
+  -- and once priorities were set of the asks anew
+  pub added-set : (v w : World O B) (a : Asking R S B) (p : Parts O D) (r : R) (t : T) (u : U) (b : Asking R U B) (a' : Asking R U B) (priorities : List (Option ℕ)) (start : B) → PartsStand root related delays object v [] a p
+      → r ≡ a.root → start ≡ a.kept.pause.backoff → a' ≡ record b { priorities = priorities } → b.root ≡ r → b.related ≡ u → b.is_spent ≡ false
+      → wider.feeds u ≡ related.feeds a.related ++ more.feeds t
+      → ((place : ℕ) (own : List (Dated O)) → Either (nat_lt place (length (related.feeds a.related))) (related.stands a.related place own) (more.stands t (place - length (related.feeds a.related)) own) → wider.stands u place own)
+      → ((place : ℕ) → place < length (more.feeds t) → more.stands t place [])
+      → IsWorldOfAsks root wider delays object w a' → w.backoff ≡ v.backoff → w.limit ≡ v.limit → w.debounce ≡ v.debounce
+      → ((ps : List (Option ℕ)) → IsWorldOf w (root.kind r) object.meta_of (root.feed r) (wider.feeds u) ps delays.delay delays.delayed delays.restarted → w.backoff ≡ start
+      → SourcesStand (root.stands r) (wider.stands u) (length (wider.feeds u)) [] → AsksStand root wider delays object w [] [] [] b)
+      → PartsStand root wider delays object w [] a' p
+  added-set v w a p r t u b a' priorities start k of-root begins set same-root same-related unspent feeds stands fresh is backoff limit debounce asked =
+      added v w a p r t u a' start k of-root begins (ap (λ (z : Asking R U B). z.root) set ∙ same-root) (ap (λ (z : Asking R U B). z.related) set ∙ same-related) (ap (λ (z : Asking R U B). z.is_spent) set ∙ unspent)
+      feeds stands fresh is backoff limit debounce (λ ps own was stand. subst (AsksStand root wider delays object w [] [] []) (sym set) (asked ps own was stand))

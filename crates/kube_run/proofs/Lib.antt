@@ -9,6 +9,7 @@ pub mod Policies
 pub mod Polled
 pub mod First
 pub mod Plays
+pub mod Prioritized
 pub mod Ended
 pub mod Broken
 pub mod Words

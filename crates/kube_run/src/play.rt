@@ -77,16 +77,16 @@ fn controller(
     prioritized(controller.with_related(alloc, sources), priorities)
 }
 
-/// The same, where the sources request with these priorities, the root first.
-fn prioritized(
-    controller: ScriptController,
+/// The same, where the sources request with these priorities, the root first. It must not have run yet.
+fn prioritized<R: RootSource, S: RelatedSet<R::Object>, B: Backoff>(
+    controller: Controller<R, S, B>,
     priorities: List<u32>,
-) -> Result<ScriptController, NoMemory>
+) -> Result<Controller<R, S, B>, NoMemory>
     requires places { length priorities < 2 ^ 32 }
-    requires sources { length priorities ≡ length (⟦<ScriptSources as RelatedSet<ScriptObject>>⟧.feeds controller.asks.related) + 1 }
+    requires sources { length priorities ≡ length (S.feeds controller.asks.related) + 1 }
     requires unset { controller.asks.priorities ≡ [] }
-    ensures stands { (w : World ObjectData ScriptBackoff) → StandsFor ⟦<WatchRoot<TestMode<ScriptObject>> as RootSource>⟧ ⟦<ScriptSources as RelatedSet<ScriptObject>>⟧ ⟦<ScriptBackoff as Backoff>⟧ ⟦<ScriptObject as Resource>⟧ w [] controller
-        → IfOk result (λ c. StandsFor ⟦<WatchRoot<TestMode<ScriptObject>> as RootSource>⟧ ⟦<ScriptSources as RelatedSet<ScriptObject>>⟧ ⟦<ScriptBackoff as Backoff>⟧ ⟦<ScriptObject as Resource>⟧ (record w { priorities = map (λ p. Some p) priorities }) [] c) }
+    ensures stands { (w : World R.Object B) → StandsFor R.RootSource S.RelatedSet B.Backoff R.Object.Resource w [] controller
+        → IfOk result (λ c. StandsFor R.RootSource S.RelatedSet B.Backoff R.Object.Resource (record w { priorities = map (λ p. Some p) priorities }) [] c) }
     ensures asks { IfOk result (λ c. (c.asks.root ≡ controller.asks.root) × (c.asks.related ≡ controller.asks.related)) }
 {
     let mut controller = controller;

@@ -3,17 +3,26 @@
 mod future_hash_map;
 mod many;
 mod runner;
-mod waiting;
 
-use crate::plain::{Message, Plain};
 use kube_meta::{Moment, Next, NoMemory};
-use kube_sched::{Due, Requests, ScheduleRequest, Scheduled, Scheduler, debounced_scheduler, scheduler};
+use kube_sched::{
+    Due, Requests, ScheduleRequest, Scheduled, Scheduler, debounced_scheduler, scheduler,
+};
 use std::alloc::Global;
 use std::panic::Expect;
 use std::process::Abort;
 use std::test::Fail;
 
 const SECOND: u64 = 1_000_000_000;
+
+/// A message that is equal to those of its key.
+#[derive(Clone, Copy, Debug)]
+#[derive_where(PartialEq, Eq, Hash)]
+struct Message {
+    key: u8,
+    #[derive_where(skip(EqHashOrd, Hash))]
+    tag: u64,
+}
 
 fn request(key: u8, tag: u64, run_at: u64) -> ScheduleRequest<Message> {
     with_priority(key, tag, run_at, 0)
@@ -24,14 +33,6 @@ fn with_priority(key: u8, tag: u64, run_at: u64, priority: u32) -> ScheduleReque
         message: Message { key, tag },
         run_at: Moment(run_at),
         priority,
-    }
-}
-
-/// The tag of a message that was taken, and its priority.
-fn tag_of(due: Option<&Due<Message>>) -> Option<(u64, u32)> {
-    match due {
-        Some(due) => Some((due.message.tag, due.priority)),
-        None => None,
     }
 }
 
@@ -189,130 +190,93 @@ fn reserved_places_are_used(rt: HostRuntime) -> Result<(), Fail> {
     Ok(())
 }
 
-/// The next of numbers that look like chance.
-fn next_number(state: &mut u64) -> u64 {
-    *state = state
-        .wrapping_mul(6_364_136_223_846_793_005)
-        .wrapping_add(1_442_695_040_888_963_407);
-    *state >> 33
+/// A key, a tag, the moment for which a request asks, and its priority.
+const ASKED: [(u8, u64, u64, u32); 8] = [
+    (1, 10, 3, 0),
+    (2, 20, 2, 0),
+    (3, 30, 2, 5),
+    (4, 40, 1, 5),
+    (5, 50, 0, 0),
+    (1, 11, 4, 1),
+    (2, 21, 9, 7),
+    (6, 60, 10, 9),
+];
+
+/// The scheduler of these requests, which come at once, as it is at moment 9.
+fn asked(rt: &impl Abort, alloc: Global) -> Scheduler<Message> {
+    let mut scheduler = Scheduler::new(alloc, 0);
+    for (key, tag, run_at, priority) in ASKED {
+        scheduler
+            .schedule(alloc, with_priority(key, tag, run_at, priority), Moment(0))
+            .expect(rt, "memory");
+    }
+    scheduler.settle(Moment(9));
+    scheduler
 }
 
-/// A moment of a request: mostly near now, now and then the greatest.
-fn any_run_at(state: &mut u64, now: u64) -> u64 {
-    let number = next_number(state);
-    if number % 50 == 0 {
-        u64::MAX
-    } else {
-        now.saturating_sub(5).saturating_add(number % 40)
+/// The tag of a message that is given, and its priority.
+fn tag_of(due: Option<&Due<Message>>) -> Option<(u64, u32)> {
+    match due {
+        Some(due) => Some((due.message.tag, due.priority)),
+        None => None,
     }
 }
 
-/// What was taken of each: a tag and a priority.
-type Both = (Option<(u64, u32)>, Option<(u64, u32)>);
-
-/// The first messages that wait in both and have at least this key, which are taken. Now and then a look finds it first, and
-/// what it put aside is let back.
-fn take_both(
+/// Takes messages whose keys are at least this, each as it is to be.
+fn check_taken(
     rt: &impl Abort,
-    key: u8,
-    looks: bool,
     scheduler: &mut Scheduler<Message>,
-    plain: &mut Plain,
-) -> Both {
-    let passes = |message: &Message| message.key >= key;
-    if !looks {
-        return (
-            tag_of(scheduler.take_first(passes).as_ref()),
-            plain.take(key),
-        );
+    least: u8,
+    wanted: &[Option<(u64, u32)>],
+) {
+    for wanted in wanted {
+        let due = scheduler.take_first(|message: &Message| message.key >= least);
+        assert_eq!(rt; tag_of(due.as_ref()), *wanted);
     }
-    let found = scheduler.look(&passes);
-    assert_eq!(rt; scheduler.head().is_some(), found);
-    let due = scheduler.take_head();
-    for other in 0..key {
-        scheduler.let_back(&Message { key: other, tag: 0 });
-    }
-    (tag_of(due.as_ref()), plain.take(key))
-}
-
-/// One step on both: a request, a settle or a take. What was taken by each.
-fn take_step(
-    rt: &impl Abort,
-    alloc: Global,
-    state: &mut u64,
-    now: u64,
-    scheduler: &mut Scheduler<Message>,
-    plain: &mut Plain,
-) -> Both {
-    let tag = next_number(state);
-    let key = (next_number(state) % 6) as u8;
-    let priority = (next_number(state) % 4) as u32;
-    let run_at = any_run_at(state, now);
-    match next_number(state) % 8 {
-        0 => {
-            scheduler.settle(Moment(now));
-            plain.settle(now);
-        }
-        1 => return take_both(rt, key, tag % 2 == 0, scheduler, plain),
-        2 if scheduler.spare() > 0 => {
-            scheduler.schedule_reserved(with_priority(key, tag, run_at, priority), Moment(now));
-            plain.request(rt, Message { key, tag }, run_at, priority, now);
-        }
-        3 => scheduler.reserve(alloc, 1).expect(rt, "memory"),
-        _ => {
-            scheduler
-                .schedule(
-                    alloc,
-                    with_priority(key, tag, run_at, priority),
-                    Moment(now),
-                )
-                .expect(rt, "memory");
-            plain.request(rt, Message { key, tag }, run_at, priority, now);
-        }
-    }
-    (None, None)
-}
-
-/// Both hold the same.
-fn compare(rt: &impl Abort, scheduler: &Scheduler<Message>, plain: &Plain) {
-    assert_eq!(rt; scheduler.len(), plain.len());
-    assert_eq!(rt; scheduler.waiting_len(), plain.waiting_len());
-    for key in 0..6u8 {
-        let waits = scheduler.contains_pending(&Message { key, tag: 0 });
-        assert_eq!(rt; waits, plain.is_waiting(key));
-    }
-}
-
-/// Two thousand steps on both. How many messages were taken.
-fn step_on_both(
-    rt: &impl Abort,
-    alloc: Global,
-    scheduler: &mut Scheduler<Message>,
-    plain: &mut Plain,
-) -> u32 {
-    let mut state = 11;
-    let mut now = 100u64;
-    let mut given = 0u32;
-    for _step in 0..2000 {
-        now = now
-            .saturating_add(next_number(&mut state) % 7)
-            .saturating_sub(1);
-        let (mine, wanted) = take_step(rt, alloc, &mut state, now, scheduler, plain);
-        assert_eq!(rt; mine, wanted);
-        if mine.is_some() {
-            given = given.saturating_add(1);
-        }
-        compare(rt, scheduler, plain);
-    }
-    given
 }
 
 #[test]
-fn two_thousand_steps_are_as_defined(rt: HostRuntime) -> Result<(), Fail> {
-    let mut scheduler = Scheduler::new(rt.alloc(), 3);
-    let mut plain = Plain::new(rt.alloc(), 3);
-    let given = step_on_both(&rt, rt.alloc(), &mut scheduler, &mut plain);
-    assert!(rt; given > 100, "given {given}");
+fn the_greatest_priority_comes_first(rt: HostRuntime) -> Result<(), Fail> {
+    let mut scheduler = asked(&rt, rt.alloc());
+    check_taken(&rt, &mut scheduler, 3, &[Some((40, 5))]);
+    let wanted = [
+        Some((20, 7)),
+        Some((30, 5)),
+        Some((10, 1)),
+        Some((50, 0)),
+        None,
+    ];
+    check_taken(&rt, &mut scheduler, 0, &wanted);
+    scheduler.settle(Moment(10));
+    check_taken(&rt, &mut scheduler, 0, &[Some((60, 9)), None]);
+    Ok(())
+}
+
+/// Takes the head of messages whose keys are at least this, as it is to be.
+fn check_head(
+    rt: &impl Abort,
+    scheduler: &mut Scheduler<Message>,
+    least: u8,
+    wanted: Option<(u64, u32)>,
+) {
+    let passes = |message: &Message| message.key >= least;
+    assert_eq!(rt; scheduler.look(&passes), wanted.is_some());
+    assert_eq!(rt; scheduler.head().is_some(), wanted.is_some());
+    let due = scheduler.take_head();
+    assert_eq!(rt; tag_of(due.as_ref()), wanted);
+}
+
+#[test]
+fn what_a_look_put_aside_comes_back_in_its_place(rt: HostRuntime) -> Result<(), Fail> {
+    let mut scheduler = asked(&rt, rt.alloc());
+    check_head(&rt, &mut scheduler, 5, Some((50, 0)));
+    check_head(&rt, &mut scheduler, 0, None);
+    scheduler.let_back(&Message { key: 3, tag: 0 });
+    scheduler.let_back(&Message { key: 1, tag: 0 });
+    scheduler.drop_stale(rt.alloc());
+    let wanted = [Some((30, 5)), Some((10, 1)), None];
+    check_taken(&rt, &mut scheduler, 0, &wanted);
+    assert_eq!(rt; scheduler.waiting_len(), 2);
     Ok(())
 }
 

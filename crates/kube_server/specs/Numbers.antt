@@ -1,4 +1,5 @@
 -- Numbers, tokens and selectors as texts. (Kubernetes API concepts: resource versions, continue tokens, field selectors.)
+use Rattle.kube_meta.specs.Numbers.{number_at}
 use Rattle.std.specs.Prelude.{ℕ, ◌==◌, ◌||◌, Bool, true, List, ◌∷◌, ◌++◌, drop, Option, Some, None, codes, decimal, if◌then◌else◌, nat_eq}
 use Rattle.std.specs.List.{list_any, starts_with, before_first, after_first}
 use Rattle.kube_meta.specs.declared.metadata.ObjectMeta.{ObjectMeta}

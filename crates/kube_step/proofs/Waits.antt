@@ -3,9 +3,9 @@ use Rattle.std.proofs.Common.{◌≡◌, ℕ, ◌+◌, ◌≤◌, Bool, true, fa
 use Rattle.std.specs.List.{list_any}
 use Rattle.kube_meta.specs.ReferenceLaws.{same_reference_equiv}
 use Rattle.kube_model.specs.Store.{is_ready}
-use Rattle.kube_model.specs.History.{Message, same_message, Taken, exchanges_of}
+use Rattle.kube_model.specs.History.{Message, Prioritized, same_message, Taken, exchanges_of}
 use Rattle.kube_model.specs.Queue.{Frozen, Took as QueueTook, waiting}
-use Rattle.kube_model.specs.Takes.{Running, runs, candidates, has_room}
+use Rattle.kube_model.specs.Takes.{Running, runs, candidates, has_room, prioritized}
 use Rattle.kube_history.specs.CoreWorld.{CoreWorld}
 use Rattle.kube_history.specs.CoreEvents.{CoreEvent, Took, queue_of, running_of, answers_in, was_shut, next_taken, next_candidate, first_of, take_of}
 use Rattle.kube_history.specs.InTurn.{without}
@@ -30,9 +30,12 @@ one-less m (z ∷ ws) e = go (same_message m z.entry.message) e (one-less m ws) 
     go true k rest s = omega (arith, s)
     go false k rest s = let l = rest k in omega (arith, l)
 
+abbrev message_in : Option Prioritized → Option Message
+message_in o = option_map (λ q. q.message) o
+
 module _ {O : Type 0} where
   -- the message of the first candidate waits
-  first-waits : (rs : List (Running O)) (ws : List (Frozen Message)) (m : Message) → option_map (λ z. z.entry.message) (first_of (candidates rs ws)) ≡ Some m → list_any (λ z. same_message m z.entry.message) ws ≡ true
+  first-waits : (rs : List (Running O)) (ws : List (Frozen Message)) (m : Message) → message_in (option_map prioritized (first_of (candidates rs ws))) ≡ Some m → list_any (λ z. same_message m z.entry.message) ws ≡ true
   first-waits rs [] m e = absurd (cc)
   first-waits rs (z ∷ ws) m e = go (runs rs z.entry.message.reference) e (first-waits rs ws m)
     where
@@ -40,8 +43,8 @@ module _ {O : Type 0} where
       or-true true = refl
       or-true false = refl
 
-      go : (b : Bool) → option_map (λ y. y.entry.message) (first_of (cond (not b) (z ∷ candidates rs ws) (candidates rs ws))) ≡ Some m
-          → (option_map (λ y. y.entry.message) (first_of (candidates rs ws)) ≡ Some m → list_any (λ y. same_message m y.entry.message) ws ≡ true)
+      go : (b : Bool) → message_in (option_map prioritized (first_of (cond (not b) (z ∷ candidates rs ws) (candidates rs ws)))) ≡ Some m
+          → (message_in (option_map prioritized (first_of (candidates rs ws))) ≡ Some m → list_any (λ y. same_message m y.entry.message) ws ≡ true)
           → (same_message m z.entry.message || list_any (λ y. same_message m y.entry.message) ws) ≡ true
       go true k rest = ap (λ c. same_message m z.entry.message || c) (rest k) ∙ or-true (same_message m z.entry.message)
       go false k rest =
@@ -57,16 +60,16 @@ module _ {O : Type 0} (core : CoreWorld O) where
   none-some f (Some a) b e = (a, refl, cc)
 
   -- what is taken waited, and shutdown was not asked
-  candidate-of : (es : List (CoreEvent O)) (t : Taken O) → next_taken core es ≡ Some t → (was_shut es ≡ false) × (next_candidate core (queue_of core es) (running_of es) ≡ Some t.message)
+  candidate-of : (es : List (CoreEvent O)) (t : Taken O) → next_taken core es ≡ Some t → (was_shut es ≡ false) × (message_in (next_candidate core (queue_of core es) (running_of es)) ≡ Some t.message)
   candidate-of es t e = go (is_ready (exchanges_of 0 (answers_in es))) (was_shut es) e
     where
       go : (a b : Bool) → (if a && not b then option_map (take_of core es) (next_candidate core (queue_of core es) (running_of es)) else None) ≡ Some t
-          → (b ≡ false) × (next_candidate core (queue_of core es) (running_of es) ≡ Some t.message)
+          → (b ≡ false) × (message_in (next_candidate core (queue_of core es) (running_of es)) ≡ Some t.message)
       go false b k = absurd (cc)
       go true true k = absurd (cc)
       go true false k =
           let p = none-some (take_of core es) (next_candidate core (queue_of core es) (running_of es)) t k in
-          (refl, p.1 ∙ ap (λ (u : Taken O). Some u.message) p.2)
+          (refl, ap message_in p.1 ∙ ap (λ (u : Taken O). Some u.message) p.2)
 
   -- after a take one message less waits
   pub fewer-wait : (es : List (CoreEvent O)) (at : ℕ) (t : Taken O) → Some t ≡ next_taken core es → length (waits_after (es ++ Took at (Some t) ∷ [])) + 1 ≤ length (waits_after es)
@@ -80,7 +83,7 @@ module _ {O : Type 0} (core : CoreWorld O) where
       let l = one-less t.message (waits_after es) there in
       subst (λ ws. length ws + 1 ≤ length (waits_after es)) (sym waits) l
     where
-      first : (b : Bool) → (if b then option_map (λ z. z.entry.message) (first_of (candidates (running_of es) (waits_after es))) else None) ≡ Some t.message → list_any (λ z. same_message t.message z.entry.message) (waits_after es) ≡ true
+      first : (b : Bool) → message_in (if b then option_map prioritized (first_of (candidates (running_of es) (waits_after es))) else None) ≡ Some t.message → list_any (λ z. same_message t.message z.entry.message) (waits_after es) ≡ true
       first true k = first-waits (running_of es) (waits_after es) t.message k
       first false k = absurd (cc)
 

@@ -1,6 +1,5 @@
 //! Futures by key (kube-runtime's tests of `future_hash_map`).
 
-use super::waiting::Waiting;
 use futures::channel::oneshot;
 use futures::test::MockTask;
 use kube_meta::Polled;
@@ -10,20 +9,11 @@ use std::panic::Expect;
 use std::process::Abort;
 use std::test::Fail;
 
-/// What a poll of values gave: a value, or how it ended.
-fn shown(answer: Polled<Option<u32>>) -> u32 {
-    match answer {
-        Polled::Ready(Some(value)) => value,
-        Polled::Ready(None) => EMPTY,
-        Polled::NotReady => NOT_READY,
-    }
-}
-
 const EMPTY: u32 = 1000;
 
 const NOT_READY: u32 = 1001;
 
-/// The same of what came through channels.
+/// What a poll of channels gave: a value, or how it ended.
 fn received(answer: Polled<Option<Result<u32, oneshot::Canceled>>>) -> u32 {
     match answer {
         Polled::Ready(Some(Ok(value))) => value,
@@ -79,63 +69,5 @@ fn futures_end_one_after_another(rt: HostRuntime) -> Result<(), Fail> {
     insert_received(&rt, alloc, &mut map, 0, receive0);
     insert_received(&rt, alloc, &mut map, 1, receive1);
     receive_each(&rt, &task, &mut map, send0, send1);
-    Ok(())
-}
-
-/// Polls a map, each time with what it answers.
-fn poll_each(
-    rt: &impl Abort,
-    task: &MockTask,
-    map: &mut FutureHashMap<u8, Waiting>,
-    wanted: &[u32],
-) {
-    for wanted in wanted {
-        assert_eq!(rt; shown(task.enter(|cx| map.poll_next(cx))), *wanted);
-    }
-}
-
-/// Whether a future is put at a key that has none.
-fn is_inserted(
-    rt: &impl Abort,
-    alloc: Global,
-    map: &mut FutureHashMap<u8, Waiting>,
-    key: u8,
-    value: u32,
-    polls: u32,
-) -> bool {
-    let old = map
-        .insert(alloc, key, Waiting::new(value, polls))
-        .expect(rt, "memory");
-    old.is_none()
-}
-
-#[test]
-fn the_first_ready_one_in_order_of_insertion(rt: HostRuntime) -> Result<(), Fail> {
-    let alloc = rt.alloc();
-    let task = MockTask::new(&rt).expect(&rt, "memory");
-    let mut map = FutureHashMap::new(alloc);
-    for (key, value, polls) in [(7, 1, 2), (3, 2, 1), (5, 3, 1)] {
-        assert!(rt; is_inserted(&rt, alloc, &mut map, key, value, polls));
-    }
-    poll_each(&rt, &task, &mut map, &[NOT_READY, 2, 1, 3, EMPTY]);
-    Ok(())
-}
-
-/// Puts a new future at a key that has one.
-fn insert_anew(rt: &impl Abort, alloc: Global, map: &mut FutureHashMap<u8, Waiting>) {
-    assert!(rt; is_inserted(rt, alloc, map, 1, 1, 0));
-    assert!(rt; is_inserted(rt, alloc, map, 2, 2, 0));
-    assert!(rt; !is_inserted(rt, alloc, map, 1, 3, 0));
-    assert_eq!(rt; map.len(), 2);
-    assert!(rt; map.contains_key(&1));
-    assert!(rt; !map.contains_key(&3));
-}
-
-#[test]
-fn a_new_future_takes_the_place_of_the_old(rt: HostRuntime) -> Result<(), Fail> {
-    let task = MockTask::new(&rt).expect(&rt, "memory");
-    let mut map = FutureHashMap::new(rt.alloc());
-    insert_anew(&rt, rt.alloc(), &mut map);
-    poll_each(&rt, &task, &mut map, &[3, 2, EMPTY]);
     Ok(())
 }

@@ -1,6 +1,6 @@
 use Rattle.kube_turn.specs.Views.{same_request}
 use Rattle.kube_sched.specs.Schedule.{is_parked}
-use Rattle.std.proofs.Common.{◌≡◌, false, sym, ap, ◌∙◌}
+use Rattle.std.proofs.Common.{false, sym, ap, ◌∙◌}
 use Rattle.std.specs.Fn.{FnReturnsAt}
 use Rattle.kube_core.specs.Pendings.{is_idle}
 use Rattle.kube_core.proofs.Firsts.{first-idle}

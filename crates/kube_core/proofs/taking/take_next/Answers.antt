@@ -1,4 +1,4 @@
-use Rattle.std.proofs.Common.{None, Some, [], ◌++◌, append-nil, option_map, sym, ap, subst, ◌∙◌}
+use Rattle.std.proofs.Common.{None, Some, append-nil, option_map, sym, ap, subst, ◌∙◌}
 use Rattle.std.specs.Arc.{arc_value}
 use Rattle.std.proofs.lemmas.Result.{IfOk-weaker, err_from_is_err_and, on_err_weaker}
 use Rattle.kube_model.proofs.Results.{on_err}

@@ -1,4 +1,4 @@
-use Rattle.std.proofs.Common.{◌≡◌, ◌≤◌, length, true, false, Some, option_copied, option_map, sym, ap, subst, ◌∙◌}
+use Rattle.std.proofs.Common.{◌≡◌, ◌≤◌, length, true, Some, option_copied, option_map, sym, ap, subst, ◌∙◌}
 use Rattle.kube_model.proofs.Results.{on_err}
 use Rattle.kube_model.specs.History.{Message, Prioritized}
 use Rattle.kube_model.specs.Takes.{has_room}

@@ -1,6 +1,5 @@
-use Rattle.std.proofs.Common.{◌≡◌, ◌≤◌, ◌+◌, ◌∷◌, [], ◌++◌, length, true, false, Some, None, IfSome, option_copied, option_map, is_some, refl, sym, ap, subst, ◌∙◌, arith}
+use Rattle.std.proofs.Common.{◌≡◌, ◌≤◌, length, true, Some, None, option_copied, option_map, sym, ap, subst, ◌∙◌}
 use Rattle.std.specs.Arc.{arc_value}
-use Rattle.std.proofs.lemmas.Result.{err_from_is_err_and}
 use Rattle.kube_model.proofs.Results.{on_err}
 use Rattle.kube_model.specs.Store.{found}
 use Rattle.kube_model.specs.Takes.{has_room}

@@ -1,9 +1,9 @@
-use Rattle.std.proofs.Common.{◌≡◌, ◌≤◌, length, refl, sym, ap, subst, ◌∙◌}
+use Rattle.std.proofs.Common.{◌≤◌, length, refl, sym, ap, subst, ◌∙◌}
 use Rattle.std.proofs.lemmas.Result.{on_err_weaker, on_ok_weaker}
 use Rattle.kube_sched.specs.Schedule.{Schedule, Stands as Scheduled, with_request}
 use Rattle.kube_turn.specs.declared.request.ReconcileRequest.{ReconcileRequest}
 use Rattle.kube_turn.specs.Views.{same_request}
-use Rattle.kube_core.specs.Pendings.{Parts, Stands, without_looks}
+use Rattle.kube_core.specs.Pendings.{Stands, without_looks}
 use Rattle.kube_core.proofs.PendingSteps.{parked-same, requested, seen, spare-kept, unseen}
 use Rattle.kube_core.proofs.pending.Pending.request.Goals as goal
 

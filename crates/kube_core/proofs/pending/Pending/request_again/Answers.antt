@@ -1,4 +1,4 @@
-use Rattle.std.proofs.Common.{◌≡◌, ◌≤◌, ◌+◌, length, refl, sym, ap, subst, ◌∙◌, arith}
+use Rattle.std.proofs.Common.{length, refl, sym, ap, subst, arith}
 use Rattle.kube_sched.specs.Schedule.{Stands as Scheduled, with_request}
 use Rattle.kube_turn.specs.Views.{same_request}
 use Rattle.kube_core.specs.Pendings.{Parts, Stands}

@@ -1,5 +1,5 @@
 use Rattle.kube_turn.specs.Views.{same_request}
-use Rattle.std.proofs.Common.{◌≡◌, ◌≤◌, length, sym, ap, ◌∙◌, arith}
+use Rattle.std.proofs.Common.{ap, ◌∙◌, arith}
 use Rattle.std.proofs.lemmas.Result.{on_err_weaker}
 use Rattle.kube_sched.specs.Schedule.{Schedule, is_parked}
 use Rattle.kube_turn.specs.declared.request.ReconcileRequest.{ReconcileRequest}

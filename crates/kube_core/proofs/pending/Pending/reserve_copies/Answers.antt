@@ -1,4 +1,4 @@
-use Rattle.std.proofs.Common.{◌≡◌, ◌≤◌, ◌+◌, length, ap, arith}
+use Rattle.std.proofs.Common.{length, ap, arith}
 use Rattle.kube_core.specs.Pendings.{Parts}
 use Rattle.kube_core.proofs.pending.Pending.reserve_copies.Goals as goal
 

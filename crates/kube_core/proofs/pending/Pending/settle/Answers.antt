@@ -1,4 +1,4 @@
-use Rattle.std.proofs.Common.{◌≡◌, ◌≤◌, length, refl, sym, subst}
+use Rattle.std.proofs.Common.{◌≤◌, length, refl, sym, subst}
 use Rattle.kube_core.specs.Pendings.{Stands}
 use Rattle.kube_core.proofs.PendingSteps.{parked-same, seen, settled, unseen}
 use Rattle.kube_core.proofs.pending.Pending.settle.Goals as goal

@@ -1,10 +1,7 @@
-use Rattle.std.proofs.Common.{◌≡◌, ◌≤◌, List, length, refl, sym, subst, ap, ap₂, ◌∙◌, arith}
+use Rattle.std.proofs.Common.{List, length, refl, sym, subst, ap, ap₂, ◌∙◌, arith}
 use Rattle.std.specs.declared.sync.Arc.{Arc}
 use Rattle.std.specs.declared.alloc.Global.{Global}
-use Rattle.indexmap.specs.IndexMap.{insert_entry}
-use Rattle.kube_meta.specs.Keys.{reference_of}
 use Rattle.kube_meta.specs.declared.object_ref.ObjectRef.{ObjectRef}
-use Rattle.kube_meta.specs.Reference.{same_reference}
 use Rattle.kube_model.proofs.Results.{on_err}
 use Rattle.kube_sched.specs.Schedule.{Schedule, is_parked}
 use Rattle.kube_sched.proofs.Steps.{stands-alike}

@@ -1,4 +1,4 @@
-use Rattle.std.proofs.Common.{◌≡◌, ◌≤◌, ◌+◌, ◌∷◌, [], ◌++◌, List, length, true, false, Some, None, IfSome, option_copied, option_map, is_some, refl, sym, ap, subst, ◌∙◌, arith}
+use Rattle.std.proofs.Common.{◌≡◌, ◌≤◌, ◌∷◌, [], ◌++◌, List, length, true, Some, None, option_copied, option_map, refl, sym, ap, subst, ◌∙◌, arith}
 use Rattle.std.specs.Arc.{arc_value}
 use Rattle.std.specs.declared.sync.Arc.{Arc}
 use Rattle.std.specs.declared.alloc.Global.{Global}
@@ -9,7 +9,7 @@ use Rattle.kube_meta.specs.Reference.{same_reference}
 use Rattle.kube_model.proofs.Results.{on_err}
 use Rattle.kube_model.specs.Takes.{has_room}
 use Rattle.kube_sched.specs.declared.held.Due.{Due}
-use Rattle.kube_sched.specs.Schedule.{Schedule, Stands as Scheduled, with_take, is_parked}
+use Rattle.kube_sched.specs.Schedule.{Schedule, with_take, is_parked}
 use Rattle.kube_sched.proofs.Steps.{stands-alike}
 use Rattle.kube_history.specs.CoreEvents.{next_candidate}
 use Rattle.kube_turn.specs.declared.request.ReconcileRequest.{ReconcileRequest}

@@ -1,11 +1,9 @@
-use Rattle.std.proofs.Common.{◌≡◌, ◌≤◌, ◌+◌, length, true, false, not, Some, None, is_some, option_map, if◌then◌else◌, refl, sym, subst, ap, ◌∙◌, arith}
+use Rattle.std.proofs.Common.{◌+◌, length, not, is_some, if◌then◌else◌, refl, sym, subst, ap, ◌∙◌, arith}
 use Rattle.std.specs.List.{filter}
 use Rattle.std.proofs.lemmas.Map.Made.{lookup_key_passes}
-use Rattle.std.specs.Map.{lookup}
 use Rattle.kube_meta.specs.Keys.{reference_of}
 use Rattle.kube_meta.specs.Reference.{same_reference}
 use Rattle.kube_reflect.proofs.Putting.{same-references}
-use Rattle.kube_sched.specs.Schedule.{Schedule}
 use Rattle.kube_turn.specs.declared.request.ReconcileRequest.{ReconcileRequest}
 use Rattle.kube_core.specs.Pendings.{IsKept, Parts, Stands, without_looks}
 use Rattle.kube_core.proofs.PendingSteps.{handed-less, not-running, parked-less, runs-there, seen, stopped, unseen}

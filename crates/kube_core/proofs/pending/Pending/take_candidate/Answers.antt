@@ -1,4 +1,4 @@
-use Rattle.std.proofs.Common.{◌≡◌, ◌≤◌, ◌+◌, ◌∷◌, [], ◌++◌, length, true, false, Some, None, IfSome, option_copied, option_map, is_some, refl, sym, ap, subst, ◌∙◌, arith}
+use Rattle.std.proofs.Common.{◌≡◌, ◌≤◌, length, true, Some, option_map, refl, sym, ap, subst, ◌∙◌}
 use Rattle.kube_model.specs.Takes.{has_room}
 use Rattle.kube_sched.specs.declared.held.Due.{Due}
 use Rattle.kube_sched.specs.Schedule.{Schedule, Stands as Scheduled, with_take}

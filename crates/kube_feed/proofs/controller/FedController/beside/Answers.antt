@@ -1,10 +1,8 @@
-use Rattle.std.proofs.Common.{◌-◌, nat_lt, [], ◌++◌, length, sym, ap, subst, ◌∙◌}
-use Rattle.kube_asks.specs.Asking.{Asking}
+use Rattle.std.proofs.Common.{◌-◌, nat_lt, [], ◌++◌, length, sym, ap, subst}
 use Rattle.kube_asks.specs.Places.{Either}
-use Rattle.kube_step.specs.Controllers.{AsksStand}
 use Rattle.kube_control.proofs.Histories.{none-yet}
 use Rattle.kube_feed.specs.Fed.{StandsFor}
-use Rattle.kube_feed.proofs.Firsts.{added}
+use Rattle.kube_feed.proofs.Firsts.{added-set}
 use Rattle.kube_feed.proofs.controller.FedController.beside.Goals as goal
 
 pub returns-clause-stands : goal.returns-clause-stands
@@ -17,13 +15,12 @@ returns-clause-stands g c first w was fresh is backoff limit debounce =
     let taken = c.into_sources-root.ensures in
     let same = taken.related in
     let made = c.new-asks.ensures in
-    let priorities = c.set_priorities.ensures in
     record {
-      parts = added g.R.RootSource S T _ g.B.Backoff g.R.Object.Resource first w inside.asks inside.parts _ set _ c.set_priorities.new.self _ s.parts
-          taken.root taken.backoff (ap (λ (a : Asking _ _ _). a.root) priorities ∙ made.root) (ap (λ (a : Asking _ _ _). a.related) priorities ∙ made.related) (ap (λ (a : Asking _ _ _). a.is_spent) priorities ∙ made.unspent)
+      parts = added-set g.R.RootSource S T _ g.B.Backoff g.R.Object.Resource first w inside.asks inside.parts _ set _ c.new-asks.result c.set_priorities.new.self _ _ s.parts
+          taken.root taken.backoff c.set_priorities.ensures made.root made.related made.unspent
           (ap (λ z. S.feeds z ++ T.feeds set) same)
           (λ place own x. subst (λ z. Either (nat_lt place (length (S.feeds z))) (S.stands z place own) (T.stands set (place - length (S.feeds z)) own)) (sym same) x)
-          fresh is backoff limit debounce (λ ps own begins stand. subst (λ (a : Asking _ _ _). AsksStand g.R.RootSource _ g.B.Backoff g.R.Object.Resource w [] [] [] a) (sym priorities) (made.stands w ps own begins stand));
+          fresh is backoff limit debounce (made.stands w);
       last = s.last;
       ended = s.ended;
       of_trace = none-yet w;

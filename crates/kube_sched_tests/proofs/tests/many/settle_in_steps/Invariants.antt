@@ -1,4 +1,0 @@
-use Rattle.kube_sched_tests.proofs.tests.many.settle_in_steps.Given as goal
-
-abbrev pub ghosts-settle_counted : goal.ghosts-settle_counted
-ghosts-settle_counted g a = record { name = a.blank.name; parts = a.blank.parts }
