@@ -681,7 +681,7 @@ fn faults_as_said(rt: &impl Abort, alloc: Global, table: &str) -> Result<u32, Fa
 #[test]
 fn each_fault_has_its_place(rt: HostRuntime) -> Result<(), Fail> {
     let alloc = rt.alloc();
-    assert_eq!(rt; faults_as_said(&rt, alloc, FAULTS)?, 593);
+    assert_eq!(rt; faults_as_said(&rt, alloc, FAULTS)?, 600);
     for (text, wanted) in [("{", "syntax"), ("[]", "shape "), ("{}", "shape /kind")] {
         assert_eq!(rt; fault_of(alloc, text.as_bytes())?.as_str(), wanted);
     }
